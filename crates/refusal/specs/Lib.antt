@@ -1,0 +1,3 @@
+-- What the numbered refusals mean.
+pub mod Tests
+pub mod Refusals
