@@ -1,0 +1,120 @@
+-- Four bytes and their number: reading what was written gives the number, writing what was read gives the bytes, and what a part of a
+-- list holds. Assumes nothing.
+use mathlib.Core.Path.{_≡_, refl, sym, ap, _∙_}
+use mathlib.Core.List.{List, [], _∷_}
+use mathlib.Core.Bool.{true, false}
+use Prim.Native.Nat.{ℕ, _+_, _-_, _*_, _/_, _%_, _<_, _≤_}
+use native.Mathlib.Omega.{arith}
+use native.Mathlib.Nat.{add-zero}
+use lib.IntN.{ℤ, pos, negsuc}
+use lib.Signed.{ltZ}
+use lib.ListN.{length, getD, set, take, drop, length-set}
+use lib.Seq.{getD-set-same, getD-set-other, set-getD, getD-take, getD-drop}
+use mir.Syntax.{w32}
+use mir.Val.{toZ, ofZ, Fits, SFits}
+use mir.Facts.{toZ-ofZ, ofZ-toZ, fits-ofZ, sfits-lit, toZ-pos}
+use Rattle.grid.specs.Number.{joined, numberAt, first, second, third, fourth, putAt}
+use Rattle.grid.proofs.Signed.{rd, off, lt-yes, lt-no}
+
+-- The four bytes of a number, joined, are the number: for every i32.
+pub join-split : (z : ℤ) → SFits w32 z → toZ w32 (joined (first z) (second z) (third z) (fourth z)) ≡ z
+unfolding first second third fourth
+join-split z h =
+    let f : Fits w32 (ofZ w32 z) = fits-ofZ h in
+    let e : joined (ofZ w32 z / 16777216) (ofZ w32 z / 65536 % 256) (ofZ w32 z / 256 % 256) (ofZ w32 z % 256) ≡ ofZ w32 z = omega arith in
+    ap (toZ w32) e ∙ toZ-ofZ h
+
+-- The bytes of the number that four bytes hold are those bytes: for every four bytes.
+pub split-join : (a b c d : ℕ) → a < 256 → b < 256 → c < 256 → d < 256
+    → let z : ℤ = toZ w32 (joined a b c d) in (first z ≡ a) × (second z ≡ b) × (third z ≡ c) × (fourth z ≡ d)
+unfolding first second third fourth
+split-join a b c d ha hb hc hd =
+    let f : Fits w32 (joined a b c d) = omega arith in
+    rw (ofZ-toZ f) (omega arith)
+
+-- Each of a number's four bytes is a byte.
+pub first-byte : (z : ℤ) → SFits w32 z → first z < 256
+unfolding first
+first-byte z h = omega (arith, fits-ofZ h)
+
+pub second-byte : (z : ℤ) → second z < 256
+unfolding second
+second-byte z = omega arith
+
+pub third-byte : (z : ℤ) → third z < 256
+unfolding third
+third-byte z = omega arith
+
+pub fourth-byte : (z : ℤ) → fourth z < 256
+unfolding fourth
+fourth-byte z = omega arith
+
+-- What stands at each of four places in a row after they were set.
+module _ (l : List ℕ) (k a b c d : ℕ) (h : k + 4 ≤ length l) where
+  abbrev l1 : List ℕ
+  l1 = set l k a
+
+  abbrev l2 : List ℕ
+  l2 = set l1 (k + 1) b
+
+  abbrev l3 : List ℕ
+  l3 = set l2 (k + 2) c
+
+  abbrev four : List ℕ
+  four = set l3 (k + 3) d
+
+  pub four-3 : getD four (k + 3) 0 ≡ d
+  four-3 = getD-set-same l3 (k + 3) d 0 (simp length-set (omega arith))
+
+  pub four-2 : getD four (k + 2) 0 ≡ c
+  four-2 = getD-set-other l3 (k + 3) (k + 2) d 0 (λ e. omega arith) ∙ getD-set-same l2 (k + 2) c 0 (simp length-set (omega arith))
+
+  pub four-1 : getD four (k + 1) 0 ≡ b
+  four-1 =
+      getD-set-other l3 (k + 3) (k + 1) d 0 (λ e. omega arith) ∙ getD-set-other l2 (k + 2) (k + 1) c 0 (λ e. omega arith)
+      ∙ getD-set-same l1 (k + 1) b 0 (simp length-set (omega arith))
+
+  pub four-0 : getD four k 0 ≡ a
+  four-0 =
+      getD-set-other l3 (k + 3) k d 0 (λ e. omega arith) ∙ getD-set-other l2 (k + 2) k c 0 (λ e. omega arith)
+      ∙ getD-set-other l1 (k + 1) k b 0 (λ e. omega arith) ∙ getD-set-same l k a 0 (omega arith)
+
+-- The number read where a number was written is that number.
+pub read-written : (l : List ℕ) (k : ℕ) (z : ℤ) → SFits w32 z → k + 4 ≤ length l → numberAt (putAt l k z) k ≡ z
+unfolding numberAt putAt
+read-written l k z f h =
+    let e : joined (getD (putAt l k z) k 0) (getD (putAt l k z) (k + 1) 0) (getD (putAt l k z) (k + 2) 0) (getD (putAt l k z) (k + 3) 0) ≡ joined (first z) (second z) (third z) (fourth z) =
+    omega (arith, four-0 l k (first z) (second z) (third z) (fourth z) h, four-1 l k (first z) (second z) (third z) (fourth z) h, four-2 l k (first z) (second z) (third z) (fourth z) h, four-3 l k (first z) (second z) (third z) (fourth z) h) in
+    ap (toZ w32) e ∙ join-split z f
+
+-- Writing the number that was read leaves the bytes as they were.
+pub written-read : (l : List ℕ) (k : ℕ) → ((j : ℕ) → getD l j 0 < 256) → k + 4 ≤ length l → putAt l k (numberAt l k) ≡ l
+unfolding putAt numberAt
+written-read l k bytes h =
+    let s : _ = split-join (getD l k 0) (getD l (k + 1) 0) (getD l (k + 2) 0) (getD l (k + 3) 0) (bytes k) (bytes (k + 1)) (bytes (k + 2)) (bytes (k + 3)) in
+    rw (s .0, s .1, s .2, s .3) (simp set-getD)
+
+-- The number in a part of a list is the number at the same bytes of the list.
+pub number-part : (l : List ℕ) (k n i : ℕ) → i + 4 ≤ n → numberAt (take n (drop k l)) i ≡ numberAt l (k + i)
+unfolding numberAt
+number-part l k n i h =
+    rw (getD-take n (drop k l) i 0 (omega arith), getD-drop k l i 0, at 1 (omega arith), at 2 (omega arith), at 3 (omega arith)) refl
+  where
+    at : (j : ℕ) → j < 4 → getD (take n (drop k l)) (i + j) 0 ≡ getD l (k + i + j) 0
+    at j hj = getD-take n (drop k l) (i + j) 0 (omega arith) ∙ getD-drop k l (i + j) 0 ∙ ap (λ (m : ℕ). getD l m 0) (omega arith)
+
+-- What the code's complement of a negative number comes to.
+pub flipped : (z : ℤ) → SFits w32 z → ltZ (rd z) (pos 0) ≡ true → toZ w32 (4294967295 - ofZ w32 z) ≡ pos (4294967295 - ofZ w32 z)
+unfolding off
+flipped (pos n) f e = absurd (omega (arith, lt-yes {b = pos 0} f (sfits-lit tt) e))
+flipped (negsuc n) f e = toZ-pos w32 (omega arith)
+
+-- A number that is not negative is its own bits.
+pub plain : (z : ℤ) → SFits w32 z → ltZ (rd z) (pos 0) ≡ false → toZ w32 (ofZ w32 z) ≡ pos (ofZ w32 z)
+unfolding off
+plain (pos n) f e = toZ-ofZ f
+plain (negsuc n) f e = absurd (omega (arith, lt-no {b = pos 0} f (sfits-lit tt) e))
+
+-- Twice the complement is the number.
+pub twice : (n : ℕ) → n < 4294967296 → toZ w32 (4294967295 - (4294967295 - n)) ≡ toZ w32 n
+twice n h = let e : 4294967295 - (4294967295 - n) ≡ n = omega arith in ap (toZ w32) e

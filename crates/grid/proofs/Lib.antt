@@ -1,0 +1,4 @@
+-- The laws of the grid that other crates cite.
+pub mod Signed
+pub mod Bytes
+pub mod Board

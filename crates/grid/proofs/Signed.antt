@@ -1,0 +1,280 @@
+-- Signed numbers as natural ones: `off z` is z + 2 ^ 31, which turns order, equality, differences and maxima of i32 values into facts on ℕ.
+-- Assumes nothing.
+use mathlib.Core.Path.{_≡_, refl, sym, ap, _∙_, subst}
+use mathlib.Core.Bool.{Bool, true, false, not, cond}
+use mathlib.Core.Logic.{⊎-elim}
+use Prim.Native.Nat.{ℕ, zero, suc, _+_, _-_, _*_, _<_, _≤_, max}
+use native.Mathlib.Omega.{arith}
+use lib.IntN.{ℤ, pos, negsuc, negℤ, natAbs, _+ℤ_, _-ℤ_, subℕ, +ℤ-idl}
+use mir.Syntax.{w32}
+use mir.Val.{SFits, toZ, ofZ}
+use mir.Facts.{toZ-ofZ, sfits-lit}
+use lib.Signed.{ltZ, leZ, mag}
+use Rattle.refusal.specs.Tests.{choose}
+use Rattle.grid.specs.Place.{difference, larger, sameNumber}
+use lib.Dec.{T, ltb, leb, eqb, ltb→lt, nltb→le}
+use borrow.Author.Tests.{lt-ltb, le-ltb, le-leb, lt-leb, ltb-true, ltb-false, leb-true, leb-false, eqb-true, eqb-false, eq-eqb, ne-eqb}
+
+-- The number moved up by 2 ^ 31.
+unfoldable pub off : ℤ → ℕ
+off (pos n) = 2147483648 + n
+off (negsuc n) = 2147483647 - n
+
+-- A number that an i32 holds.
+abbrev pub I32 : ℤ → Type 0
+I32 z = mag z < 2147483648
+
+-- Two tests of order that say the same are the same test.
+ltb-as : (t : Bool) (a b c d : ℕ) → ltb a b ≡ t → (a < b → c < d) → (b ≤ a → d ≤ c) → t ≡ ltb c d
+ltb-as true a b c d e f g = sym (lt-ltb c d (f (ltb-true a b e)))
+ltb-as false a b c d e f g = sym (le-ltb c d (g (ltb-false a b e)))
+
+pub ltb-same : (a b c d : ℕ) → (a < b → c < d) → (b ≤ a → d ≤ c) → ltb a b ≡ ltb c d
+ltb-same a b c d f g = ltb-as (ltb a b) a b c d refl f g
+
+leb-as : (t : Bool) (a b c d : ℕ) → leb a b ≡ t → (a ≤ b → c ≤ d) → (b < a → d < c) → t ≡ leb c d
+leb-as true a b c d e f g = sym (le-leb c d (f (leb-true a b e)))
+leb-as false a b c d e f g = sym (lt-leb c d (g (leb-false a b e)))
+
+pub leb-same : (a b c d : ℕ) → (a ≤ b → c ≤ d) → (b < a → d < c) → leb a b ≡ leb c d
+leb-same a b c d f g = leb-as (leb a b) a b c d refl f g
+
+eqb-as : (t : Bool) (a b c d : ℕ) → eqb a b ≡ t → (a ≡ b → c ≡ d) → (c ≡ d → a ≡ b) → t ≡ eqb c d
+eqb-as true a b c d e f g = sym (eq-eqb c d (f (eqb-true a b e)))
+eqb-as false a b c d e f g = sym (ne-eqb c d (λ q. eqb-false a b e (g q)))
+
+pub eqb-same : (a b c d : ℕ) → (a ≡ b → c ≡ d) → (c ≡ d → a ≡ b) → eqb a b ≡ eqb c d
+eqb-same a b c d f g = eqb-as (eqb a b) a b c d refl f g
+
+pub off-max : (z : ℤ) → I32 z → off z < 4294967296
+unfolding off
+off-max (pos n) h = omega arith
+off-max (negsuc n) h = omega arith
+
+pub ltZ-off : (a b : ℤ) → I32 a → I32 b → ltZ a b ≡ ltb (off a) (off b)
+unfolding off
+ltZ-off (pos a) (pos b) ha hb = ltb-same a b (2147483648 + a) (2147483648 + b) (λ h. omega arith) (λ h. omega arith)
+ltZ-off (pos a) (negsuc b) ha hb = sym (le-ltb (2147483648 + a) (2147483647 - b) (omega arith))
+ltZ-off (negsuc a) (pos b) ha hb = sym (lt-ltb (2147483647 - a) (2147483648 + b) (omega arith))
+ltZ-off (negsuc a) (negsuc b) ha hb = ltb-same b a (2147483647 - a) (2147483647 - b) (λ h. omega arith) (λ h. omega arith)
+
+pub leZ-off : (a b : ℤ) → I32 a → I32 b → leZ a b ≡ leb (off a) (off b)
+unfolding off
+leZ-off (pos a) (pos b) ha hb = leb-same a b (2147483648 + a) (2147483648 + b) (λ h. omega arith) (λ h. omega arith)
+leZ-off (pos a) (negsuc b) ha hb = sym (lt-leb (2147483648 + a) (2147483647 - b) (omega arith))
+leZ-off (negsuc a) (pos b) ha hb = sym (le-leb (2147483647 - a) (2147483648 + b) (omega arith))
+leZ-off (negsuc a) (negsuc b) ha hb = leb-same b a (2147483647 - a) (2147483647 - b) (λ h. omega arith) (λ h. omega arith)
+
+pub off-inj : (a b : ℤ) → I32 a → I32 b → off a ≡ off b → a ≡ b
+unfolding off
+off-inj (pos a) (pos b) ha hb e = ap pos (omega arith)
+off-inj (pos a) (negsuc b) ha hb e = absurd (omega arith)
+off-inj (negsuc a) (pos b) ha hb e = absurd (omega arith)
+off-inj (negsuc a) (negsuc b) ha hb e = ap negsuc (omega arith)
+
+-- The difference of two naturals, by the test that it makes.
+off-cond : (t : Bool) (a b : ℕ) → ltb a b ≡ t → a < 2147483648 → b ≤ 2147483648 → off (cond t (negsuc (b - suc a)) (pos (a - b))) + b ≡ a + 2147483648
+unfolding off
+off-cond true a b e ha hb = omega (arith, ltb-true a b e)
+off-cond false a b e ha hb = omega (arith, ltb-false a b e)
+
+pub off-subℕ : (a b : ℕ) → a < 2147483648 → b ≤ 2147483648 → off (subℕ a b) + b ≡ a + 2147483648
+off-subℕ a b ha hb = off-cond (ltb a b) a b refl ha hb
+
+-- A sum; its own range is read off the equation.
+pub off-add : (a b : ℤ) → mag a < 1073741824 → mag b < 1073741824 → off (a +ℤ b) + 2147483648 ≡ off a + off b
+unfolding off
+off-add (pos a) (pos b) ha hb = omega arith
+off-add (pos a) (negsuc b) ha hb = omega (arith, off-subℕ a (suc b) (omega arith) (omega arith))
+off-add (negsuc a) (pos b) ha hb = omega (arith, off-subℕ b (suc a) (omega arith) (omega arith))
+off-add (negsuc a) (negsuc b) ha hb = omega arith
+
+pub off-neg : (a : ℤ) → mag a < 2147483647 → off (negℤ a) + off a ≡ 4294967296
+unfolding off
+off-neg (pos zero) h = refl
+off-neg (pos (suc a)) h = omega arith
+off-neg (negsuc a) h = omega arith
+
+pub mag-neg : (a : ℤ) → mag (negℤ a) ≤ mag a + 1
+mag-neg (pos zero) = omega arith
+mag-neg (pos (suc a)) = omega arith
+mag-neg (negsuc a) = omega arith
+
+-- The range of an i32, read off the moved number.
+pub off-range : (z : ℤ) → 0 < off z → off z < 4294967296 → I32 z
+unfolding off
+off-range (pos n) h k = omega arith
+off-range (negsuc n) h k = omega arith
+
+-- Far from the ends of i32, so that sums and differences of two such numbers fit.
+pub record Small (z : ℤ) : Type 0 where
+  pub low : 1073741824 < off z
+  pub high : off z < 3221225472
+
+pub small-mag : (z : ℤ) → Small z → mag z < 1073741824
+unfolding off
+small-mag (pos n) h = omega arith
+small-mag (negsuc n) h = omega arith
+
+pub small-i32 : {z : ℤ} → Small z → I32 z
+small-i32 {z} h = omega (arith, small-mag z h)
+
+pub add-off : (a b : ℤ) → Small a → Small b → off (a +ℤ b) + 2147483648 ≡ off a + off b
+add-off a b ha hb = off-add a b (small-mag a ha) (small-mag b hb)
+
+pub neg-off : (a : ℤ) → Small a → off (negℤ a) + off a ≡ 4294967296
+neg-off a ha = off-neg a (omega (arith, small-mag a ha))
+
+small-neg : (a : ℤ) → Small a → Small (negℤ a)
+small-neg a ha = omega (arith, neg-off a ha)
+
+pub sub-off : (a b : ℤ) → Small a → Small b → off (a -ℤ b) + off b ≡ off a + 2147483648
+sub-off a b ha hb = omega (arith, neg-off b hb, add-off a (negℤ b) ha (small-neg b hb))
+
+-- The size of a difference of naturals.
+abs-cond : (t : Bool) (a b : ℕ) → ltb a b ≡ t → natAbs (cond t (negsuc (b - suc a)) (pos (a - b))) ≡ (a - b) + (b - a)
+abs-cond true a b e = omega (arith, ltb-true a b e)
+abs-cond false a b e = omega (arith, ltb-false a b e)
+
+abs-sub : (a b : ℕ) → natAbs (subℕ a b) ≡ (a - b) + (b - a)
+abs-sub a b = abs-cond (ltb a b) a b refl
+
+-- How far two numbers are apart, in ℕ.
+pub difference-off : (a b : ℤ) → I32 a → I32 b → difference a b ≡ (off a - off b) + (off b - off a)
+unfolding difference off
+difference-off (pos a) (pos zero) ha hb = omega arith
+difference-off (pos a) (pos (suc b)) ha hb = omega (arith, abs-sub a (suc b))
+difference-off (pos a) (negsuc b) ha hb = omega arith
+difference-off (negsuc a) (pos zero) ha hb = omega (arith, abs-sub 0 (suc a))
+difference-off (negsuc a) (pos (suc b)) ha hb = omega arith
+difference-off (negsuc a) (negsuc b) ha hb = omega (arith, abs-sub (suc b) (suc a))
+
+max-pick : (t : Bool) (a b : ℤ) → ltb (off a) (off b) ≡ t → off (choose t b a) ≡ max (off a) (off b)
+unfolding choose
+max-pick true a b e = omega (arith, ltb-true (off a) (off b) e)
+max-pick false a b e = omega (arith, ltb-false (off a) (off b) e)
+
+pub max-off : (a b : ℤ) → I32 a → I32 b → off (larger a b) ≡ max (off a) (off b)
+unfolding larger
+max-off a b ha hb = max-pick (ltZ a b) a b (sym (ltZ-off a b ha hb))
+
+-- ---- what the code's operations ask: that a result fits. For the list of `search (needs, ..)`
+pub small-fits : (z : ℤ) → Small z → SFits w32 z
+small-fits z h = record { sfits = small-i32 h }
+
+pub sum-fits : (a b : ℤ) → Small a → Small b → SFits w32 (a +ℤ b)
+sum-fits a b ha hb = record { sfits = off-range (a +ℤ b) (omega (arith, add-off a b ha hb)) (omega (arith, add-off a b ha hb)) }
+
+pub diff-fits : (a b : ℤ) → Small a → Small b → SFits w32 (a -ℤ b)
+diff-fits a b ha hb = record { sfits = off-range (a -ℤ b) (omega (arith, sub-off a b ha hb)) (omega (arith, sub-off a b ha hb)) }
+
+pub minus-is : (a : ℤ) → pos 0 -ℤ a ≡ negℤ a
+minus-is a = +ℤ-idl (negℤ a)
+
+pub minus-fits : (a : ℤ) → Small a → SFits w32 (pos 0 -ℤ a)
+minus-fits a ha = rw minus-is (small-fits (negℤ a) (small-neg a ha))
+
+-- ---- what a test of two signed locals says. A local holds bits: the code reads `rd z`
+abbrev pub rd : ℤ → ℤ
+rd z = toZ w32 (ofZ w32 z)
+
+pub lt-rd : {a b : ℤ} {t : Bool} → SFits w32 a → SFits w32 b → ltZ (rd a) (rd b) ≡ t → ltZ a b ≡ t
+lt-rd fa fb e = rw (toZ-ofZ fa, toZ-ofZ fb) at e
+
+pub lt-yes : {a b : ℤ} → SFits w32 a → SFits w32 b → ltZ (rd a) (rd b) ≡ true → off a < off b
+lt-yes {a} {b} fa fb e = ltb-true (off a) (off b) (sym (ltZ-off a b (fa .sfits) (fb .sfits)) ∙ lt-rd fa fb e)
+
+pub lt-no : {a b : ℤ} → SFits w32 a → SFits w32 b → ltZ (rd a) (rd b) ≡ false → off b ≤ off a
+lt-no {a} {b} fa fb e = ltb-false (off a) (off b) (sym (ltZ-off a b (fa .sfits) (fb .sfits)) ∙ lt-rd fa fb e)
+
+pub le-rd : {a b : ℤ} {t : Bool} → SFits w32 a → SFits w32 b → leZ (rd a) (rd b) ≡ t → leZ a b ≡ t
+le-rd fa fb e = rw (toZ-ofZ fa, toZ-ofZ fb) at e
+
+pub le-yes : {a b : ℤ} → SFits w32 a → SFits w32 b → leZ (rd a) (rd b) ≡ true → off a ≤ off b
+le-yes {a} {b} fa fb e = leb-true (off a) (off b) (sym (leZ-off a b (fa .sfits) (fb .sfits)) ∙ le-rd fa fb e)
+
+pub le-no : {a b : ℤ} → SFits w32 a → SFits w32 b → leZ (rd a) (rd b) ≡ false → off b < off a
+le-no {a} {b} fa fb e = leb-false (off a) (off b) (sym (leZ-off a b (fa .sfits) (fb .sfits)) ∙ le-rd fa fb e)
+
+-- what `max` and `abs` return, by the arm
+max-yes : (a b : ℤ) → ltZ a b ≡ true → b ≡ larger a b
+unfolding larger choose
+max-yes a b e = rw e
+
+max-no : (a b : ℤ) → ltZ a b ≡ false → a ≡ larger a b
+unfolding larger choose
+max-no a b e = rw e
+
+pub max-rd-yes : {a b : ℤ} → SFits w32 a → SFits w32 b → ltZ (rd a) (rd b) ≡ true → rd b ≡ larger a b
+max-rd-yes {a} {b} fa fb e = toZ-ofZ fb ∙ max-yes a b (lt-rd fa fb e)
+
+pub max-rd-no : {a b : ℤ} → SFits w32 a → SFits w32 b → ltZ (rd a) (rd b) ≡ false → rd a ≡ larger a b
+max-rd-no {a} {b} fa fb e = toZ-ofZ fa ∙ max-no a b (lt-rd fa fb e)
+
+pub minus-rd : {a : ℤ} → SFits w32 a → Small a → rd (pos 0 -ℤ rd a) ≡ negℤ a
+minus-rd {a} fa h = rw (toZ-ofZ fa, toZ-ofZ (minus-fits a h), minus-is)
+
+pub off-rd : {z : ℤ} → SFits w32 z → off (rd z) ≡ off z
+off-rd f = rw (toZ-ofZ f)
+
+pub small-rd : {z : ℤ} → SFits w32 z → Small z → Small (rd z)
+small-rd f h = rw (toZ-ofZ f) h
+
+-- The size of a difference, by the arm that the code took.
+abs-sub-lt : (a b : ℤ) → I32 a → I32 b → Small a → Small b → off a < off b → b -ℤ a ≡ pos (difference a b)
+unfolding off
+abs-sub-lt a b ia ib ha hb h =
+    let t : off (b -ℤ a) + off a ≡ off b + 2147483648 = sub-off b a hb ha in
+    off-inj (b -ℤ a) (pos (difference a b)) (off-range (b -ℤ a) (omega arith) (omega arith)) (omega (arith, difference-off a b ia ib)) (omega (arith, difference-off a b ia ib))
+
+abs-sub-ge : (a b : ℤ) → I32 a → I32 b → Small a → Small b → off b ≤ off a → a -ℤ b ≡ pos (difference a b)
+unfolding off
+abs-sub-ge a b ia ib ha hb h =
+    let s : off (a -ℤ b) + off b ≡ off a + 2147483648 = sub-off a b ha hb in
+    off-inj (a -ℤ b) (pos (difference a b)) (off-range (a -ℤ b) (omega arith) (omega arith)) (omega (arith, difference-off a b ia ib)) (omega (arith, difference-off a b ia ib))
+
+pub diff-rd : {a b : ℤ} → SFits w32 a → SFits w32 b → Small a → Small b → rd (rd a -ℤ rd b) ≡ a -ℤ b
+diff-rd {a} {b} fa fb ha hb = rw (toZ-ofZ fa, toZ-ofZ fb, toZ-ofZ (diff-fits a b ha hb))
+
+pub apart-yes : {a b : ℤ} → SFits w32 a → SFits w32 b → Small a → Small b → ltZ (rd a) (rd b) ≡ true → rd (rd b -ℤ rd a) ≡ pos (difference a b)
+apart-yes {a} {b} fa fb ha hb e = diff-rd fb fa hb ha ∙ abs-sub-lt a b (fa .sfits) (fb .sfits) ha hb (lt-yes fa fb e)
+
+pub apart-no : {a b : ℤ} → SFits w32 a → SFits w32 b → Small a → Small b → ltZ (rd a) (rd b) ≡ false → rd (rd a -ℤ rd b) ≡ pos (difference a b)
+apart-no {a} {b} fa fb ha hb e = diff-rd fa fb ha hb ∙ abs-sub-ge a b (fa .sfits) (fb .sfits) ha hb (lt-no fa fb e)
+
+pub sum-rd : {a b : ℤ} → SFits w32 a → SFits w32 b → Small a → Small b → rd (rd a +ℤ rd b) ≡ a +ℤ b
+sum-rd {a} {b} fa fb ha hb = rw (toZ-ofZ fa, toZ-ofZ fb, toZ-ofZ (sum-fits a b ha hb))
+
+-- an equation of two signed locals is tested on their bits
+pub eq-off : {a b : ℤ} → SFits w32 a → SFits w32 b → eqb (ofZ w32 a) (ofZ w32 b) ≡ eqb (off a) (off b)
+unfolding off
+eq-off {a = pos a} {b = pos b} fa fb = eqb-same a b (2147483648 + a) (2147483648 + b) (λ h. omega arith) (λ h. omega arith)
+eq-off {a = pos a} {b = negsuc b} fa fb = eqb-same a (4294967296 - suc b) (2147483648 + a) (2147483647 - b) (λ h. omega arith) (λ h. omega arith)
+eq-off {a = negsuc a} {b = pos b} fa fb = eqb-same (4294967296 - suc a) b (2147483647 - a) (2147483648 + b) (λ h. omega arith) (λ h. omega arith)
+eq-off {a = negsuc a} {b = negsuc b} fa fb = eqb-same (4294967296 - suc a) (4294967296 - suc b) (2147483647 - a) (2147483647 - b) (λ h. omega arith) (λ h. omega arith)
+
+pub bits-off : {a b : ℤ} → SFits w32 a → SFits w32 b → ofZ w32 a ≡ ofZ w32 b → off a ≡ off b
+bits-off {a} {b} fa fb e = eqb-true (off a) (off b) (sym (eq-off fa fb) ∙ eq-eqb (ofZ w32 a) (ofZ w32 b) e)
+
+pub bits-is : {a b : ℤ} → SFits w32 a → SFits w32 b → ofZ w32 a ≡ ofZ w32 b → a ≡ b
+bits-is {a} {b} fa fb e = sym (toZ-ofZ fa) ∙ ap (toZ w32) e ∙ toZ-ofZ fb
+
+-- The test of two locals is the test of the numbers.
+pub same-bits : {a b : ℤ} → SFits w32 a → SFits w32 b → eqb (ofZ w32 a) (ofZ w32 b) ≡ sameNumber a b
+unfolding sameNumber
+same-bits {a} {b} fa fb =
+    eq-off fa fb
+    ∙ eqb-same (off a) (off b) (difference a b) 0 (λ h. omega (arith, difference-off a b (fa .sfits) (fb .sfits))) (λ h. omega (arith, difference-off a b (fa .sfits) (fb .sfits)))
+
+-- Numbers that do not differ are the same.
+pub same-is : (a b : ℤ) → I32 a → I32 b → sameNumber a b ≡ true → a ≡ b
+unfolding sameNumber
+same-is a b ha hb e = off-inj a b ha hb (omega (arith, eqb-true (difference a b) 0 e, difference-off a b ha hb))
+
+pub same-self : (a : ℤ) → I32 a → sameNumber a a ≡ true
+unfolding sameNumber
+same-self a ha = eq-eqb (difference a a) 0 (omega (arith, difference-off a a ha ha))
+
+-- A number that an i32 holds is read as it is.
+pub held : (z : ℤ) → I32 z → rd z ≡ z
+held z h = toZ-ofZ (record { sfits = h })

@@ -1,0 +1,115 @@
+-- `grid::weigh` meets its contract: differences of numbers of the board fit, and so do their sum and what is negated. Assumes nothing.
+use borrow.Author.Needs.{needs}
+use mathlib.Core.Path.{_≡_, ap, ap₂, _∙_}
+use mathlib.Core.Bool.{true}
+use lib.IntN.{ℤ, pos, negℤ, _+ℤ_, _-ℤ_}
+use mir.Syntax.{w32}
+use mir.Val.{SFits}
+use Rattle.refusal.proofs.Tests.{both-left, both-right}
+use Rattle.grid.specs.declared.Place.{Place}
+use Rattle.grid.specs.Place.{inside, onBoard, difference, larger}
+use Rattle.grid.specs.Weight.{weightOf, distanceOf}
+use Rattle.grid.proofs.Signed.{Small, I32, rd, held, sum-fits, minus-fits, small-fits, sum-rd, minus-rd}
+use Rattle.grid.proofs.Board.{difference-small, larger-small}
+use Rattle.grid.proofs.weigh.Statement.{statement}
+use Rattle.grid.proofs.weigh.Tie as tie
+
+-- A place of the board whose numbers an i32 holds.
+record Held (a : Place) : Type 0 where
+  x : SFits w32 (a .x)
+  y : SFits w32 (a .y)
+  on-x : onBoard (a .x) ≡ true
+  on-y : onBoard (a .y) ≡ true
+
+hold : (a : Place) → I32 (a .x) → I32 (a .y) → inside a ≡ true → Held a
+unfolding inside
+hold a p q e =
+    record { x = record { sfits = p }; y = record { sfits = q }; on-x = both-left _ _ e; on-y = both-right (onBoard (a .x)) _ e }
+
+-- What the callee asks of two numbers that are read.
+asked : {a b : ℤ} → SFits w32 a → SFits w32 b → onBoard a ≡ true → onBoard b ≡ true → (onBoard (rd a) ≡ true) × (onBoard (rd b) ≡ true)
+asked {a} {b} fa fb p q = (rw (held a (fa .sfits)) p, rw (held b (fb .sfits)) q)
+
+one : (c : tie.Start) → I32 (c .args .a .x) → I32 (c .args .a .y) → Held (c .args .a)
+one c p q = hold (c .args .a) p q (c .pre .0)
+
+two : (c : tie.Start) → I32 (c .args .b .x) → I32 (c .args .b .y) → Held (c .args .b)
+two c p q = hold (c .args .b) p q (c .pre .1)
+
+apart-requires : tie.Need-apart-requires
+apart-requires c κs =
+    let g = c .before .struct-told .given in
+    let h = c .struct-told2 .given in
+    let a = one (c .before .before) (g .0 .1) (g .1 .0 .1) in
+    let b = two (c .before .before) (h .0 .1) (h .1 .0 .1) in
+    asked (a .x) (b .x) (a .on-x) (b .on-x)
+
+apart-requires-2 : tie.Need-apart-requires-2
+apart-requires-2 c κs =
+    let g = c .before .struct-told3 .given in
+    let h = c .struct-told4 .given in
+    let s = c .before .before .before .before .before in
+    let a = one s (g .0 .1) (g .1 .0 .1) in
+    let b = two s (h .0 .1) (h .1 .0 .1) in
+    asked (a .y) (b .y) (a .on-y) (b .on-y)
+
+larger-of-requires : tie.Need-larger-of-requires
+larger-of-requires c κs = search needs
+
+start : tie.After-larger-of → tie.Start
+start c = c .before .before .before .before .before .before .before .before .before
+
+first : (c : tie.After-larger-of) → Held (start c .args .a)
+unfolding start
+first c = let g = c .before .before .struct-told5 .given in one (start c) (g .0 .1) (g .1 .0 .1)
+
+other : (c : tie.After-larger-of) → Held (start c .args .b)
+unfolding start
+other c = let h = c .before .struct-told6 .given in two (start c) (h .0 .1) (h .1 .0 .1)
+
+-- What the three calls gave.
+dx : (c : tie.After-larger-of) → c .before .before .before .before .before .before .apart .result ≡ pos (difference (start c .args .a .x) (start c .args .b .x))
+unfolding start
+dx c = rw (held _ (first c .x .sfits), held _ (other c .x .sfits)) at (c .before .before .before .before .before .before .apart .ensures)
+
+dy : (c : tie.After-larger-of) → c .before .before .before .apart2 .result ≡ pos (difference (start c .args .a .y) (start c .args .b .y))
+unfolding start
+dy c = rw (held _ (first c .y .sfits), held _ (other c .y .sfits)) at (c .before .before .before .apart2 .ensures)
+
+right : (c : tie.After-larger-of) → c .larger-of .result ≡ larger (start c .args .a .x) (start c .args .b .x)
+unfolding start
+right c = rw (held _ (first c .x .sfits), held _ (other c .x .sfits)) at (c .larger-of .ensures)
+
+dx-small : (c : tie.After-larger-of) → Small (c .before .before .before .before .before .before .apart .result)
+dx-small c = rw (dx c) (difference-small (first c .x) (other c .x) (first c .on-x) (other c .on-x))
+
+dy-small : (c : tie.After-larger-of) → Small (c .before .before .before .apart2 .result)
+dy-small c = rw (dy c) (difference-small (first c .y) (other c .y) (first c .on-y) (other c .on-y))
+
+right-small : (c : tie.After-larger-of) → Small (c .larger-of .result)
+right-small c = rw (right c) (larger-small (first c .x) (other c .x) (first c .on-x) (other c .on-x))
+
+add-t6 : tie.Need-add-t6
+add-t6 c = search (needs, sum-fits, dx-small c, dy-small c)
+
+sub-t7 : tie.Need-sub-t7
+sub-t7 c = search (needs, minus-fits, dy-small c)
+
+sub-t8 : tie.Need-sub-t8
+sub-t8 c = search (needs, minus-fits, right-small c)
+
+returns : tie.Need-returns
+unfolding weightOf distanceOf start
+returns c =
+    let fx : SFits w32 (c .before .before .before .before .before .before .apart .result) = small-fits _ (dx-small c) in
+    let fy : SFits w32 (c .before .before .before .apart2 .result) = small-fits _ (dy-small c) in
+    let fr : SFits w32 (c .larger-of .result) = small-fits _ (right-small c) in
+    let e = sum-rd fx fy (dx-small c) (dy-small c) ∙ ap₂ _+ℤ_ (dx c) (dy c) in
+    let f = minus-rd fy (dy-small c) ∙ ap negℤ (dy c) in
+    let g = minus-rd fr (right-small c) ∙ ap negℤ (right c) in
+    cc (e, f, g)
+
+pub weigh-spec : {M : Type 1} → statement M
+weigh-spec =
+    tie.close
+    (tie.spec apart-requires apart-requires-2 larger-of-requires add-t6 sub-t7 sub-t8 returns)

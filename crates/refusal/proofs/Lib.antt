@@ -1,0 +1,2 @@
+-- The laws of tests joined by words.
+pub mod Tests

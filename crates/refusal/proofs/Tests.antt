@@ -1,0 +1,61 @@
+-- What joined tests say of their parts. Assumes nothing.
+use mathlib.Core.Path.{_≡_, refl}
+use mathlib.Core.Bool.{Bool, true, false}
+use mathlib.Core.Logic.{_⊎_, inl, inr}
+use Rattle.refusal.specs.Tests.{both, either, choose}
+
+-- Where both hold, each holds.
+pub both-left : (a b : Bool) → both a b ≡ true → a ≡ true
+unfolding both
+both-left true b e = refl
+both-left false b e = e
+
+pub both-right : (a b : Bool) → both a b ≡ true → b ≡ true
+unfolding both
+both-right true b e = e
+both-right false b e = cc
+
+pub both-of : {a b : Bool} → a ≡ true → b ≡ true → both a b ≡ true
+unfolding both
+both-of p q = rw (p, q)
+
+-- Where the first fails, both fail; where it holds, the second decides.
+pub both-no : {a : Bool} (b : Bool) → a ≡ false → both a b ≡ false
+unfolding both
+both-no b p = rw p
+
+pub both-yes : {a : Bool} (b : Bool) → a ≡ true → both a b ≡ b
+unfolding both
+both-yes b p = rw p
+
+-- Where one holds, the first or the second holds.
+pub either-left : {a : Bool} (b : Bool) → a ≡ true → either a b ≡ true
+unfolding either
+either-left b p = rw p
+
+pub either-right : {a : Bool} (b : Bool) → a ≡ false → either a b ≡ b
+unfolding either
+either-right b p = rw p
+
+pub either-cases : (a b : Bool) → either a b ≡ true → (a ≡ true) ⊎ (b ≡ true)
+unfolding either
+either-cases true b e = inl refl
+either-cases false b e = inr e
+
+-- A choice by a test that is known.
+pub choose-yes : {A : Type 0} {t : Bool} (a b : A) → t ≡ true → choose t a b ≡ a
+unfolding choose
+choose-yes a b p = rw p
+
+pub choose-no : {A : Type 0} {t : Bool} (a b : A) → t ≡ false → choose t a b ≡ b
+unfolding choose
+choose-no a b p = rw p
+
+-- Two tests made one after the other, the second only where the first holds.
+pub both-arm : {s t a b : Bool} → s ≡ a → t ≡ b → s ≡ true → t ≡ both a b
+unfolding both
+both-arm p q h = rw (← p, h) q
+
+pub both-stop : {s a : Bool} (b : Bool) → s ≡ a → s ≡ false → false ≡ both a b
+unfolding both
+both-stop b p h = rw (← p, h)
