@@ -2,3 +2,7 @@
 pub mod Signed
 pub mod Bytes
 pub mod Board
+pub mod Flat
+pub mod Keys
+pub mod Order
+mod Worked

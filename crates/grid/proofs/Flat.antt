@@ -1,0 +1,91 @@
+-- Geometry in ℕ: a place of the grid moved up by 2 ^ 31 on both axes, differences and distances there. Assumes nothing.
+use mathlib.Core.Path.{_≡_, refl, sym, ap, _∙_}
+use mathlib.Core.Bool.{Bool, true, false}
+use mathlib.Core.Logic.{_⊎_, inl, inr}
+use Prim.Native.Nat.{ℕ, _+_, _-_, _<_, _≤_, max}
+use native.Mathlib.Omega.{arith}
+use lib.Dec.{ltb}
+use lib.IntN.{ℤ}
+use borrow.Author.Tests.{ltb-true, ltb-false}
+use Rattle.grid.specs.declared.Place.{Place}
+use Rattle.grid.specs.Place.{difference}
+use Rattle.grid.specs.Weight.{distanceOf}
+use Rattle.grid.proofs.Signed.{off, I32, difference-off, off-inj}
+
+-- How far two natural numbers are apart. It stays shut: its laws are below.
+unfoldable pub gap : ℕ → ℕ → ℕ
+gap a b = (a - b) + (b - a)
+
+module _ (a b : ℕ) where
+  pub gap-up : a ≤ b → gap a b + a ≡ b
+  unfolding gap
+  gap-up h = omega arith
+
+  pub gap-down : b ≤ a → gap a b + b ≡ a
+  unfolding gap
+  gap-down h = omega arith
+
+  pub gap-swap : gap a b ≡ gap b a
+  unfolding gap
+  gap-swap = omega arith
+
+  -- Bounds that hold whichever is larger.
+  pub gap-within : (a ≤ b + gap a b) × (b ≤ a + gap a b)
+  unfolding gap
+  gap-within = omega arith
+
+  pub gap-below : (m : ℕ) → a < m → b < m → gap a b < m
+  unfolding gap
+  gap-below m h k = omega arith
+
+  pub gap-none : gap a b ≡ 0 → a ≡ b
+  unfolding gap
+  gap-none e = omega arith
+
+pub gap-self : (a : ℕ) → gap a a ≡ 0
+unfolding gap
+gap-self a = omega arith
+
+pub gap-through : (a b c : ℕ) → gap a c ≤ gap a b + gap b c
+unfolding gap
+gap-through a b c = omega arith
+
+-- Which of two numbers is not larger.
+order-by : (t : Bool) (a b : ℕ) → ltb b a ≡ t → (a ≤ b) ⊎ (b < a)
+order-by true a b e = inr (ltb-true b a e)
+order-by false a b e = inl (ltb-false b a e)
+
+pub order : (a b : ℕ) → (a ≤ b) ⊎ (b < a)
+order a b = order-by (ltb b a) a b refl
+
+-- A place in ℕ.
+pub record Site : Type 0 where
+  pub x : ℕ
+  pub y : ℕ
+
+-- The distance of two places in ℕ.
+unfoldable pub span : Site → Site → ℕ
+span a b = gap (a .x) (b .x) + gap (a .y) (b .y)
+
+pub span-swap : (a b : Site) → span a b ≡ span b a
+unfolding span
+span-swap a b = omega (arith, gap-swap (a .x) (b .x), gap-swap (a .y) (b .y))
+
+-- A place, moved up.
+abbrev pub site : Place → Site
+site a = record { x = off (a .x); y = off (a .y) }
+
+-- The numbers of a place are those of an i32, as the code's always are.
+pub record Held (a : Place) : Type 0 where
+  pub x : I32 (a .x)
+  pub y : I32 (a .y)
+
+pub difference-gap : (a b : ℤ) → I32 a → I32 b → difference a b ≡ gap (off a) (off b)
+unfolding gap
+difference-gap = difference-off
+
+-- The distance of two places is that of their sites.
+pub distance-span : {a b : Place} → Held a → Held b → distanceOf a b ≡ span (site a) (site b)
+unfolding distanceOf span
+distance-span {a} {b} p q =
+    omega (arith, difference-gap (a .x) (b .x) (p .x) (q .x), difference-gap (a .y) (b .y) (p .y) (q .y))
