@@ -1,0 +1,3 @@
+-- The laws of drawings that other crates cite.
+mod Loops
+mod Tests

@@ -1,0 +1,25 @@
+-- `drawing::is_within` meets its contract, by the pin's two cases. Assumes nothing.
+use borrow.Author.Needs.{needs}
+use Rattle.drawing.specs.Pins.{within}
+use Rattle.drawing.proofs.is_within.Statement.{statement}
+use Rattle.drawing.proofs.is_within.Tie as tie
+
+enum-told : tie.Need-enum-told
+enum-told c = search needs
+
+enum-known-s : tie.Need-enum-known-s
+enum-known-s c = search needs
+
+is-inside-requires : tie.Need-is-inside-requires
+is-inside-requires c κs = search needs
+
+returns : tie.Need-returns
+unfolding within
+returns c = rw (c .enum-told .given .1)
+
+returns-2 : tie.Need-returns-2
+unfolding within
+returns-2 c = rw (c .before .before .before .s .given .1) (c .is-inside .ensures)
+
+pub is-within-spec : {M : Type 1} → statement M
+is-within-spec = tie.close (tie.spec enum-told enum-known-s is-inside-requires returns returns-2)

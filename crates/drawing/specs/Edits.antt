@@ -1,0 +1,73 @@
+-- Edits: what one makes of the pins, what taking it back makes of them, and when one could have been made.
+use mathlib.Core.Bool.{Bool, true, false, not}
+use mathlib.Core.List.{List}
+use Prim.Native.Nat.{ℕ}
+use lib.Dec.{ltb}
+use lib.ListN.{getD, set}
+use lib.IntN.{pos}
+use Rattle.refusal.specs.Tests.{both}
+use Rattle.grid.specs.declared.Place.{Place}
+use Rattle.grid.specs.Place.{inside, samePlace}
+use Rattle.drawing.specs.declared.Held.{Held}
+use Rattle.drawing.specs.declared.Stand.{Stand}
+use Rattle.drawing.specs.declared.Stand.the-variants.{Absent, There}
+use Rattle.drawing.specs.declared.Pin.{Pin}
+use Rattle.drawing.specs.declared.Edit.{Edit}
+use Rattle.drawing.specs.declared.Edit.the-variants.{Placed, Moved, Removed}
+use Rattle.drawing.specs.Pins.{pins, absent, there, holding, isThere, samePin, samePins, crowded}
+
+-- The number of the pin that an edit names.
+abbrev pub pinOf : Edit → ℕ
+pinOf (Placed p h) = p
+pinOf (Moved p a b) = p
+pinOf (Removed p h) = p
+
+abbrev pub movedIn : Stand → Place → Pin
+movedIn Absent to = absent
+movedIn (There h) to = there (holding to)
+
+-- A pin that is there keeps what it holds but for its place.
+unfoldable pub movedPin : Pin → Place → Pin
+movedPin q to = movedIn (q .stand) to
+
+-- The pins with an edit made.
+unfoldable pub made : List Pin → Edit → List Pin
+made l (Placed p h) = set l p (there h)
+made l (Moved p a b) = set l p (movedPin (getD l p absent) b)
+made l (Removed p h) = set l p absent
+
+-- The pins with an edit taken back.
+unfoldable pub unmade : List Pin → Edit → List Pin
+unmade l (Placed p h) = set l p absent
+unmade l (Moved p a b) = set l p (movedPin (getD l p absent) a)
+unmade l (Removed p h) = set l p (there h)
+
+abbrev pub standsIn : Stand → Place → Bool
+standsIn Absent at = false
+standsIn (There h) at = samePlace (h .place) at
+
+-- The pin is there, at that place.
+unfoldable pub standsAt : Pin → Place → Bool
+standsAt q at = standsIn (q .stand) at
+
+-- Pin p could stand at that place: it is on the board, and no other pin is too near.
+unfoldable pub fits : List Pin → ℕ → Place → Bool
+fits l p at = both (inside at) (not (crowded l p at))
+
+-- A pin that is not there can be placed where it fits.
+unfoldable pub placeable : List Pin → ℕ → Held → Bool
+placeable l p h = both (not (isThere (getD l p absent))) (fits l p (h .place))
+
+-- A pin can be moved from where it stands to another place where it fits.
+unfoldable pub movable : List Pin → ℕ → Place → Place → Bool
+movable l p a b = both (standsAt (getD l p absent) a) (both (not (samePlace a b)) (fits l p b))
+
+-- An edit can be made on these pins.
+unfoldable pub makeable : List Pin → Edit → Bool
+makeable l (Placed p h) = both (ltb p pins) (placeable l p h)
+makeable l (Moved p a b) = both (ltb p pins) (movable l p a b)
+makeable l (Removed p h) = both (ltb p pins) (samePin (getD l p absent) (there h))
+
+-- An edit that stands on these pins could have been made: on the pins with it taken back it can be made, and gives these.
+unfoldable pub takeable : List Pin → Edit → Bool
+takeable l e = both (makeable (unmade l e) e) (samePins (made (unmade l e) e) l)
