@@ -1,0 +1,60 @@
+-- Covered steps of the moved grid, whose coordinates are ℕ: what a leg and a run cover, and the length as a sum over the grid.
+-- Pins are numbered by when they were reached: 0 is the first, suc r the far pin of run r, `near r` the near pin of run r, `at i` the site of
+-- pin i. A shape is a Bool: false is lower, true is upper. Assumes nothing.
+use mathlib.Core.Bool.{Bool, true, false, cond, _&&_, _||_}
+use Prim.Native.Nat.{ℕ, zero, suc, _+_, _≤_, _<_, min, max}
+use lib.Dec.{eqb, ltb, leb}
+use Rattle.grid.proofs.Flat.{Site}
+use Rattle.copper.proofs.Sums.{oneIf, sumBelow}
+
+-- A unit step of the moved grid: from (x, y) to (x + 1, y), or from (x, y) to (x, y + 1).
+pub data Stride : Type 0 where
+  along : ℕ → ℕ → Stride
+  rise : ℕ → ℕ → Stride
+
+-- The leg from a to b covers the stride: it lies in the leg's row, or in its column, between the ends.
+unfoldable pub covers : Site → Site → Stride → Bool
+covers a b (along x y) = eqb y (a .y) && (eqb y (b .y) && (leb (min (a .x) (b .x)) x && ltb x (max (a .x) (b .x))))
+covers a b (rise x y) = eqb x (a .x) && (eqb x (b .x) && (leb (min (a .y) (b .y)) y && ltb y (max (a .y) (b .y))))
+
+-- The ends share x or y.
+unfoldable pub straight : Site → Site → Bool
+straight a b = eqb (a .x) (b .x) || eqb (a .y) (b .y)
+
+-- Where a bent run turns.
+unfoldable pub bend : Bool → Site → Site → Site
+bend false a b = record { x = cond (leb (a .y) (b .y)) (b .x) (a .x); y = min (a .y) (b .y) }
+bend true a b = record { x = cond (leb (a .y) (b .y)) (a .x) (b .x); y = max (a .y) (b .y) }
+
+-- The run from a to b in the shape u covers the stride, by its one leg or by one of its two.
+unfoldable pub runCovers : Bool → Site → Site → Stride → Bool
+runCovers u a b σ = cond (straight a b) (covers a b σ) (covers a (bend u a b) σ || covers (bend u a b) b σ)
+
+-- A test holds of a number below n.
+unfoldable pub some : ℕ → (ℕ → Bool) → Bool
+some zero f = false
+some (suc n) f = f n || some n f
+
+-- The sum of f over the strides of the grid from (0, 0) up to (m, m).
+unfoldable pub over : ℕ → (Stride → ℕ) → ℕ
+over m f = sumBelow m (λ x. sumBelow m (λ y. f (along x y) + f (rise x y)))
+
+module _ (at : ℕ → Site) (near : ℕ → ℕ) where
+  -- Run r in the shape u covers the stride.
+  unfoldable pub coversOf : ℕ → Bool → Stride → Bool
+  coversOf r u = runCovers u (at (near r)) (at (suc r))
+
+  -- One of the n runs, in the shapes s, covers the stride.
+  unfoldable pub covered : ℕ → (ℕ → Bool) → Stride → Bool
+  covered n s σ = some n (λ r. coversOf r (s r) σ)
+
+  -- How many strides of the grid up to (m, m) the n runs cover.
+  unfoldable pub gridLength : ℕ → ℕ → (ℕ → Bool) → ℕ
+  gridLength m n s = over m (λ σ. oneIf (covered n s σ))
+
+-- The site p lies in the box of a and b.
+pub record InBox (a b p : Site) : Type 0 where
+  pub left : min (a .x) (b .x) ≤ p .x
+  pub right : p .x ≤ max (a .x) (b .x)
+  pub down : min (a .y) (b .y) ≤ p .y
+  pub up : p .y ≤ max (a .y) (b .y)

@@ -1,0 +1,128 @@
+-- Whole numbers moved to ℕ and back: `off z` is z + 2 ^ 31, and `back` takes it away again. Assumes that a number is not below -2 ^ 31.
+use mathlib.Core.Path.{_≡_, refl, sym, ap, _∙_}
+use mathlib.Core.Bool.{Bool, true, false, cond}
+use Prim.Native.Nat.{ℕ, zero, suc, _+_, _-_, _≤_, _<_, min, max}
+use native.Mathlib.Omega.{arith}
+use lib.IntN.{ℤ, pos, negsuc, natAbs, subℕ, _+ℤ_, _-ℤ_, -ℤ-+ℤ-cancel, +ℤ-idl, +ℤ-invr}
+use lib.Signed.{leZ, nonNeg}
+use lib.Dec.{T, eqb, leb, ltb}
+use borrow.Author.Tests.{leb-true, leb-false, le-leb, ltb-true, ltb-false, lt-ltb, le-ltb, eq-eqb, eqb-true}
+use Rattle.refusal.specs.Tests.{choose}
+use Rattle.grid.specs.Place.{difference, sameNumber}
+use Rattle.grid.proofs.Signed.{off, I32, off-max, leZ-off, difference-off}
+use Rattle.copper.specs.Length.{smaller}
+use Rattle.copper.proofs.Tests.{never-both, same-test}
+
+-- How far a number is below -1.
+abbrev pub depth : ℤ → ℕ
+depth (pos n) = 0
+depth (negsuc n) = n
+
+-- A number that is not below -2 ^ 31.
+abbrev pub Low : ℤ → Type 0
+Low z = depth z < 2147483648
+
+-- A number that an i32 holds is none.
+pub low-held : (z : ℤ) → I32 z → Low z
+low-held (pos n) h = omega arith
+low-held (negsuc n) h = h
+
+-- The number that was moved to n.
+unfoldable pub back : ℕ → ℤ
+back n = subℕ n 2147483648
+
+off-back-by : (t : Bool) (n : ℕ) → ltb n 2147483648 ≡ t → off (cond t (negsuc (2147483648 - suc n)) (pos (n - 2147483648))) ≡ n
+unfolding off
+off-back-by true n e = omega (arith, ltb-true n 2147483648 e)
+off-back-by false n e = omega (arith, ltb-false n 2147483648 e)
+
+pub off-back : (n : ℕ) → off (back n) ≡ n
+unfolding back
+off-back n = off-back-by (ltb n 2147483648) n refl
+
+pub back-off : (z : ℤ) → Low z → back (off z) ≡ z
+unfolding back off
+back-off (pos n) h =
+    rw (le-ltb (2147483648 + n) 2147483648 (omega arith)) (ap pos (let z : 2147483648 + n - 2147483648 ≡ n = omega arith in z))
+back-off (negsuc n) h =
+    rw (lt-ltb (2147483647 - n) 2147483648 (omega arith)) (ap negsuc (let z : 2147483648 - suc (2147483647 - n) ≡ n = omega arith in z))
+
+-- One more, moved.
+pub next-off : (z : ℤ) → Low z → Low (z +ℤ pos 1) × (off (z +ℤ pos 1) ≡ suc (off z))
+unfolding off
+next-off (pos n) h = (omega arith, omega arith)
+next-off (negsuc zero) h = (omega arith, refl)
+next-off (negsuc (suc n)) h = rw (lt-ltb 1 (suc (suc n)) (omega arith)) (omega arith, omega arith)
+
+nothing : (z : ℤ) → natAbs z ≡ 0 → z ≡ pos 0
+nothing (pos n) e = ap pos e
+nothing (negsuc n) e = absurd (omega arith)
+
+-- The test of two numbers says that they are the same.
+pub same-number : (a b : ℤ) → sameNumber a b ≡ true → a ≡ b
+unfolding sameNumber difference
+same-number a b e =
+    sym (-ℤ-+ℤ-cancel a b) ∙ ap (λ (z : ℤ). z +ℤ b) (nothing (a -ℤ b) (eqb-true (natAbs (a -ℤ b)) 0 e)) ∙ +ℤ-idl b
+
+pub number-same : (a : ℤ) → sameNumber a a ≡ true
+unfolding sameNumber difference
+number-same a = eq-eqb (natAbs (a -ℤ a)) 0 (ap natAbs (+ℤ-invr a))
+
+-- The same test on moved numbers.
+pub same-back : (a : ℕ) (z : ℤ) → Low z → sameNumber (back a) z ≡ eqb a (off z)
+same-back a z h =
+    same-test (sameNumber (back a) z) (eqb a (off z))
+    (λ e. eq-eqb a (off z) (sym (off-back a) ∙ ap off (same-number (back a) z e)))
+    (λ e. rw (eqb-true a (off z) e, back-off z h) (number-same z))
+
+pub same-off : (a b : ℤ) → Low a → Low b → sameNumber a b ≡ eqb (off a) (off b)
+same-off a b p q = ap (λ (z : ℤ). sameNumber z b) (sym (back-off a p)) ∙ same-back (off a) b q
+
+-- The smaller of two numbers, moved.
+smaller-by : (t : Bool) (a b : ℤ) → leb (off a) (off b) ≡ t → off (choose t a b) ≡ min (off a) (off b)
+unfolding choose
+smaller-by true a b e = omega (arith, leb-true (off a) (off b) e)
+smaller-by false a b e = omega (arith, leb-false (off a) (off b) e)
+
+pub smaller-off : (a b : ℤ) → I32 a → I32 b → off (smaller a b) ≡ min (off a) (off b)
+unfolding smaller
+smaller-off a b p q = smaller-by (leZ a b) a b (sym (leZ-off a b p q))
+
+low-choose : (t : Bool) (a b : ℤ) → Low a → Low b → Low (choose t a b)
+unfolding choose
+low-choose true a b p q = p
+low-choose false a b p q = q
+
+pub smaller-low : (a b : ℤ) → I32 a → I32 b → Low (smaller a b)
+unfolding smaller
+smaller-low a b p q = low-choose (leZ a b) a b (low-held a p) (low-held b q)
+
+-- From the smaller by the difference to the larger.
+pub reach-off : (a b : ℤ) → I32 a → I32 b → off (smaller a b) + difference a b ≡ max (off a) (off b)
+reach-off a b p q = omega (arith, smaller-off a b p q, difference-off a b p q)
+
+-- What the code's difference of two numbers asks.
+less-cond : (t : Bool) (m n : ℕ) → ltb m n ≡ t → n ≤ m → T (nonNeg (cond t (negsuc (n - suc m)) (pos (m - n))))
+less-cond true m n e h = absurd (omega (arith, ltb-true m n e))
+less-cond false m n e h = tt
+
+-- A number less one that is not larger is not negative.
+pub ahead-sign : (a b : ℤ) → leZ a b ≡ true → T (nonNeg (b -ℤ a))
+ahead-sign (pos zero) (pos b) e = tt
+ahead-sign (pos (suc a)) (pos b) e = less-cond (ltb b (suc a)) b (suc a) refl (leb-true (suc a) b e)
+ahead-sign (pos a) (negsuc b) e = absurd (never-both e refl)
+ahead-sign (negsuc a) (pos b) e = tt
+ahead-sign (negsuc a) (negsuc b) e = less-cond (ltb (suc a) (suc b)) (suc a) (suc b) refl (omega (arith, leb-true b a e))
+
+-- Two numbers that an i32 holds are less than 2 ^ 32 apart, and as far apart both ways.
+pub difference-below : (a b : ℤ) → I32 a → I32 b → difference a b < 4294967296
+difference-below a b p q = omega (arith, difference-off a b p q, off-max a p, off-max b q)
+
+pub difference-swap : (a b : ℤ) → I32 a → I32 b → difference a b ≡ difference b a
+difference-swap a b p q = omega (arith, difference-off a b p q, difference-off b a q p)
+
+-- The other way round where it is not at most.
+pub other-way : (a b : ℤ) → I32 a → I32 b → leZ a b ≡ false → leZ b a ≡ true
+other-way a b p q e =
+    leZ-off b a q p
+    ∙ le-leb (off b) (off a) (let l = leb-false (off a) (off b) (sym (leZ-off a b p q) ∙ e) in omega arith)

@@ -1,0 +1,259 @@
+-- The length of the legs of a tree's runs: it is a sum over the pins, it is what is made least pin by pin, and the shape given to a straight
+-- run does not matter. Pins are numbered by when they were reached: 0 is the first, suc r the far pin of run r, `near r` the near pin of run r,
+-- `at i` the place of pin i; s gives each run its shape, false for lower and true for upper.
+-- Assumes that the places are held by i32 and that the tree is laid as `Laid` says.
+use mathlib.Core.Path.{_≡_, refl, sym, ap, ap₂, _∙_}
+use mathlib.Core.Bool.{Bool, true, false, cond, _||_}
+use mathlib.Core.List.{List, [], _∷_, _++_}
+use mathlib.Core.Logic.{_⊎_, inl, inr}
+use Prim.Native.Nat.{ℕ, zero, suc, _+_, _*_, _≤_, _<_, min, max}
+use native.Mathlib.Omega.{arith}
+use lib.Signed.{leZ}
+use lib.Dec.{eqb, leb}
+use borrow.Author.Tests.{leb-true, leb-false}
+use Rattle.refusal.specs.Tests.{either, choose}
+use Rattle.grid.specs.declared.Place.{Place}
+use Rattle.grid.specs.Place.{sameNumber}
+use Rattle.grid.proofs.Signed.{off, I32, off-max, leZ-off}
+use Rattle.grid.proofs.Flat.{Site, site, Held}
+use Rattle.copper.specs.declared.Shape.{Shape}
+use Rattle.copper.specs.declared.Shape.the-variants.{Straight, Lower, Upper}
+use Rattle.copper.specs.declared.Leg.{Leg}
+use Rattle.copper.specs.declared.Tally.{Tally}
+use Rattle.copper.specs.Shapes.{isStraight, crossing, lowerCorner, upperCorner, cornerOf, shapeOf, legsOf}
+use Rattle.copper.specs.Length.{lengthOf, legsOfRuns}
+use Rattle.copper.proofs.Sums.{oneIf, sumBelow, sum-none}
+use Rattle.copper.proofs.Least.{May, best-least, best-reached}
+use Rattle.copper.proofs.Cover.{Stride, covers, straight, bend, runCovers, some, over, coversOf, covered, gridLength}
+use Rattle.copper.proofs.Star.{spread, over-same, Within}
+use Rattle.copper.proofs.Laid.{Laid, isStraightRun, isBent, armsAt, straightLength, grid-length}
+use Rattle.copper.proofs.Cost.{lexical, free, startTally, addTally, finishTally, costOf, leastCost, tame, tame-may, cost-is}
+use Rattle.copper.proofs.Counted.{either-is}
+use Rattle.copper.proofs.Measured.{same-x, same-y, HeldLeg, HeldLegs, no-legs, more-legs, held-join, anyLeg, any-join, length-counted}
+
+-- The words of the definition, moved.
+module _ (a b : Place) (p : Held a) (q : Held b) where
+  straight-site : isStraight a b ≡ straight (site a) (site b)
+  unfolding isStraight straight
+  straight-site = either-is (sameNumber (a .x) (b .x)) (sameNumber (a .y) (b .y)) ∙ ap₂ _||_ (same-x a b p q) (same-y a b p q)
+
+  height : leZ (a .y) (b .y) ≡ leb (off (a .y)) (off (b .y))
+  height = leZ-off (a .y) (b .y) (p .y) (q .y)
+
+  lower-by : (t : Bool) → leb (off (a .y)) (off (b .y)) ≡ t
+      → site (choose t (crossing b a) (crossing a b)) ≡ record { x = cond t (off (b .x)) (off (a .x)); y = min (off (a .y)) (off (b .y)) }
+  unfolding choose
+  lower-by true e = ap (λ (z : ℕ). record { x = off (b .x); y = z }) (let z : off (a .y) ≡ min (off (a .y)) (off (b .y)) = omega (arith, leb-true (off (a .y)) (off (b .y)) e) in z)
+  lower-by false e = ap (λ (z : ℕ). record { x = off (a .x); y = z }) (let z : off (b .y) ≡ min (off (a .y)) (off (b .y)) = omega (arith, leb-false (off (a .y)) (off (b .y)) e) in z)
+
+  upper-by : (t : Bool) → leb (off (a .y)) (off (b .y)) ≡ t
+      → site (choose t (crossing a b) (crossing b a)) ≡ record { x = cond t (off (a .x)) (off (b .x)); y = max (off (a .y)) (off (b .y)) }
+  unfolding choose
+  upper-by true e = ap (λ (z : ℕ). record { x = off (a .x); y = z }) (let z : off (b .y) ≡ max (off (a .y)) (off (b .y)) = omega (arith, leb-true (off (a .y)) (off (b .y)) e) in z)
+  upper-by false e = ap (λ (z : ℕ). record { x = off (b .x); y = z }) (let z : off (a .y) ≡ max (off (a .y)) (off (b .y)) = omega (arith, leb-false (off (a .y)) (off (b .y)) e) in z)
+
+  lower-site : site (lowerCorner a b) ≡ bend false (site a) (site b)
+  unfolding lowerCorner bend
+  lower-site = rw height (lower-by (leb (off (a .y)) (off (b .y))) refl)
+
+  upper-site : site (upperCorner a b) ≡ bend true (site a) (site b)
+  unfolding upperCorner bend
+  upper-site = rw height (upper-by (leb (off (a .y)) (off (b .y))) refl)
+
+  crossing-held : Held (crossing a b) × Held (crossing b a)
+  crossing-held = (record { x = p .x; y = q .y }, record { x = q .x; y = p .y })
+
+  choose-held : (t : Bool) (c d : Place) → Held c → Held d → Held (choose t c d)
+  unfolding choose
+  choose-held true c d h k = h
+  choose-held false c d h k = k
+
+  lower-held : Held (lowerCorner a b)
+  unfolding lowerCorner
+  lower-held = choose-held (leZ (a .y) (b .y)) (crossing b a) (crossing a b) (crossing-held .1) (crossing-held .0)
+
+  upper-held : Held (upperCorner a b)
+  unfolding upperCorner
+  upper-held = choose-held (leZ (a .y) (b .y)) (crossing a b) (crossing b a) (crossing-held .0) (crossing-held .1)
+
+  -- The legs of a run cover what the run does.
+  run-any : (u : Bool) (σ : Stride) → anyLeg (legsOf (shapeOf u a b) a b) σ ≡ runCovers u (site a) (site b) σ
+  unfolding shapeOf runCovers
+  run-any u σ = rw straight-site (go (straight (site a) (site b)) u)
+    where
+      or-no : (s : Bool) → (s || false) ≡ s
+      or-no true = refl
+      or-no false = refl
+
+      two : (c : Place) → (covers (site a) (site c) σ || (covers (site c) (site b) σ || false)) ≡ (covers (site a) (site c) σ || covers (site c) (site b) σ)
+      two c = ap (λ (z : Bool). covers (site a) (site c) σ || z) (or-no (covers (site c) (site b) σ))
+
+      go : (t v : Bool) → anyLeg (legsOf (choose t Straight (choose v Upper Lower)) a b) σ
+          ≡ cond t (covers (site a) (site b) σ) (covers (site a) (bend v (site a) (site b)) σ || covers (bend v (site a) (site b)) (site b) σ)
+      go true v = unfold choose legsOf anyLeg in or-no (covers (site a) (site b) σ)
+      go false true =
+          unfold choose legsOf anyLeg in
+          (two (upperCorner a b) ∙ ap (λ (z : Site). covers (site a) z σ || covers z (site b) σ) upper-site)
+      go false false =
+          unfold choose legsOf anyLeg in
+          (two (lowerCorner a b) ∙ ap (λ (z : Site). covers (site a) z σ || covers z (site b) σ) lower-site)
+
+-- A grid that holds all that i32 holds.
+module _ (m : ℕ) (big : 4294967296 ≤ m) where
+  held-in : (a : Place) → Held a → Within m (site a)
+  held-in a p = record { x-in = omega (arith, off-max (a .x) (p .x)); y-in = omega (arith, off-max (a .y) (p .y)) }
+
+  held-leg : (a b : Place) → Held a → Held b → HeldLeg m (record { from = a; to = b })
+  held-leg a b p q = record { from-held = p; to-held = q; from-in = held-in a p; to-in = held-in b q }
+
+  run-held : (shape : Shape) (a b : Place) → Held a → Held b → HeldLegs m (legsOf shape a b)
+  unfolding legsOf
+  run-held Straight a b p q = more-legs (held-leg a b p q) no-legs
+  run-held Lower a b p q =
+      let c = lower-held a b p q in
+      more-legs (held-leg a (lowerCorner a b) p c) (more-legs (held-leg (lowerCorner a b) b c q) no-legs)
+  run-held Upper a b p q =
+      let c = upper-held a b p q in
+      more-legs (held-leg a (upperCorner a b) p c) (more-legs (held-leg (upperCorner a b) b c q) no-legs)
+
+module _ (at : ℕ → Place) (near : ℕ → ℕ) where
+  -- The pins' sites.
+  abbrev pub sites : ℕ → Site
+  sites i = site (at i)
+
+  runs-held : (m : ℕ) → 4294967296 ≤ m → (s : ℕ → Bool) (n : ℕ) → ((r : ℕ) → r < n → near r ≤ r) → ((i : ℕ) → i < suc n → Held (at i)) → HeldLegs m (legsOfRuns at near s n)
+  unfolding legsOfRuns
+  runs-held m big s zero g h = no-legs
+  runs-held m big s (suc n) g h =
+      held-join (runs-held m big s n (λ r l. g r (omega arith)) (λ i l. h i (omega arith)))
+      (run-held m big (shapeOf (s n) (at (near n)) (at (suc n))) (at (near n)) (at (suc n)) (h (near n) (omega (arith, g n (omega arith)))) (h (suc n) (omega arith)))
+
+  or-turned : (s t : Bool) → (s || t) ≡ (t || s)
+  or-turned true true = refl
+  or-turned true false = refl
+  or-turned false true = refl
+  or-turned false false = refl
+
+  -- The legs of the runs cover what the runs do.
+  runs-any : (s : ℕ → Bool) (n : ℕ) → ((r : ℕ) → r < n → near r ≤ r) → ((i : ℕ) → i < suc n → Held (at i)) → (σ : Stride)
+      → anyLeg (legsOfRuns at near s n) σ ≡ covered sites near n s σ
+  unfolding legsOfRuns covered some
+  runs-any s zero g h σ = none σ
+    where
+      none : (σ : Stride) → anyLeg [] σ ≡ false
+      none σ = unfold anyLeg in refl
+  runs-any s (suc n) g h σ =
+      let a : Place = at (near n) in
+      let b : Place = at (suc n) in
+      any-join (legsOfRuns at near s n) (legsOf (shapeOf (s n) a b) a b) σ
+      ∙ ap₂ _||_ (runs-any s n (λ r l. g r (omega arith)) (λ i l. h i (omega arith)) σ) (one σ)
+      ∙ or-turned (covered sites near n s σ) (coversOf sites near n (s n) σ)
+    where
+      one : (σ : Stride) → anyLeg (legsOf (shapeOf (s n) (at (near n)) (at (suc n))) (at (near n)) (at (suc n))) σ ≡ coversOf sites near n (s n) σ
+      one σ = unfold coversOf in run-any (at (near n)) (at (suc n)) (h (near n) (omega (arith, g n (omega arith)))) (h (suc n) (omega arith)) (s n) σ
+
+  grid-by : (m : ℕ) → 4294967296 ≤ m → (s : ℕ → Bool) (n : ℕ) → ((r : ℕ) → r < n → near r ≤ r) → ((i : ℕ) → i < suc n → Held (at i))
+      → lengthOf (legsOfRuns at near s n) ≡ gridLength sites near m n s
+  unfolding gridLength
+  grid-by m big s n g h =
+      length-counted (runs-held m big s n g h)
+      ∙ over-same m (λ σ. oneIf (anyLeg (legsOfRuns at near s n) σ)) (λ σ. oneIf (covered sites near n s σ)) (λ σ. ap oneIf (runs-any s n g h σ))
+
+  -- The shape given to a straight run does not matter: where two choices agree on the bent runs, the legs are the same.
+  pub straight-shape : (n : ℕ) (s t : ℕ → Bool) → ((r : ℕ) → r < n → isStraight (at (near r)) (at (suc r)) ≡ false → s r ≡ t r)
+      → legsOfRuns at near s n ≡ legsOfRuns at near t n
+  unfolding legsOfRuns
+  straight-shape zero s t h = refl
+  straight-shape (suc n) s t h =
+      ap₂ (λ (ls : List Leg) (shape : Shape). ls ++ legsOf shape (at (near n)) (at (suc n)))
+      (straight-shape n s t (λ r l. h r (omega arith))) (go (isStraight (at (near n)) (at (suc n))) refl)
+    where
+      go : (b : Bool) → isStraight (at (near n)) (at (suc n)) ≡ b → shapeOf (s n) (at (near n)) (at (suc n)) ≡ shapeOf (t n) (at (near n)) (at (suc n))
+      go true e = unfold shapeOf choose in rw e
+      go false e = ap (λ (u : Bool). shapeOf u (at (near n)) (at (suc n))) (h n (omega arith) e)
+
+  module _ (n : ℕ) (held : (i : ℕ) → i < suc n → Held (at i)) (laid : Laid sites near n) where
+    on-grid : (m : ℕ) → 4294967296 ≤ m → (i : ℕ) → i < suc n → Within m (sites i)
+    on-grid m big i l = held-in m big (at i) (held i l)
+
+    -- The length by its definition is the length on any grid that holds the board ..
+    length-grid : (m : ℕ) → 4294967296 ≤ m → (s : ℕ → Bool) → lengthOf (legsOfRuns at near s n) ≡ gridLength sites near m n s
+    length-grid m big s = grid-by m big s n (laid .grown) held
+
+    length-sum-by : (m : ℕ) → 4294967296 ≤ m → (s : ℕ → Bool)
+        → lengthOf (legsOfRuns at near s n) + sumBelow n (straightLength sites near) ≡ sumBelow (suc n) (λ i. spread (armsAt sites near n s i))
+    length-sum-by m big s = omega (arith, length-grid m big s, grid-length sites near n laid s m (on-grid m big))
+
+    -- .. so the length, with the distances of the straight runs, is the sum over the pins of their four longest arms.
+    pub length-sum : (s : ℕ → Bool)
+        → lengthOf (legsOfRuns at near s n) + sumBelow n (straightLength sites near) ≡ sumBelow (suc n) (λ i. spread (armsAt sites near n s i))
+    length-sum = length-sum-by 4294967296 (omega arith)
+
+    cost-length-by : (m : ℕ) → 4294967296 ≤ m → (B : ℕ) (own : ℕ → Bool → ℕ) (s : ℕ → Bool)
+        → costOf sites near B own n s ≡ sumBelow n (λ r. own r (s r)) + lengthOf (legsOfRuns at near s n) * B
+    cost-length-by m big B own s =
+        cost-is sites near n laid m (on-grid m big) B own s
+        ∙ ap (λ (z : ℕ). sumBelow n (λ r. own r (s r)) + z * B) (sym (length-grid m big s))
+
+    -- The cost of a choice of shapes is its length, times B, with what the runs cost for themselves.
+    pub cost-length : (B : ℕ) (own : ℕ → Bool → ℕ) (s : ℕ → Bool)
+        → costOf sites near B own n s ≡ sumBelow n (λ r. own r (s r)) + lengthOf (legsOfRuns at near s n) * B
+    cost-length = cost-length-by 4294967296 (omega arith)
+
+    -- What is found pin by pin is at most what any choice of shapes costs ..
+    pub least-cost : (B : ℕ) (own : ℕ → Bool → ℕ) (s : ℕ → Bool) → ((r : ℕ) → r < n → May (isBent sites near r) (s r))
+        → leastCost sites near B own n ≤ sumBelow n (λ r. own r (s r)) + lengthOf (legsOfRuns at near s n) * B
+    unfolding leastCost costOf
+    least-cost B own s may =
+        omega (
+          arith,
+          best-least Tally (startTally sites near) (addTally sites near) (λ a. finishTally sites near a * B) near (isBent sites near) own n (laid .grown) s may,
+          cost-length B own s,
+        )
+
+    -- .. and some choice costs just that.
+    pub cost-reached : (B : ℕ) (own : ℕ → Bool → ℕ)
+        → (s : ℕ → Bool) × ((r : ℕ) → r < n → May (isBent sites near r) (s r))
+        × (leastCost sites near B own n ≡ sumBelow n (λ r. own r (s r)) + lengthOf (legsOfRuns at near s n) * B)
+    unfolding leastCost costOf
+    cost-reached B own =
+        let z = best-reached Tally (startTally sites near) (addTally sites near) (λ a. finishTally sites near a * B) near (isBent sites near) own n (laid .grown) in
+        (z .0, z .1, z .2 ∙ cost-length B own (z .0))
+
+    tame-legs : (s : ℕ → Bool) → legsOfRuns at near (tame sites near s) n ≡ legsOfRuns at near s n
+    unfolding tame
+    tame-legs s =
+        straight-shape n (tame sites near s) s
+        (λ r l e.
+        ap (λ (t : Bool). cond t false (s r))
+        (sym (straight-site (at (near r)) (at (suc r)) (held (near r) (omega (arith, laid .grown r l))) (held (suc r) (omega arith))) ∙ e))
+
+    -- The least length of all choices of shapes: none is shorter ..
+    pub least-length : (s : ℕ → Bool) → leastCost sites near 1 free n ≤ lengthOf (legsOfRuns at near s n)
+    least-length s =
+        omega
+        (arith, least-cost 1 free (tame sites near s) (λ r l. tame-may sites near s r), ap lengthOf (tame-legs s), sum-none n (λ r. 0) (λ r l. refl))
+
+    -- .. and some choice has it.
+    pub length-reached : (s : ℕ → Bool) × (leastCost sites near 1 free n ≡ lengthOf (legsOfRuns at near s n))
+    length-reached = let z = cost-reached 1 free in (z .0, omega (arith, z .2, sum-none n (λ r. 0) (λ r l. refl)))
+
+    -- The first of the shortest: where a mask of the shapes, below B, is what the runs cost for themselves, the shapes found are of least
+    -- length, and among those of least mask.
+    pub first-shortest : (B : ℕ) (own : ℕ → Bool → ℕ) → ((s : ℕ → Bool) → sumBelow n (λ r. own r (s r)) < B)
+        → (s : ℕ → Bool) × ((r : ℕ) → r < n → May (isBent sites near r) (s r))
+        × (leastCost sites near B own n ≡ sumBelow n (λ r. own r (s r)) + lengthOf (legsOfRuns at near s n) * B)
+        × ((t : ℕ → Bool) → ((r : ℕ) → r < n → May (isBent sites near r) (t r))
+        → (lengthOf (legsOfRuns at near s n) < lengthOf (legsOfRuns at near t n))
+        ⊎ ((lengthOf (legsOfRuns at near s n) ≡ lengthOf (legsOfRuns at near t n))
+        × (sumBelow n (λ r. own r (s r)) ≤ sumBelow n (λ r. own r (t r)))))
+    first-shortest B own small =
+        let z = cost-reached B own in (
+          z .0,
+          z .1,
+          z .2,
+          λ t may.
+              lexical (lengthOf (legsOfRuns at near (z .0) n)) (lengthOf (legsOfRuns at near t n)) (sumBelow n (λ r. own r (z .0 r))) (sumBelow n (λ r. own r (t r))) B
+              (small (z .0)) (small t)
+              (omega (arith, z .2, least-cost B own t may)),
+        )
