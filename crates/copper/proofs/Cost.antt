@@ -10,11 +10,12 @@ use lib.Dec.{eqb}
 use Rattle.grid.proofs.Flat.{order, Site, span, span-swap}
 use Rattle.copper.specs.declared.Arms.{Arms}
 use Rattle.copper.specs.declared.Tally.{Tally}
+use Rattle.copper.specs.Arms.{longest, spread, owed}
 use Rattle.copper.proofs.Sums.{sumBelow, sum-same, sum-less, sum-times}
 use Rattle.copper.proofs.Least.{entered, shown, total, best, May}
 use Rattle.copper.proofs.Cover.{gridLength}
 use Rattle.copper.proofs.Sharing.{near-tip, far-tip, far-straight, straight-true}
-use Rattle.copper.proofs.Star.{armTo, longest, spread, spread-arm, Within}
+use Rattle.copper.proofs.Star.{armTo, spread-arm, Within}
 use Rattle.copper.proofs.Laid.{Laid, isStraightRun, startArms, addArms, isBent, armsAt, straightLength, grid-length}
 
 -- Longer arms reach no less.
@@ -41,28 +42,24 @@ module _ (at : ℕ → Site) (near : ℕ → ℕ) where
   paidAt zero = 0
   paidAt (suc r) = straightLength at near r
 
-  -- What a pin shows at first, and with a run that leads on ..
+  -- What a pin shows at first, and with a run that leads on.
   unfoldable pub startTally : ℕ → Bool → Tally
   startTally i u = record { arms = startArms at near i u; paid = paidAt i }
 
   unfoldable pub addTally : Tally → ℕ → Bool → Tally
   addTally a r u = record { arms = addArms at near (a .arms) r u; paid = a .paid }
 
-  -- .. and what it costs in the end: its four longest arms, less what is paid.
-  unfoldable pub finishTally : Tally → ℕ
-  finishTally a = spread (a .arms) - a .paid
-
   -- The cost of a choice of shapes: B for each unit of length, and what each run costs for itself (its part of the mask of shapes, or nothing).
   unfoldable pub costOf : ℕ → (ℕ → Bool → ℕ) → ℕ → (ℕ → Bool) → ℕ
-  costOf B w n s = total Tally startTally addTally (λ a. finishTally a * B) near (isBent at near) w n s
+  costOf B w n s = total Tally startTally addTally (λ a. owed a * B) near (isBent at near) w n s
 
   -- The least cost, asked pin by pin.
   unfoldable pub leastCost : ℕ → (ℕ → Bool → ℕ) → ℕ → ℕ
-  leastCost B w n = best Tally startTally addTally (λ a. finishTally a * B) near (isBent at near) w n 0 0 (startTally 0 false)
+  leastCost B w n = best Tally startTally addTally (λ a. owed a * B) near (isBent at near) w n 0 0 (startTally 0 false)
 
   module _ (B : ℕ) (w : ℕ → Bool → ℕ) where
     abbrev tally : ℕ → (ℕ → Bool) → ℕ → Tally
-    tally m s i = shown Tally startTally addTally (λ a. finishTally a * B) near (isBent at near) w m s i
+    tally m s i = shown Tally startTally addTally (λ a. owed a * B) near (isBent at near) w m s i
 
     -- What a pin shows is its longest arms and what it has paid.
     tally-is : (m : ℕ) (s : ℕ → Bool) (i : ℕ) → (tally m s i .arms ≡ armsAt at near m s i) × (tally m s i .paid ≡ paidAt i)
@@ -136,7 +133,7 @@ module _ (at : ℕ → Site) (near : ℕ → ℕ) where
   module _ (n : ℕ) (laid : Laid at near n) (m : ℕ) (inside : (i : ℕ) → i < suc n → Within m (at i)) where
     -- The cost is the length, times B, with what the runs cost for themselves.
     pub cost-is : (B : ℕ) (w : ℕ → Bool → ℕ) (s : ℕ → Bool) → costOf B w n s ≡ sumBelow n (λ r. w r (s r)) + gridLength at near m n s * B
-    unfolding costOf total finishTally
+    unfolding costOf total owed
     cost-is B w s =
         let F : ℕ → ℕ = λ i. spread (armsAt at near n s i) - paidAt i in
         let e1 : sumBelow (suc n) (λ i. (spread (tally B w n s i .arms) - tally B w n s i .paid) * B) ≡ sumBelow (suc n) (λ i. F i * B) =

@@ -9,6 +9,7 @@ use lib.Dec.{eqb}
 use borrow.Author.Tests.{eq-eqb, eqb-true, eqb-false}
 use Rattle.grid.proofs.Flat.{Site, span}
 use Rattle.copper.specs.declared.Arms.{Arms}
+use Rattle.copper.specs.Arms.{noArms, longest, spread}
 use Rattle.copper.proofs.Sums.{oneIf, sumBelow, sum-same, sum-none, sum-only, sum-pair}
 use Rattle.copper.proofs.Tests.{never-both, and-left, and-right, and-both, or-which, or-left, or-right, fails-if, same-test}
 use Rattle.copper.proofs.Least.{entered, shown}
@@ -42,10 +43,7 @@ use Rattle.copper.proofs.Sharing.{
   straight-back,
 }
 use Rattle.copper.proofs.Star.{
-  noArms,
   armTo,
-  longest,
-  spread,
   star,
   star-arm-is,
   star-longest,

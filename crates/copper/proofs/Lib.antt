@@ -11,4 +11,5 @@ pub mod Laid
 pub mod Cost
 pub mod Counted
 pub mod Measured
+pub mod Moved
 pub mod Wired

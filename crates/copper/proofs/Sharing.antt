@@ -160,7 +160,7 @@ straight-true a b e = go (or-which (eqb (a .x) (b .x)) (eqb (a .y) (b .y)) e)
     go (inl h) = inl (eqb-true (a .x) (b .x) h)
     go (inr h) = inr (eqb-true (a .y) (b .y) h)
 
-straight-false : (a b : Site) → straight a b ≡ false → (a .x ≡ b .x → ⊥) × (a .y ≡ b .y → ⊥)
+pub straight-false : (a b : Site) → straight a b ≡ false → (a .x ≡ b .x → ⊥) × (a .y ≡ b .y → ⊥)
 unfolding straight
 straight-false a b e =
     let z = or-neither (eqb (a .x) (b .x)) (eqb (a .y) (b .y)) e in

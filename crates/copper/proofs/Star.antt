@@ -8,13 +8,11 @@ use lib.Dec.{eqb, ltb, leb}
 use borrow.Author.Tests.{eq-eqb, ne-eqb, eqb-true, eqb-false, ltb-true, ltb-false, lt-ltb, leb-true, leb-false, le-leb}
 use Rattle.grid.proofs.Flat.{order, Site, gap, span}
 use Rattle.copper.specs.declared.Arms.{Arms}
+use Rattle.copper.specs.Arms.{noArms, longest, spread}
 use Rattle.copper.proofs.Sums.{oneIf, sumBelow, sum-same, sum-but-one, sum-add, sum-none, sum-only}
 use Rattle.copper.proofs.Tests.{never-both, and-left, and-right, and-both, or-which, or-left, or-right, same-test}
 use Rattle.copper.proofs.Cover.{Stride, along, rise, covers, over}
 use Rattle.copper.proofs.Sharing.{On, in-row, in-column, on-of, on-covers}
-
-abbrev pub noArms : Arms
-noArms = record { east = 0; west = 0; north = 0; south = 0 }
 
 -- The leg from p to t reaches in one direction only.
 unfoldable pub armTo : Site → Site → Arms
@@ -25,20 +23,6 @@ armTo p t =
       north = cond (eqb (t .x) (p .x)) (t .y - p .y) 0;
       south = cond (eqb (t .x) (p .x)) (p .y - t .y) 0;
     }
-
--- The longest in each direction.
-unfoldable pub longest : Arms → Arms → Arms
-longest a b =
-    record {
-      east = max (a .east) (b .east);
-      west = max (a .west) (b .west);
-      north = max (a .north) (b .north);
-      south = max (a .south) (b .south);
-    }
-
--- All four together.
-unfoldable pub spread : Arms → ℕ
-spread a = a .east + a .west + a .north + a .south
 
 -- What the arms that leave p cover: a stretch of its row and a stretch of its column.
 unfoldable pub star : Site → Arms → Stride → Bool

@@ -22,64 +22,22 @@ use Rattle.copper.specs.declared.Leg.{Leg}
 use Rattle.copper.specs.declared.Tally.{Tally}
 use Rattle.copper.specs.Shapes.{isStraight, crossing, lowerCorner, upperCorner, cornerOf, shapeOf, legsOf}
 use Rattle.copper.specs.Length.{lengthOf, legsOfRuns}
+use Rattle.copper.specs.Arms.{spread, owed}
 use Rattle.copper.proofs.Sums.{oneIf, sumBelow, sum-none}
 use Rattle.copper.proofs.Least.{May, best-least, best-reached}
 use Rattle.copper.proofs.Cover.{Stride, covers, straight, bend, runCovers, some, over, coversOf, covered, gridLength}
-use Rattle.copper.proofs.Star.{spread, over-same, Within}
+use Rattle.copper.proofs.Star.{over-same, Within}
 use Rattle.copper.proofs.Laid.{Laid, isStraightRun, isBent, armsAt, straightLength, grid-length}
-use Rattle.copper.proofs.Cost.{lexical, free, startTally, addTally, finishTally, costOf, leastCost, tame, tame-may, cost-is}
-use Rattle.copper.proofs.Counted.{either-is}
-use Rattle.copper.proofs.Measured.{same-x, same-y, HeldLeg, HeldLegs, no-legs, more-legs, held-join, anyLeg, any-join, length-counted}
+use Rattle.copper.proofs.Cost.{lexical, free, startTally, addTally, costOf, leastCost, tame, tame-may, cost-is}
+use Rattle.copper.proofs.Moved.{straight-site, lower-site, upper-site, lower-held, upper-held}
+use Rattle.copper.proofs.Measured.{HeldLeg, HeldLegs, no-legs, more-legs, held-join, anyLeg, any-join, length-counted}
 
--- The words of the definition, moved.
+-- The run from a to b.
 module _ (a b : Place) (p : Held a) (q : Held b) where
-  straight-site : isStraight a b ≡ straight (site a) (site b)
-  unfolding isStraight straight
-  straight-site = either-is (sameNumber (a .x) (b .x)) (sameNumber (a .y) (b .y)) ∙ ap₂ _||_ (same-x a b p q) (same-y a b p q)
-
-  height : leZ (a .y) (b .y) ≡ leb (off (a .y)) (off (b .y))
-  height = leZ-off (a .y) (b .y) (p .y) (q .y)
-
-  lower-by : (t : Bool) → leb (off (a .y)) (off (b .y)) ≡ t
-      → site (choose t (crossing b a) (crossing a b)) ≡ record { x = cond t (off (b .x)) (off (a .x)); y = min (off (a .y)) (off (b .y)) }
-  unfolding choose
-  lower-by true e = ap (λ (z : ℕ). record { x = off (b .x); y = z }) (let z : off (a .y) ≡ min (off (a .y)) (off (b .y)) = omega (arith, leb-true (off (a .y)) (off (b .y)) e) in z)
-  lower-by false e = ap (λ (z : ℕ). record { x = off (a .x); y = z }) (let z : off (b .y) ≡ min (off (a .y)) (off (b .y)) = omega (arith, leb-false (off (a .y)) (off (b .y)) e) in z)
-
-  upper-by : (t : Bool) → leb (off (a .y)) (off (b .y)) ≡ t
-      → site (choose t (crossing a b) (crossing b a)) ≡ record { x = cond t (off (a .x)) (off (b .x)); y = max (off (a .y)) (off (b .y)) }
-  unfolding choose
-  upper-by true e = ap (λ (z : ℕ). record { x = off (a .x); y = z }) (let z : off (b .y) ≡ max (off (a .y)) (off (b .y)) = omega (arith, leb-true (off (a .y)) (off (b .y)) e) in z)
-  upper-by false e = ap (λ (z : ℕ). record { x = off (b .x); y = z }) (let z : off (a .y) ≡ max (off (a .y)) (off (b .y)) = omega (arith, leb-false (off (a .y)) (off (b .y)) e) in z)
-
-  lower-site : site (lowerCorner a b) ≡ bend false (site a) (site b)
-  unfolding lowerCorner bend
-  lower-site = rw height (lower-by (leb (off (a .y)) (off (b .y))) refl)
-
-  upper-site : site (upperCorner a b) ≡ bend true (site a) (site b)
-  unfolding upperCorner bend
-  upper-site = rw height (upper-by (leb (off (a .y)) (off (b .y))) refl)
-
-  crossing-held : Held (crossing a b) × Held (crossing b a)
-  crossing-held = (record { x = p .x; y = q .y }, record { x = q .x; y = p .y })
-
-  choose-held : (t : Bool) (c d : Place) → Held c → Held d → Held (choose t c d)
-  unfolding choose
-  choose-held true c d h k = h
-  choose-held false c d h k = k
-
-  lower-held : Held (lowerCorner a b)
-  unfolding lowerCorner
-  lower-held = choose-held (leZ (a .y) (b .y)) (crossing b a) (crossing a b) (crossing-held .1) (crossing-held .0)
-
-  upper-held : Held (upperCorner a b)
-  unfolding upperCorner
-  upper-held = choose-held (leZ (a .y) (b .y)) (crossing a b) (crossing b a) (crossing-held .0) (crossing-held .1)
-
   -- The legs of a run cover what the run does.
   run-any : (u : Bool) (σ : Stride) → anyLeg (legsOf (shapeOf u a b) a b) σ ≡ runCovers u (site a) (site b) σ
   unfolding shapeOf runCovers
-  run-any u σ = rw straight-site (go (straight (site a) (site b)) u)
+  run-any u σ = rw (straight-site a b p q) (go (straight (site a) (site b)) u)
     where
       or-no : (s : Bool) → (s || false) ≡ s
       or-no true = refl
@@ -93,10 +51,10 @@ module _ (a b : Place) (p : Held a) (q : Held b) where
       go true v = unfold choose legsOf anyLeg in or-no (covers (site a) (site b) σ)
       go false true =
           unfold choose legsOf anyLeg in
-          (two (upperCorner a b) ∙ ap (λ (z : Site). covers (site a) z σ || covers z (site b) σ) upper-site)
+          (two (upperCorner a b) ∙ ap (λ (z : Site). covers (site a) z σ || covers z (site b) σ) (upper-site a b p q))
       go false false =
           unfold choose legsOf anyLeg in
-          (two (lowerCorner a b) ∙ ap (λ (z : Site). covers (site a) z σ || covers z (site b) σ) lower-site)
+          (two (lowerCorner a b) ∙ ap (λ (z : Site). covers (site a) z σ || covers z (site b) σ) (lower-site a b p q))
 
 -- A grid that holds all that i32 holds.
 module _ (m : ℕ) (big : 4294967296 ≤ m) where
@@ -207,7 +165,7 @@ module _ (at : ℕ → Place) (near : ℕ → ℕ) where
     least-cost B own s may =
         omega (
           arith,
-          best-least Tally (startTally sites near) (addTally sites near) (λ a. finishTally sites near a * B) near (isBent sites near) own n (laid .grown) s may,
+          best-least Tally (startTally sites near) (addTally sites near) (λ a. owed a * B) near (isBent sites near) own n (laid .grown) s may,
           cost-length B own s,
         )
 
@@ -217,7 +175,7 @@ module _ (at : ℕ → Place) (near : ℕ → ℕ) where
         × (leastCost sites near B own n ≡ sumBelow n (λ r. own r (s r)) + lengthOf (legsOfRuns at near s n) * B)
     unfolding leastCost costOf
     cost-reached B own =
-        let z = best-reached Tally (startTally sites near) (addTally sites near) (λ a. finishTally sites near a * B) near (isBent sites near) own n (laid .grown) in
+        let z = best-reached Tally (startTally sites near) (addTally sites near) (λ a. owed a * B) near (isBent sites near) own n (laid .grown) in
         (z .0, z .1, z .2 ∙ cost-length B own (z .0))
 
     tame-legs : (s : ℕ → Bool) → legsOfRuns at near (tame sites near s) n ≡ legsOfRuns at near s n

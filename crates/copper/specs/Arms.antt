@@ -23,10 +23,10 @@ reach goes a b = choose goes (beyond a b) 0
 unfoldable pub armsTo : Place → Place → Arms
 armsTo pin tip =
     record {
-      east = reach (sameNumber (pin .y) (tip .y)) (pin .x) (tip .x);
-      west = reach (sameNumber (pin .y) (tip .y)) (tip .x) (pin .x);
-      north = reach (sameNumber (pin .x) (tip .x)) (pin .y) (tip .y);
-      south = reach (sameNumber (pin .x) (tip .x)) (tip .y) (pin .y);
+      east = reach (sameNumber (tip .y) (pin .y)) (pin .x) (tip .x);
+      west = reach (sameNumber (tip .y) (pin .y)) (tip .x) (pin .x);
+      north = reach (sameNumber (tip .x) (pin .x)) (pin .y) (tip .y);
+      south = reach (sameNumber (tip .x) (pin .x)) (tip .y) (pin .y);
     }
 
 -- No leg leaves the pin.

@@ -141,8 +141,8 @@ fn reach_of(goes: bool, a: i32, b: i32) -> u64
 fn arms_to(pin: Place, tip: Place) -> Arms
     ensures { λ r. ⌜ r ≡ armsTo pin tip ⌝ }
 {
-    let row = pin.y == tip.y;
-    let column = pin.x == tip.x;
+    let row = tip.y == pin.y;
+    let column = tip.x == pin.x;
     let east = reach_of(row, pin.x, tip.x);
     let west = reach_of(row, tip.x, pin.x);
     let north = reach_of(column, pin.y, tip.y);

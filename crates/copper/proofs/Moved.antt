@@ -1,0 +1,121 @@
+-- The words of the definitions, moved by 2 ^ 31: whether a run is straight, and where its corners are. Assumes that places are held by i32.
+use mathlib.Core.Path.{_≡_, refl, sym, ap, ap₂, _∙_}
+use mathlib.Core.Bool.{Bool, true, false, cond, _||_}
+use Prim.Native.Nat.{ℕ, _≤_, _<_, min, max}
+use native.Mathlib.Omega.{arith}
+use lib.Signed.{leZ}
+use lib.Dec.{leb}
+use borrow.Author.Tests.{leb-true, leb-false}
+use Rattle.refusal.specs.Tests.{either, choose}
+use Rattle.grid.specs.declared.Place.{Place}
+use Rattle.grid.specs.Place.{sameNumber}
+use Rattle.grid.proofs.Signed.{off, leZ-off}
+use Rattle.grid.proofs.Flat.{Site, site, Held}
+use Rattle.copper.specs.declared.Shape.the-variants.{Straight, Lower, Upper}
+use Rattle.copper.specs.Shapes.{isStraight, crossing, lowerCorner, upperCorner, cornerOf, shapeOf}
+use Rattle.copper.proofs.Cover.{straight, bend}
+use Rattle.copper.proofs.Sharing.{near-tip, far-tip, straight-false}
+use Rattle.copper.proofs.Counted.{either-is}
+use Rattle.copper.proofs.Measured.{same-x, same-y}
+
+-- Two heights that differ are in one order only.
+ordered : (s t : Bool) (h k v w : ℕ) → (h ≡ k → ⊥) → leb h k ≡ s → leb k h ≡ t → cond t v w ≡ cond s w v
+ordered true true h k v w n e f = absurd (n (omega (arith, leb-true h k e, leb-true k h f)))
+ordered true false h k v w n e f = refl
+ordered false true h k v w n e f = refl
+ordered false false h k v w n e f = absurd (omega (arith, leb-false h k e, leb-false k h f))
+
+-- The bend is the same seen from either end.
+pub bend-turned : (u : Bool) (a b : Site) → (a .y ≡ b .y → ⊥) → bend u b a ≡ bend u a b
+unfolding bend
+bend-turned false a b n =
+    ap₂ (λ (v w : ℕ). record { x = v; y = w }) (ordered (leb (a .y) (b .y)) (leb (b .y) (a .y)) (a .y) (b .y) (a .x) (b .x) n refl refl)
+    (let z : min (b .y) (a .y) ≡ min (a .y) (b .y) = omega arith in z)
+bend-turned true a b n =
+    ap₂ (λ (v w : ℕ). record { x = v; y = w }) (ordered (leb (a .y) (b .y)) (leb (b .y) (a .y)) (a .y) (b .y) (b .x) (a .x) n refl refl)
+    (let z : max (b .y) (a .y) ≡ max (a .y) (b .y) = omega arith in z)
+
+-- The run from a to b.
+module _ (a b : Place) (p : Held a) (q : Held b) where
+  pub straight-site : isStraight a b ≡ straight (site a) (site b)
+  unfolding isStraight straight
+  straight-site = either-is (sameNumber (a .x) (b .x)) (sameNumber (a .y) (b .y)) ∙ ap₂ _||_ (same-x a b p q) (same-y a b p q)
+
+  height : leZ (a .y) (b .y) ≡ leb (off (a .y)) (off (b .y))
+  height = leZ-off (a .y) (b .y) (p .y) (q .y)
+
+  lower-by : (t : Bool) → leb (off (a .y)) (off (b .y)) ≡ t
+      → site (choose t (crossing b a) (crossing a b)) ≡ record { x = cond t (off (b .x)) (off (a .x)); y = min (off (a .y)) (off (b .y)) }
+  unfolding choose
+  lower-by true e = ap (λ (z : ℕ). record { x = off (b .x); y = z }) (let z : off (a .y) ≡ min (off (a .y)) (off (b .y)) = omega (arith, leb-true (off (a .y)) (off (b .y)) e) in z)
+  lower-by false e = ap (λ (z : ℕ). record { x = off (a .x); y = z }) (let z : off (b .y) ≡ min (off (a .y)) (off (b .y)) = omega (arith, leb-false (off (a .y)) (off (b .y)) e) in z)
+
+  upper-by : (t : Bool) → leb (off (a .y)) (off (b .y)) ≡ t
+      → site (choose t (crossing a b) (crossing b a)) ≡ record { x = cond t (off (a .x)) (off (b .x)); y = max (off (a .y)) (off (b .y)) }
+  unfolding choose
+  upper-by true e = ap (λ (z : ℕ). record { x = off (a .x); y = z }) (let z : off (b .y) ≡ max (off (a .y)) (off (b .y)) = omega (arith, leb-true (off (a .y)) (off (b .y)) e) in z)
+  upper-by false e = ap (λ (z : ℕ). record { x = off (b .x); y = z }) (let z : off (a .y) ≡ max (off (a .y)) (off (b .y)) = omega (arith, leb-false (off (a .y)) (off (b .y)) e) in z)
+
+  pub lower-site : site (lowerCorner a b) ≡ bend false (site a) (site b)
+  unfolding lowerCorner bend
+  lower-site = rw height (lower-by (leb (off (a .y)) (off (b .y))) refl)
+
+  pub upper-site : site (upperCorner a b) ≡ bend true (site a) (site b)
+  unfolding upperCorner bend
+  upper-site = rw height (upper-by (leb (off (a .y)) (off (b .y))) refl)
+
+  crossing-held : Held (crossing a b) × Held (crossing b a)
+  crossing-held = (record { x = p .x; y = q .y }, record { x = q .x; y = p .y })
+
+  choose-held : (t : Bool) (c d : Place) → Held c → Held d → Held (choose t c d)
+  unfolding choose
+  choose-held true c d h k = h
+  choose-held false c d h k = k
+
+  pub lower-held : Held (lowerCorner a b)
+  unfolding lowerCorner
+  lower-held = choose-held (leZ (a .y) (b .y)) (crossing b a) (crossing a b) (crossing-held .1) (crossing-held .0)
+
+  pub upper-held : Held (upperCorner a b)
+  unfolding upperCorner
+  upper-held = choose-held (leZ (a .y) (b .y)) (crossing a b) (crossing b a) (crossing-held .0) (crossing-held .1)
+
+module _ (a b : Place) (p : Held a) (q : Held b) where
+  pub corner-held : (u : Bool) → Held (cornerOf (shapeOf u a b) a b)
+  unfolding shapeOf
+  corner-held u = go (isStraight a b) u
+    where
+      go : (t v : Bool) → Held (cornerOf (choose t Straight (choose v Upper Lower)) a b)
+      go true v = unfold choose in q
+      go false true = unfold choose in upper-held a b p q
+      go false false = unfold choose in lower-held a b p q
+
+  -- The leg that leaves the near end ends at its tip ..
+  pub near-site : (u : Bool) → site (cornerOf (shapeOf u a b) a b) ≡ near-tip u (site a) (site b)
+  unfolding shapeOf near-tip
+  near-site u = rw (straight-site a b p q) (go (straight (site a) (site b)) u)
+    where
+      go : (t v : Bool) → site (cornerOf (choose t Straight (choose v Upper Lower)) a b) ≡ cond t (site b) (bend v (site a) (site b))
+      go true v = unfold choose in refl
+      go false true = unfold choose in upper-site a b p q
+      go false false = unfold choose in lower-site a b p q
+
+  -- .. and the one that leaves the far end at its own.
+  pub far-site : (u : Bool) → site (cornerOf (shapeOf u a b) b a) ≡ far-tip u (site a) (site b)
+  unfolding shapeOf far-tip
+  far-site u = rw (straight-site a b p q) (go (straight (site a) (site b)) refl u)
+    where
+      go : (t : Bool) → straight (site a) (site b) ≡ t → (v : Bool)
+          → site (cornerOf (choose t Straight (choose v Upper Lower)) b a) ≡ cond t (site a) (bend v (site a) (site b))
+      go true e v = unfold choose in refl
+      go false e true = unfold choose in (upper-site b a q p ∙ bend-turned true (site a) (site b) (straight-false (site a) (site b) e .1))
+      go false e false = unfold choose in (lower-site b a q p ∙ bend-turned false (site a) (site b) (straight-false (site a) (site b) e .1))
+
+  pub far-held : (u : Bool) → Held (cornerOf (shapeOf u a b) b a)
+  unfolding shapeOf
+  far-held u = go (isStraight a b) u
+    where
+      go : (t v : Bool) → Held (cornerOf (choose t Straight (choose v Upper Lower)) b a)
+      go true v = unfold choose in p
+      go false true = unfold choose in upper-held b a q p
+      go false false = unfold choose in lower-held b a q p

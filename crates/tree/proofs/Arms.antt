@@ -1,0 +1,113 @@
+-- What the definitions of offers and boxes come to, by the tests that the code makes. Assumes nothing.
+use mathlib.Core.Path.{_≡_}
+use mathlib.Core.Bool.{Bool, true, false, not}
+use mathlib.Core.List.{List}
+use Prim.Native.Nat.{ℕ}
+use lib.Dec.{eqb}
+use lib.IntN.{ℤ}
+use borrow.Author.Tests.{eq-eqb, ne-eqb}
+use Rattle.refusal.specs.Tests.{both, either, choose}
+use Rattle.grid.specs.declared.Place.{Place}
+use Rattle.grid.specs.declared.Spot.{Spot}
+use Rattle.grid.specs.Weight.{comesBefore}
+use Rattle.tree.specs.declared.Run.{Run}
+use Rattle.tree.specs.declared.Offer.{Offer}
+use Rattle.tree.specs.declared.Choice.{Choice}
+use Rattle.tree.specs.Growth.{present, placeOf, spotAt}
+use Rattle.tree.specs.Boxes.{fails, under, overlap, boxesShare, isEnd, common, clash}
+use Rattle.tree.specs.Offers.{noOffer, offerOf, firstOffer, betterOffer, nextOffer, betterChoice}
+
+-- ---- the earlier of a choice and a pin with what it keeps
+module _ (c : Choice) (pin : ℕ) (o : Offer) where
+  pub choice-skip : o .waits ≡ false → c ≡ betterChoice c pin o
+  unfolding betterChoice choose
+  choice-skip e = rw e
+
+  pub choice-first : o .waits ≡ true → c .offer .waits ≡ false → record { pin = pin; offer = o } ≡ betterChoice c pin o
+  unfolding betterChoice choose
+  choice-first e f = rw (e, f)
+
+  pub choice-sooner : {t : Bool} → o .waits ≡ true → c .offer .waits ≡ true → t ≡ comesBefore (o .pair) (c .offer .pair) → t ≡ true
+      → record { pin = pin; offer = o } ≡ betterChoice c pin o
+  unfolding betterChoice choose
+  choice-sooner e f g h = rw (e, f, ← g, h)
+
+  pub choice-later : {t : Bool} → o .waits ≡ true → c .offer .waits ≡ true → t ≡ comesBefore (o .pair) (c .offer .pair) → t ≡ false
+      → c ≡ betterChoice c pin o
+  unfolding betterChoice choose
+  choice-later e f g h = rw (e, f, ← g, h)
+
+-- ---- the earlier of two offers
+module _ (o p : Offer) {t : Bool} (g : t ≡ comesBefore (p .pair) (o .pair)) where
+  pub offer-sooner : t ≡ true → p ≡ betterOffer o p
+  unfolding betterOffer choose
+  offer-sooner h = rw (← g, h)
+
+  pub offer-later : t ≡ false → o ≡ betterOffer o p
+  unfolding betterOffer choose
+  offer-later h = rw (← g, h)
+
+-- ---- what a pin keeps when the first pin is reached
+module _ (first : ℕ) (from : Place) (pin : ℕ) (s : Spot) where
+  pub first-absent : present s ≡ false → noOffer ≡ firstOffer first from pin s
+  unfolding firstOffer both choose
+  first-absent e = rw e
+
+  pub first-self : present s ≡ true → pin ≡ first → noOffer ≡ firstOffer first from pin s
+  unfolding firstOffer both fails choose
+  first-self e q = rw (e, eq-eqb pin first q)
+
+  pub first-other : present s ≡ true → (pin ≡ first → ⊥) → offerOf first from pin (placeOf s) ≡ firstOffer first from pin s
+  unfolding firstOffer both fails choose
+  first-other e q = rw (e, ne-eqb pin first q)
+
+-- ---- what a pin keeps when one more pin is reached
+module _ (near : ℕ) (from : Place) (pin : ℕ) (s : Spot) (o : Offer) where
+  pub next-still : o .waits ≡ false → o ≡ nextOffer near from pin s o
+  unfolding nextOffer choose
+  next-still e = rw e
+
+  pub next-self : o .waits ≡ true → pin ≡ near → noOffer ≡ nextOffer near from pin s o
+  unfolding nextOffer choose
+  next-self e q = rw (e, eq-eqb pin near q)
+
+  pub next-other : o .waits ≡ true → (pin ≡ near → ⊥) → betterOffer o (offerOf near from pin (placeOf s)) ≡ nextOffer near from pin s o
+  unfolding nextOffer choose
+  next-other e q = rw (e, ne-eqb pin near q)
+
+-- ---- boxes
+pub overlap-under : {s : Bool} (a b c d : ℤ) → s ≡ under a b c d → s ≡ true → false ≡ overlap a b c d
+unfolding overlap fails both choose
+overlap-under a b c d e h = rw (← e, h)
+
+pub overlap-else : {s t : Bool} (a b c d : ℤ) → s ≡ under a b c d → t ≡ under c d a b → s ≡ false → not t ≡ overlap a b c d
+unfolding overlap fails both choose
+overlap-else {t = true} a b c d e f h = rw (← e, h, ← f)
+overlap-else {t = false} a b c d e f h = rw (← e, h, ← f)
+
+pub end-near : (pin : ℕ) (r : Run) → pin ≡ r .near → true ≡ isEnd pin r
+unfolding isEnd either
+end-near pin r q = rw (eq-eqb pin (r .near) q)
+
+pub end-far : (pin : ℕ) (r : Run) → (pin ≡ r .near → ⊥) → eqb pin (r .far) ≡ isEnd pin r
+unfolding isEnd either
+end-far pin r q = rw (ne-eqb pin (r .near) q)
+
+module _ {s : Bool} (r q : Run) (e : s ≡ isEnd (r .near) q) where
+  pub common-near : s ≡ true → true ≡ common r q
+  unfolding common either
+  common-near h = rw (← e, h)
+
+  pub common-far : {t : Bool} → t ≡ isEnd (r .far) q → s ≡ false → t ≡ common r q
+  unfolding common either
+  common-far f h = rw (← e, h) f
+
+module _ {s : Bool} (feed : List Spot) (r q : Run) (e : s ≡ common r q) where
+  pub clash-common : s ≡ true → false ≡ clash feed r q
+  unfolding clash fails both choose
+  clash-common h = rw (← e, h)
+
+  pub clash-boxes : s ≡ false
+      → boxesShare (placeOf (spotAt feed (r .near))) (placeOf (spotAt feed (r .far))) (placeOf (spotAt feed (q .near))) (placeOf (spotAt feed (q .far))) ≡ clash feed r q
+  unfolding clash fails both choose
+  clash-boxes h = rw (← e, h)

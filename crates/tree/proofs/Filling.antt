@@ -1,0 +1,59 @@
+-- The loops that fill the offers: one turn, and the end; and places of a feed that stand on the board. Assumes nothing.
+use mathlib.Core.Path.{_≡_, refl, sym, ap, _∙_}
+use mathlib.Core.Bool.{true}
+use mathlib.Core.List.{List, [], _∷_}
+use Prim.Native.Nat.{ℕ, zero, suc, _+_, _<_, _≤_}
+use native.Mathlib.Omega.{arith}
+use lib.ListN.{length, getD, set}
+use Rattle.refusal.proofs.Tests.{both-left, both-right, both-of}
+use Rattle.refusal.specs.Tests.{both}
+use Rattle.grid.specs.declared.Place.{Place}
+use Rattle.grid.specs.declared.Spot.{Spot}
+use Rattle.grid.specs.Place.{inside, onBoard}
+use Rattle.tree.specs.declared.Offer.{Offer}
+use Rattle.tree.specs.Growth.{placeOf, spotAt, allInside}
+use Rattle.tree.specs.Offers.{noOffer, firstOffer, nextOffer, firstOffers, nextOffers}
+use Rattle.tree.proofs.Loops.{filled, filled-turn, filled-next, filled-end}
+use Rattle.tree.proofs.Choosing.{first-at, first-many, next-at, next-many}
+
+-- Every place of the feed, and the middle of the board that stands in for a pin that is not there, is on the board.
+pub inside-at : (feed : List Spot) → allInside feed ≡ true → (k : ℕ) → inside (placeOf (spotAt feed k)) ≡ true
+unfolding allInside inside onBoard both
+inside-at [] e k = refl
+inside-at (s ∷ feed) e zero = both-left (inside (placeOf s)) (allInside feed) e
+inside-at (s ∷ feed) e (suc k) = inside-at feed (both-right (inside (placeOf s)) (allInside feed) e) k
+
+pub all-inside : (feed : List Spot) → ((k : ℕ) → k < length feed → inside (placeOf (spotAt feed k)) ≡ true) → allInside feed ≡ true
+unfolding allInside
+all-inside [] h = refl
+all-inside (s ∷ feed) h = both-of (h 0 (omega arith)) (all-inside feed (λ k l. h (suc k) (omega arith)))
+
+module _ (f : ℕ) (from : Place) (feed : List Spot) (l o : List Offer) (i : ℕ) (full : length l ≡ length feed)
+    (so-far : o ≡ filled (firstOffers f from 0 feed) l i) where
+  pub first-fill : (n : Offer) → i < length feed → n ≡ firstOffer f from i (spotAt feed i) → set o i n ≡ filled (firstOffers f from 0 feed) l (i + 1)
+  first-fill n h e =
+      let m = first-many f from 0 feed in
+      let q : n ≡ getD (firstOffers f from 0 feed) i noOffer =
+      e ∙ ap (λ (z : ℕ). firstOffer f from z (spotAt feed i)) (omega arith) ∙ sym (first-at f from 0 feed i h) in
+      rw (so-far, q) (filled-turn (firstOffers f from 0 feed) l i noOffer (omega arith) (omega arith))
+
+  pub first-full : length feed ≤ i → o ≡ firstOffers f from 0 feed
+  first-full h = let m = first-many f from 0 feed in so-far ∙ filled-end (firstOffers f from 0 feed) l i (omega arith) (omega arith)
+
+module _ (near : ℕ) (from : Place) (feed : List Spot) (l o : List Offer) (i : ℕ) (full : length l ≡ length feed)
+    (so-far : o ≡ filled (nextOffers near from 0 feed l) l i) where
+  pub next-fill : (n : Offer) → i < length feed → n ≡ nextOffer near from i (spotAt feed i) (getD o i noOffer)
+      → set o i n ≡ filled (nextOffers near from 0 feed l) l (i + 1)
+  next-fill n h e =
+      let m = next-many near from 0 feed l full in
+      let old : getD o i noOffer ≡ getD l i noOffer =
+      ap (λ (z : List Offer). getD z i noOffer) so-far ∙ filled-next (nextOffers near from 0 feed l) l i noOffer (omega arith) (omega arith) in
+      let q : n ≡ getD (nextOffers near from 0 feed l) i noOffer =
+      e ∙ ap (nextOffer near from i (spotAt feed i)) old ∙ ap (λ (z : ℕ). nextOffer near from z (spotAt feed i) (getD l i noOffer)) (omega arith)
+      ∙ sym (next-at near from 0 feed l i full h) in
+      rw (so-far, q) (filled-turn (nextOffers near from 0 feed l) l i noOffer (omega arith) (omega arith))
+
+  pub next-full : length feed ≤ i → o ≡ nextOffers near from 0 feed l
+  next-full h =
+      let m = next-many near from 0 feed l full in
+      so-far ∙ filled-end (nextOffers near from 0 feed l) l i (omega arith) (omega arith)

@@ -1,0 +1,89 @@
+-- The loop that takes runs: what it keeps, how a turn goes, and how it ends. Assumes nothing.
+use mathlib.Core.Path.{_≡_, refl, sym, ap, _∙_}
+use mathlib.Core.Bool.{true, false}
+use mathlib.Core.List.{List, [], _∷_, _++_}
+use Prim.Native.Nat.{ℕ, zero, suc, _+_, _-_, _<_, _≤_}
+use native.Mathlib.Omega.{arith}
+use lib.ListN.{length, set, replicate, length-append}
+use lib.Seq.{set-at, append-snoc}
+use Rattle.refusal.proofs.Tests.{choose-yes, choose-no}
+use Rattle.grid.specs.declared.Spot.{Spot}
+use Rattle.tree.specs.declared.Run.{Run}
+use Rattle.tree.specs.declared.Offer.{Offer}
+use Rattle.tree.specs.declared.Choice.{Choice}
+use Rattle.tree.specs.Growth.{placeOf, spotAt, run}
+use Rattle.tree.specs.Trees.{entries}
+use Rattle.tree.specs.Offers.{nextOffers, choiceOf, takenRuns, takenOf}
+
+-- What the pins keep when pin t is reached.
+abbrev pub after : List Spot → ℕ → List Offer → List Offer
+after feed t offers = nextOffers t (placeOf (spotAt feed t)) 0 feed offers
+
+-- No pin waits: nothing more is taken.
+pub nothing : (feed : List Spot) (turns : ℕ) (offers : List Offer) → choiceOf offers .offer .waits ≡ false → takenRuns feed turns offers ≡ []
+unfolding takenRuns
+nothing feed zero offers e = refl
+nothing feed (suc turns) offers e = choose-no _ [] e
+
+-- A pin waits: the earliest offer is taken.
+pub something : (feed : List Spot) (turns : ℕ) (offers : List Offer) → choiceOf offers .offer .waits ≡ true
+    → takenRuns feed (suc turns) offers
+    ≡ run (choiceOf offers .offer .near) (choiceOf offers .pin) ∷ takenRuns feed turns (after feed (choiceOf offers .pin) offers)
+unfolding takenRuns
+something feed turns offers e = choose-yes _ [] e
+
+append-nil : {A : Type 0} (m : List A) → m ++ [] ≡ m
+append-nil [] = refl
+append-nil (a ∷ m) = ap (_∷_ a) (append-nil m)
+
+-- One entry more.
+pub entries-more : (l : List Run) (r : Run) → length l < 31 → set (entries l) (length l) r ≡ entries (l ++ (r ∷ []))
+unfolding entries
+entries-more l r h =
+    let e : 31 - length l ≡ suc (31 - suc (length l)) = omega arith in
+    let n : length (l ++ (r ∷ [])) ≡ suc (length l) = length-append l (r ∷ []) ∙ omega arith in
+    rw (e, n)
+    (set-at l (run 0 0) (replicate (31 - suc (length l)) (run 0 0)) r (length l) refl
+    ∙ sym (append-snoc l r (replicate (31 - suc (length l)) (run 0 0))))
+
+-- The runs taken so far, in their entries; with those still to be taken they are all.
+pub record Going (feed : List Spot) (opening offers : List Offer) (runs : List Run) (count : ℕ) : Type 0 where
+  pub taken : List Run
+  pub many : count ≡ length taken
+  pub few : count ≤ 31
+  pub kept : runs ≡ entries taken
+  pub left : taken ++ takenRuns feed (31 - count) offers ≡ takenRuns feed 31 opening
+
+pub going-start : (feed : List Spot) (opening : List Offer) → Going feed opening opening (replicate 31 (run 0 0)) 0
+unfolding entries
+going-start feed opening = record { taken = []; many = refl; few = omega arith; kept = refl; left = refl }
+
+module _ {feed : List Spot} {opening offers : List Offer} {runs : List Run} {count : ℕ} (g : Going feed opening offers runs count) where
+  pub going-turn : (c : Choice) (next : List Offer) → c ≡ choiceOf offers → c .offer .waits ≡ true → count < 31 → next ≡ after feed (c .pin) offers
+      → Going feed opening next (set runs count (run (c .offer .near) (c .pin))) (count + 1)
+  going-turn c next ec w h en =
+      let e : 31 - count ≡ suc (31 - (count + 1)) = omega arith in
+      let r : Run = run (c .offer .near) (c .pin) in
+      let one : takenRuns feed (31 - count) offers ≡ r ∷ takenRuns feed (31 - (count + 1)) next =
+      rw (e, en, ec) (something feed (31 - (count + 1)) offers (rw ec at w)) in
+      record {
+        taken = g .taken ++ (r ∷ []);
+        many = omega (arith, length-append (g .taken) (r ∷ []), g .many);
+        few = omega arith;
+        kept = rw (g .kept, g .many) (entries-more (g .taken) r (omega (arith, g .many)));
+        left = append-snoc (g .taken) r (takenRuns feed (31 - (count + 1)) next) ∙ ap (λ (l : List Run). g .taken ++ l) (sym one) ∙ g .left;
+      }
+
+  pub going-all : takenRuns feed (31 - count) offers ≡ [] → record { count = count; runs = runs } ≡ takenOf (takenRuns feed 31 opening)
+  unfolding takenOf
+  going-all e =
+      let l : g .taken ≡ takenRuns feed 31 opening = sym (append-nil (g .taken)) ∙ ap (λ (m : List Run). g .taken ++ m) (sym e) ∙ g .left in
+      λ i. record { count = (g .many ∙ ap length l) i; runs = (g .kept ∙ ap entries l) i }
+
+  -- It stops where no pin waits, and after 31 turns.
+  pub going-stop : (c : Choice) → c ≡ choiceOf offers → c .offer .waits ≡ false → record { count = count; runs = runs } ≡ takenOf (takenRuns feed 31 opening)
+  going-stop c ec w = going-all (nothing feed (31 - count) offers (rw ec at w))
+
+  pub going-end : 31 ≤ count → record { count = count; runs = runs } ≡ takenOf (takenRuns feed 31 opening)
+  unfolding takenRuns
+  going-end h = let e : 31 - count ≡ 0 = omega arith in going-all (rw e refl)

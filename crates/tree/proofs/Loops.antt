@@ -1,0 +1,103 @@
+-- What is left to do at a turn of each loop: one turn more, and none. Assumes nothing.
+use mathlib.Core.Path.{_≡_, refl, sym, ap, _∙_}
+use mathlib.Core.Bool.{true, false}
+use mathlib.Core.List.{List, [], _∷_, _++_}
+use Prim.Native.Nat.{ℕ, _+_, _-_, _<_, _≤_}
+use native.Mathlib.Omega.{arith}
+use native.Mathlib.Numerals.{add-one}
+use lib.ListN.{length, getD, set, take, drop, drop-of-length-le}
+use lib.Seq.{drop-cons, take-suc, take-all, set-at, getD-at, length-take-le, append-snoc}
+use Rattle.refusal.proofs.Tests.{choose-yes, choose-no, either-left, either-right}
+use Rattle.grid.specs.declared.Spot.{Spot}
+use Rattle.grid.specs.declared.Spot.the-variants.{Absent}
+use Rattle.tree.specs.declared.Run.{Run}
+use Rattle.tree.specs.declared.Offer.{Offer}
+use Rattle.tree.specs.declared.Choice.{Choice}
+use Rattle.tree.specs.Growth.{present, run}
+use Rattle.tree.specs.Boxes.{clash, clashAny, boxesMeet}
+use Rattle.tree.specs.Offers.{noOffer, betterChoice, choiceFrom, firstFrom}
+
+-- The rest of a list from i on is what stands at i before the rest from i + 1 on.
+rest : {A : Type 0} (l : List A) (i : ℕ) (d : A) → i < length l → drop i l ≡ getD l i d ∷ drop (i + 1) l
+rest l i d h = rw add-one (drop-cons l i d h)
+
+-- ---- the earliest offer
+module _ (c : Choice) (offers : List Offer) (i : ℕ) where
+  pub choice-turn : i < length offers → choiceFrom c i (drop i offers) ≡ choiceFrom (betterChoice c i (getD offers i noOffer)) (i + 1) (drop (i + 1) offers)
+  unfolding choiceFrom
+  choice-turn h = rw (rest offers i noOffer h, add-one)
+
+  pub choice-end : length offers ≤ i → choiceFrom c i (drop i offers) ≡ c
+  unfolding choiceFrom
+  choice-end h = rw (drop-of-length-le offers h)
+
+-- ---- the lowest pin
+module _ (feed : List Spot) (i : ℕ) where
+  pub first-turn : i < length feed → present (getD feed i Absent) ≡ false → firstFrom i (drop i feed) ≡ firstFrom (i + 1) (drop (i + 1) feed)
+  unfolding firstFrom
+  first-turn h e = rw (rest feed i Absent h, add-one) (choose-no i _ e)
+
+  pub first-found : i < length feed → present (getD feed i Absent) ≡ true → firstFrom i (drop i feed) ≡ i
+  unfolding firstFrom
+  first-found h e = rw (rest feed i Absent h) (choose-yes i _ e)
+
+  pub first-none : length feed ≤ i → firstFrom i (drop i feed) ≡ i
+  unfolding firstFrom
+  first-none h = rw (drop-of-length-le feed h)
+
+-- ---- an array that is filled from the front with the entries of another
+-- The first i entries of t, then those of l.
+unfoldable pub filled : {A : Type 0} → List A → List A → ℕ → List A
+filled t l i = take i t ++ drop i l
+
+module _ {A : Type 0} (t l : List A) where
+  pub filled-none : l ≡ filled t l 0
+  unfolding filled
+  filled-none = refl
+
+  pub filled-turn : (i : ℕ) (d : A) → i < length t → i < length l → set (filled t l i) i (getD t i d) ≡ filled t l (i + 1)
+  unfolding filled
+  filled-turn i d h k =
+      rw (rest l i d k)
+      (set-at (take i t) (getD l i d) (drop (i + 1) l) (getD t i d) i (length-take-le i t (omega arith))
+      ∙ sym (append-snoc (take i t) (getD t i d) (drop (i + 1) l))
+      ∙ rw (add-one, take-suc t i d h))
+
+  pub filled-next : (i : ℕ) (d : A) → i ≤ length t → i < length l → getD (filled t l i) i d ≡ getD l i d
+  unfolding filled
+  filled-next i d h k = rw (rest l i d k) (getD-at (take i t) (getD l i d) (drop (i + 1) l) d i (length-take-le i t h))
+
+  pub filled-end : (i : ℕ) → length t ≤ i → length l ≤ i → filled t l i ≡ t
+  unfolding filled
+  filled-end i h k = rw (drop-of-length-le l k, take-all i t h) (append-nil t)
+    where
+      append-nil : (m : List A) → m ++ [] ≡ m
+      append-nil [] = refl
+      append-nil (a ∷ m) = ap (_∷_ a) (append-nil m)
+
+-- ---- runs that clash
+module _ (feed : List Spot) (r : Run) (l : List Run) (i : ℕ) where
+  pub any-turn : i < length l → clash feed r (getD l i (run 0 0)) ≡ false → clashAny feed r (drop i l) ≡ clashAny feed r (drop (i + 1) l)
+  unfolding clashAny
+  any-turn h e = rw (rest l i (run 0 0) h) (either-right _ e)
+
+  pub any-found : i < length l → clash feed r (getD l i (run 0 0)) ≡ true → clashAny feed r (drop i l) ≡ true
+  unfolding clashAny
+  any-found h e = rw (rest l i (run 0 0) h) (either-left _ e)
+
+  pub any-none : length l ≤ i → clashAny feed r (drop i l) ≡ false
+  unfolding clashAny
+  any-none h = rw (drop-of-length-le l h)
+
+module _ (feed : List Spot) (l : List Run) (i : ℕ) where
+  pub meet-turn : i < length l → clashAny feed (getD l i (run 0 0)) (drop (i + 1) l) ≡ false → boxesMeet feed (drop i l) ≡ boxesMeet feed (drop (i + 1) l)
+  unfolding boxesMeet
+  meet-turn h e = rw (rest l i (run 0 0) h) (either-right _ e)
+
+  pub meet-found : i < length l → clashAny feed (getD l i (run 0 0)) (drop (i + 1) l) ≡ true → boxesMeet feed (drop i l) ≡ true
+  unfolding boxesMeet
+  meet-found h e = rw (rest l i (run 0 0) h) (either-left _ e)
+
+  pub meet-none : length l ≤ i → boxesMeet feed (drop i l) ≡ false
+  unfolding boxesMeet
+  meet-none h = rw (drop-of-length-le l h)

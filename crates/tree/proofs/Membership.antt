@@ -1,0 +1,177 @@
+-- Members of a list, lists without repeats, and the lists of pins and runs that the growth is made of. Assumes nothing.
+use mathlib.Core.Path.{_≡_, refl, sym, ap, _∙_}
+use mathlib.Core.Bool.{Bool, true, false}
+use mathlib.Core.List.{List, [], _∷_, _++_}
+use mathlib.Core.Logic.{_⊎_, inl, inr, ⊎-elim}
+use Prim.Native.Nat.{ℕ, zero, suc, _+_, _<_, _≤_}
+use native.Mathlib.Omega.{arith}
+use lib.Dec.{eqb}
+use lib.ListN.{length, getD}
+use borrow.Author.Tests.{eq-eqb, ne-eqb}
+use Rattle.refusal.specs.Tests.{choose}
+use Rattle.refusal.proofs.Tests.{choose-yes, choose-no}
+use Rattle.grid.specs.declared.Spot.{Spot}
+use Rattle.grid.specs.declared.Spot.the-variants.{Absent}
+use Rattle.tree.specs.declared.Run.{Run}
+use Rattle.tree.specs.Growth.{present, run, keptIf, pinsFrom, without, runsFrom, between}
+use Rattle.tree.proofs.Deciding.{opposite, same}
+
+-- a stands in the list.
+pub data Among {A : Type 0} (a : A) : List A → Type 0 where
+  first : {b : A} {l : List A} → a ≡ b → Among a (b ∷ l)
+  later : {b : A} {l : List A} → Among a l → Among a (b ∷ l)
+
+-- No member stands twice.
+pub data Distinct : List ℕ → Type 0 where
+  none : Distinct []
+  also : {a : ℕ} {l : List ℕ} → (Among a l → ⊥) → Distinct l → Distinct (a ∷ l)
+
+pub in-front : {A : Type 0} {a : A} {l : List A} (m : List A) → Among a l → Among a (l ++ m)
+in-front m (first e) = first e
+in-front m (later h) = later (in-front m h)
+
+pub in-back : {A : Type 0} {a : A} (l : List A) {m : List A} → Among a m → Among a (l ++ m)
+in-back [] h = h
+in-back (b ∷ l) h = later (in-back l h)
+
+pub in-either : {A : Type 0} {a : A} (l : List A) {m : List A} → Among a (l ++ m) → Among a l ⊎ Among a m
+in-either [] h = inr h
+in-either (b ∷ l) (first e) = inl (first e)
+in-either (b ∷ l) (later h) = ⊎-elim (λ k. inl (later k)) (λ k. inr k) (in-either l h)
+
+-- ---- a number before others, where a test holds
+pub kept-yes : {t : Bool} (n : ℕ) (l : List ℕ) → t ≡ true → keptIf t n l ≡ n ∷ l
+unfolding keptIf
+kept-yes n l e = rw e
+
+pub kept-no : {t : Bool} (n : ℕ) (l : List ℕ) → t ≡ false → keptIf t n l ≡ l
+unfolding keptIf
+kept-no n l e = rw e
+
+pub in-kept : {a n : ℕ} (t : Bool) {l : List ℕ} → Among a (keptIf t n l) → ((t ≡ true) × (a ≡ n)) ⊎ Among a l
+unfolding keptIf
+in-kept true (first e) = inl (refl, e)
+in-kept true (later h) = inr h
+in-kept false h = inr h
+
+pub kept-new : {a n : ℕ} {t : Bool} (l : List ℕ) → t ≡ true → a ≡ n → Among a (keptIf t n l)
+kept-new {n = n} l e f = rw (kept-yes n l e) (first f)
+
+pub kept-old : {a : ℕ} (n : ℕ) (t : Bool) {l : List ℕ} → Among a l → Among a (keptIf t n l)
+unfolding keptIf
+kept-old n true h = later h
+kept-old n false h = h
+
+-- ---- the pins without one
+-- m is another number than n.
+abbrev differs : ℕ → ℕ → Bool
+differs m n = choose (eqb m n) false true
+
+differs-no : (m n : ℕ) → differs m n ≡ true → m ≡ n → ⊥
+differs-no m n e q = opposite e (choose-yes false true (eq-eqb m n q))
+
+differs-yes : (m n : ℕ) → (m ≡ n → ⊥) → differs m n ≡ true
+differs-yes m n q = choose-no false true (ne-eqb m n q)
+
+pub without-in : {a : ℕ} (n : ℕ) (l : List ℕ) → Among a (without n l) → Among a l × (a ≡ n → ⊥)
+unfolding without
+without-in {a} n (m ∷ l) h = go (in-kept (differs m n) h) (without-in n l)
+  where
+    go : ((differs m n ≡ true) × (a ≡ m)) ⊎ Among a (without n l) → (Among a (without n l) → Among a l × (a ≡ n → ⊥)) → Among a (m ∷ l) × (a ≡ n → ⊥)
+    go (inl e) ih = (first (e .1), λ q. differs-no m n (e .0) (sym (e .1) ∙ q))
+    go (inr k) ih = (later (ih k .0), ih k .1)
+
+pub in-without : {a : ℕ} (n : ℕ) {l : List ℕ} → Among a l → (a ≡ n → ⊥) → Among a (without n l)
+unfolding without
+in-without n (first {b = m} {l = l} e) ne = kept-new (without n l) (differs-yes m n (λ q. ne (e ∙ q))) e
+in-without n (later {b = m} h) ne = kept-old m (differs m n) (in-without n h ne)
+
+pub without-none : (n : ℕ) (l : List ℕ) → (Among n l → ⊥) → without n l ≡ l
+unfolding without
+without-none n [] h = refl
+without-none n (m ∷ l) h =
+    kept-yes m (without n l) (differs-yes m n (λ q. h (first (sym q)))) ∙ ap (_∷_ m) (without-none n l (λ k. h (later k)))
+
+pub length-without : (n : ℕ) {l : List ℕ} → Distinct l → Among n l → length l ≡ suc (length (without n l))
+unfolding without
+length-without n (also {a = m} {l = l} d ds) h = go (same m n) h (length-without n ds)
+  where
+    go : (m ≡ n) ⊎ (m ≡ n → ⊥) → Among n (m ∷ l) → (Among n l → length l ≡ suc (length (without n l)))
+        → suc (length l) ≡ suc (length (keptIf (differs m n) m (without n l)))
+    go (inl e) k ih = ap suc (sym (ap length (kept-no m (without n l) (choose-yes false true (eq-eqb m n e)) ∙ without-none n l (λ z. d (rw e z)))))
+    go (inr e) (first f) ih = absurd (e (sym f))
+    go (inr e) (later k) ih = ap suc (ih k ∙ sym (ap length (kept-yes m (without n l) (differs-yes m n e))))
+
+distinct-kept : (m : ℕ) (t : Bool) {l : List ℕ} → (Among m l → ⊥) → Distinct l → Distinct (keptIf t m l)
+unfolding keptIf
+distinct-kept m true d k = also d k
+distinct-kept m false d k = k
+
+pub distinct-without : (n : ℕ) {l : List ℕ} → Distinct l → Distinct (without n l)
+unfolding without
+distinct-without n none = none
+distinct-without n (also {a = m} {l = l} d ds) = distinct-kept m (differs m n) (λ w. d (without-in n l w .0)) (distinct-without n ds)
+
+-- ---- the pins that are there: pin i + k stands among them where the k-th spot has a pin
+pub pins-there : {a : ℕ} (i : ℕ) (feed : List Spot) → Among a (pinsFrom i feed)
+    → (k : ℕ) × (a ≡ i + k) × (k < length feed) × (present (getD feed k Absent) ≡ true)
+unfolding pinsFrom
+pins-there {a} i (s ∷ feed) h = go (in-kept (present s) h) (pins-there (suc i) feed)
+  where
+    go : ((present s ≡ true) × (a ≡ i)) ⊎ Among a (pinsFrom (suc i) feed)
+        → (Among a (pinsFrom (suc i) feed) → (k : ℕ) × (a ≡ suc i + k) × (k < length feed) × (present (getD feed k Absent) ≡ true))
+        → (k : ℕ) × (a ≡ i + k) × (k < suc (length feed)) × (present (getD (s ∷ feed) k Absent) ≡ true)
+    go (inl e) ih = (0, omega (arith, e .1), omega arith, e .0)
+    go (inr m) ih = let z = ih m in (suc (z .0), omega (arith, z .1), omega (arith, z .2), z .3)
+
+pub there-pins : (i : ℕ) (feed : List Spot) (k : ℕ) → k < length feed → present (getD feed k Absent) ≡ true → Among (i + k) (pinsFrom i feed)
+unfolding pinsFrom
+there-pins i [] k l e = absurd (omega arith)
+there-pins i (s ∷ feed) zero l e = kept-new (pinsFrom (suc i) feed) e (omega arith)
+there-pins i (s ∷ feed) (suc k) l e =
+    let q : i + suc k ≡ suc i + k = omega arith in
+    rw q (kept-old i (present s) (there-pins (suc i) feed k (omega arith) e))
+
+pub pins-distinct : (i : ℕ) (feed : List Spot) → Distinct (pinsFrom i feed)
+unfolding pinsFrom
+pins-distinct i [] = none
+pins-distinct i (s ∷ feed) =
+    distinct-kept i (present s) (λ h. let z = pins-there (suc i) feed h in omega (arith, z .1)) (pins-distinct (suc i) feed)
+
+few-kept : (n : ℕ) (t : Bool) (l : List ℕ) (m : ℕ) → length l ≤ m → length (keptIf t n l) ≤ suc m
+unfolding keptIf
+few-kept n true l m h = omega arith
+few-kept n false l m h = omega arith
+
+pub pins-few : (i : ℕ) (feed : List Spot) → length (pinsFrom i feed) ≤ length feed
+unfolding pinsFrom
+pins-few i [] = omega arith
+pins-few i (s ∷ feed) = few-kept i (present s) (pinsFrom (suc i) feed) (length feed) (pins-few (suc i) feed)
+
+-- ---- the runs between some near and some far pins
+from-in : {r : Run} (near : ℕ) (fars : List ℕ) → Among r (runsFrom near fars) → (r .near ≡ near) × Among (r .far) fars
+unfolding runsFrom
+from-in near (b ∷ fars) (first e) = (ap (λ (z : Run). z .near) e, first (ap (λ (z : Run). z .far) e))
+from-in near (b ∷ fars) (later h) = let z = from-in near fars h in (z .0, later (z .1))
+
+in-from : {b : ℕ} (near : ℕ) {fars : List ℕ} → Among b fars → Among (run near b) (runsFrom near fars)
+unfolding runsFrom
+in-from near (first e) = first (ap (run near) e)
+in-from near (later h) = later (in-from near h)
+
+pub between-in : {r : Run} (nears fars : List ℕ) → Among r (between nears fars) → Among (r .near) nears × Among (r .far) fars
+unfolding between
+between-in {r} (n ∷ nears) fars h = go (in-either (runsFrom n fars) h) (between-in nears fars)
+  where
+    go : Among r (runsFrom n fars) ⊎ Among r (between nears fars) → (Among r (between nears fars) → Among (r .near) nears × Among (r .far) fars)
+        → Among (r .near) (n ∷ nears) × Among (r .far) fars
+    go (inl k) ih = let z = from-in n fars k in (first (z .0), z .1)
+    go (inr k) ih = let z = ih k in (later (z .0), z .1)
+
+as-near : {a n b : ℕ} {l : List Run} → a ≡ n → Among (run n b) l → Among (run a b) l
+as-near e h = rw e h
+
+pub in-between : {a b : ℕ} {nears : List ℕ} (fars : List ℕ) → Among a nears → Among b fars → Among (run a b) (between nears fars)
+unfolding between
+in-between fars (first {b = n} {l = nears} e) k = in-front (between nears fars) (as-near e (in-from n k))
+in-between fars (later {b = n} h) k = in-back (runsFrom n fars) (in-between fars h k)

@@ -1,0 +1,113 @@
+-- What the parts of `tree_of` come to: no pins, boxes that meet, or the runs. From pins that stand on the board.
+use mathlib.Core.Path.{_≡_, refl, sym, ap, _∙_}
+use mathlib.Core.Bool.{true, false}
+use mathlib.Core.List.{List, [], _∷_}
+use mathlib.Core.Logic.{_⊎_, inl, inr}
+use Prim.Native.Nat.{ℕ, zero, suc, _+_, _-_, _<_, _≤_}
+use native.Mathlib.Omega.{arith}
+use lib.ListN.{length, take, replicate}
+use lib.Seq.{take-append-seam}
+use Rattle.refusal.specs.Tests.{choose}
+use Rattle.refusal.specs.declared.Verdict.the-variants.{Accepted, NoPins, BoxesMeet}
+use Rattle.refusal.proofs.Tests.{choose-yes, choose-no}
+use Rattle.grid.specs.declared.Spot.{Spot}
+use Rattle.tree.specs.declared.Run.{Run}
+use Rattle.tree.specs.declared.Offer.{Offer}
+use Rattle.tree.specs.declared.Taken.{Taken}
+use Rattle.tree.specs.Growth.{present, placeOf, spotAt, run, allInside, pinsFrom, pinsOf, runsOf}
+use Rattle.tree.specs.Boxes.{boxesMeet}
+use Rattle.tree.specs.Trees.{entries, treeWith, none, treeOf}
+use Rattle.tree.specs.Offers.{firstOffers, choiceOf, takenRuns, takenOf, firstFrom}
+use Rattle.tree.proofs.Deciding.{decide}
+use Rattle.tree.proofs.Membership.{kept-yes, kept-no}
+use Rattle.tree.proofs.Going.{after, nothing, something}
+use Rattle.tree.proofs.Numbering.{keyed}
+use Rattle.tree.proofs.Taking.{taken-runs}
+
+-- ---- the first pin
+-- The first pin heads the pins that are there; where there is none, the number after the last stands in for it.
+pub data First (i : ℕ) (feed : List Spot) : Type 0 where
+  nowhere : firstFrom i feed ≡ i + length feed → pinsFrom i feed ≡ [] → First i feed
+  there : firstFrom i feed < i + length feed → (left : List ℕ) → pinsFrom i feed ≡ firstFrom i feed ∷ left → First i feed
+
+pub first-of : (i : ℕ) (feed : List Spot) → First i feed
+unfolding firstFrom pinsFrom
+first-of i [] = nowhere (omega arith) refl
+first-of i (s ∷ feed) = go (decide (present s)) (first-of (suc i) feed)
+  where
+    yes' : present s ≡ true → First i (s ∷ feed)
+    yes' e =
+        let f : choose (present s) i (firstFrom (suc i) feed) ≡ i = choose-yes i (firstFrom (suc i) feed) e in
+        there (omega arith) (pinsFrom (suc i) feed) (kept-yes i (pinsFrom (suc i) feed) e ∙ ap (λ (z : ℕ). z ∷ pinsFrom (suc i) feed) (sym f))
+
+    go : (present s ≡ true) ⊎ (present s ≡ false) → First (suc i) feed → First i (s ∷ feed)
+    go (inl e) h = yes' e
+    go (inr e) (nowhere f p) =
+        let g : choose (present s) i (firstFrom (suc i) feed) ≡ firstFrom (suc i) feed = choose-no i (firstFrom (suc i) feed) e in
+        nowhere (omega arith) (kept-no i (pinsFrom (suc i) feed) e ∙ p)
+    go (inr e) (there f left p) =
+        let g : choose (present s) i (firstFrom (suc i) feed) ≡ firstFrom (suc i) feed = choose-no i (firstFrom (suc i) feed) e in
+        there (omega arith) left (kept-no i (pinsFrom (suc i) feed) e ∙ p ∙ ap (λ (z : ℕ). z ∷ left) (sym g))
+
+-- ---- how many runs are taken
+pub taken-few : (feed : List Spot) (turns : ℕ) (offers : List Offer) → length (takenRuns feed turns offers) ≤ turns
+unfolding takenRuns
+taken-few feed zero offers = omega arith
+taken-few feed (suc turns) offers = go (decide (choiceOf offers .offer .waits)) (taken-few feed turns (after feed (choiceOf offers .pin) offers))
+  where
+    go : (choiceOf offers .offer .waits ≡ true) ⊎ (choiceOf offers .offer .waits ≡ false)
+        → length (takenRuns feed turns (after feed (choiceOf offers .pin) offers)) ≤ turns → length (takenRuns feed (suc turns) offers) ≤ suc turns
+    go (inl e) h = rw (something feed turns offers e) (omega arith)
+    go (inr e) h = rw (nothing feed (suc turns) offers e) (omega arith)
+
+take-entries : (l : List Run) → take (length l) (entries l) ≡ l
+unfolding entries
+take-entries l = take-append-seam l (replicate (31 - length l) (run 0 0))
+
+-- ---- the three outcomes
+pub no-pins : (feed : List Spot) → length feed ≡ 32 → firstFrom 0 feed ≡ 32 → treeWith NoPins [] ≡ treeOf feed
+unfolding treeOf pinsOf
+no-pins feed full e = go (first-of 0 feed)
+  where
+    go : First 0 feed → treeWith NoPins [] ≡ choose (none (pinsFrom 0 feed)) (treeWith NoPins []) (choose (boxesMeet feed (runsOf feed)) (treeWith BoxesMeet []) (treeWith Accepted (runsOf feed)))
+    go (nowhere f p) = sym (choose-yes _ _ (ap none p))
+    go (there f left p) = absurd (omega arith)
+
+module _ (feed : List Spot) (full : length feed ≡ 32) (ok : allInside feed ≡ true) (t : Taken)
+    (e : t ≡ takenOf (takenRuns feed 31 (firstOffers (firstFrom 0 feed) (placeOf (spotAt feed (firstFrom 0 feed))) 0 feed))) where
+  pub count-few : t .count ≤ 31
+  unfolding takenOf
+  count-few =
+      rw e (taken-few feed 31 (firstOffers (firstFrom 0 feed) (placeOf (spotAt feed (firstFrom 0 feed))) 0 feed))
+
+  module _ (some : firstFrom 0 feed ≡ 32 → ⊥) where
+    pins-some : none (pinsOf feed) ≡ false
+    unfolding pinsOf
+    pins-some = go (first-of 0 feed)
+      where
+        go : First 0 feed → none (pinsFrom 0 feed) ≡ false
+        go (nowhere f p) = absurd (some (omega arith))
+        go (there f left p) = rw p refl
+
+    taken-is : t ≡ takenOf (runsOf feed)
+    unfolding pinsOf
+    taken-is = e ∙ ap takenOf (go (first-of 0 feed))
+      where
+        go : First 0 feed → takenRuns feed 31 (firstOffers (firstFrom 0 feed) (placeOf (spotAt feed (firstFrom 0 feed))) 0 feed) ≡ runsOf feed
+        go (nowhere f p) = absurd (some (omega arith))
+        go (there f left p) = taken-runs (keyed feed ok) full (firstFrom 0 feed) left p
+
+    meet-is : boxesMeet feed (take (t .count) (t .runs)) ≡ boxesMeet feed (runsOf feed)
+    unfolding takenOf
+    meet-is = ap (boxesMeet feed) (rw taken-is (take-entries (runsOf feed)))
+
+    pub boxes-meet : boxesMeet feed (take (t .count) (t .runs)) ≡ true → treeWith BoxesMeet [] ≡ treeOf feed
+    unfolding treeOf
+    boxes-meet h = sym (choose-no _ _ pins-some ∙ choose-yes _ _ (sym meet-is ∙ h))
+
+    pub the-runs : boxesMeet feed (take (t .count) (t .runs)) ≡ false
+        → record { verdict = Accepted; count = t .count; runs = t .runs } ≡ treeOf feed
+    unfolding treeOf treeWith takenOf
+    the-runs h =
+        ap (λ (z : Taken). record { verdict = Accepted; count = z .count; runs = z .runs }) taken-is
+        ∙ sym (choose-no _ _ pins-some ∙ choose-no _ _ (sym meet-is ∙ h))

@@ -1,0 +1,76 @@
+-- `tree::clashes_any` meets its contract: what is left to look through gives the answer. Assumes nothing.
+use lib.Seq.{getD-take, length-take-le}
+use Rattle.tree.specs.Growth.{run}
+use Rattle.tree.specs.Boxes.{clash}
+use borrow.Author.Needs.{needs}
+use native.Mathlib.Omega.{arith}
+use mathlib.Core.Path.{_≡_, refl, sym, ap, _∙_}
+use Prim.Native.Nat.{_-_}
+use lib.ListN.{take, drop}
+use Rattle.tree.specs.Boxes.{clashAny}
+use Rattle.tree.proofs.Loops.{any-turn, any-found, any-none}
+use Rattle.tree.proofs.clashes_any.Statement.{statement}
+use Rattle.tree.proofs.clashes_any.Tie as tie
+
+abbrev Inv-loop : tie.InvT-loop
+Inv-loop feed count run start runs at₀ at = clashAny feed run (drop at (take count runs)) ≡ clashAny feed run (drop start (take count runs))
+
+abbrev μ-loop : tie.MeasureT-loop
+μ-loop feed count run start runs at₀ at = count - at
+
+loop-holds : tie.Need-loop-holds Inv-loop μ-loop
+loop-holds c = refl
+
+mul-other : tie.Need-mul-other Inv-loop μ-loop
+mul-other c = search needs
+
+array-copy-out-other : tie.Need-array-copy-out-other Inv-loop μ-loop
+array-copy-out-other c = search needs
+
+do-clash-requires : tie.Need-do-clash-requires Inv-loop μ-loop
+do-clash-requires c κs = search needs
+
+returns : tie.Need-returns Inv-loop μ-loop
+returns c =
+    let h = c .before .before .before .before in
+    let a = h .before .args in
+    let m = length-take-le (a .count) (a .t2) (omega arith) in
+    let e = getD-take (a .count) (a .t2) (h .loop .at) (run 0 0) (omega arith) in
+    sym (any-found (a .feed) (a .run) (take (a .count) (a .t2)) (h .loop .at) (omega arith) (ap (clash (a .feed) (a .run)) e ∙ sym (c .before .do-clash .ensures) ∙ c .if1 .taken)) ∙ h .loop .inv
+
+add-at : tie.Need-add-at Inv-loop μ-loop
+add-at c = search needs
+
+loop-less : tie.Need-loop-less Inv-loop μ-loop
+loop-less c = search needs
+
+loop-again : tie.Need-loop-again Inv-loop μ-loop
+loop-again c =
+    let h = c .before .before .before .before in
+    let a = h .before .args in
+    let m = length-take-le (a .count) (a .t2) (omega arith) in
+    let e = getD-take (a .count) (a .t2) (h .loop .at) (run 0 0) (omega arith) in
+    sym (any-turn (a .feed) (a .run) (take (a .count) (a .t2)) (h .loop .at) (omega arith) (ap (clash (a .feed) (a .run)) e ∙ sym (c .before .do-clash .ensures) ∙ c .if1 .left)) ∙ h .loop .inv
+
+returns-2 : tie.Need-returns-2 Inv-loop μ-loop
+returns-2 c =
+    let h = c .before in
+    let a = h .before .args in
+    let m = length-take-le (a .count) (a .t2) (omega arith) in
+    sym (any-none (a .feed) (a .run) (take (a .count) (a .t2)) (h .loop .at) (omega arith)) ∙ h .loop .inv
+
+pub clashes-any-spec : {M : Type 1} → statement M
+clashes-any-spec =
+    tie.close
+    (tie.spec
+    Inv-loop
+    μ-loop
+    loop-holds
+    mul-other
+    array-copy-out-other
+    do-clash-requires
+    returns
+    add-at
+    loop-less
+    loop-again
+    returns-2)

@@ -1,0 +1,82 @@
+-- `tree::do_boxes_meet` meets its contract: what is left to look through gives the answer. Assumes nothing.
+use borrow.Author.Needs.{needs}
+use native.Mathlib.Omega.{arith}
+use mathlib.Core.Path.{_≡_, refl, sym, ap, _∙_}
+use Prim.Native.Nat.{_-_, _+_}
+use lib.ListN.{take, drop}
+use lib.Seq.{getD-take, length-take-le}
+use Rattle.tree.specs.declared.Run.{Run}
+use Rattle.tree.specs.Growth.{run}
+use Rattle.tree.specs.Boxes.{clashAny, boxesMeet}
+use Rattle.tree.proofs.Loops.{meet-turn, meet-found, meet-none}
+use Rattle.tree.proofs.do_boxes_meet.Statement.{statement}
+use Rattle.tree.proofs.do_boxes_meet.Tie as tie
+
+abbrev Inv-loop : tie.InvT-loop
+Inv-loop feed count runs at₀ at = boxesMeet feed (drop at (take count runs)) ≡ boxesMeet feed (take count runs)
+
+abbrev μ-loop : tie.MeasureT-loop
+μ-loop feed count runs at₀ at = count - at
+
+loop-holds : tie.Need-loop-holds Inv-loop μ-loop
+loop-holds c = refl
+
+mul-run : tie.Need-mul-run Inv-loop μ-loop
+mul-run c = search needs
+
+array-copy-out-run : tie.Need-array-copy-out-run Inv-loop μ-loop
+array-copy-out-run c = search needs
+
+add-clashes-any : tie.Need-add-clashes-any Inv-loop μ-loop
+add-clashes-any c = search needs
+
+clashes-any-requires : tie.Need-clashes-any-requires Inv-loop μ-loop
+clashes-any-requires c κs = search needs
+
+returns : tie.Need-returns Inv-loop μ-loop
+returns c =
+    let h = c .before .before .before .before in
+    let a = h .before .args in
+    let m = length-take-le (a .count) (a .t2) (omega arith) in
+    let l = take (a .count) (a .t2) in
+    let e = ap (λ (r : Run). clashAny (a .feed) r (drop (h .loop .at + 1) l)) (getD-take (a .count) (a .t2) (h .loop .at) (run 0 0) (omega arith)) in
+    sym (meet-found (a .feed) l (h .loop .at) (omega arith) (e ∙ sym (c .before .clashes-any .ensures) ∙ c .if1 .taken)) ∙ h .loop .inv
+
+add-at : tie.Need-add-at Inv-loop μ-loop
+add-at c = search needs
+
+loop-less : tie.Need-loop-less Inv-loop μ-loop
+loop-less c = search needs
+
+loop-again : tie.Need-loop-again Inv-loop μ-loop
+loop-again c =
+    let h = c .before .before .before .before in
+    let a = h .before .args in
+    let m = length-take-le (a .count) (a .t2) (omega arith) in
+    let l = take (a .count) (a .t2) in
+    let e = ap (λ (r : Run). clashAny (a .feed) r (drop (h .loop .at + 1) l)) (getD-take (a .count) (a .t2) (h .loop .at) (run 0 0) (omega arith)) in
+    sym (meet-turn (a .feed) l (h .loop .at) (omega arith) (e ∙ sym (c .before .clashes-any .ensures) ∙ c .if1 .left)) ∙ h .loop .inv
+
+returns-2 : tie.Need-returns-2 Inv-loop μ-loop
+returns-2 c =
+    let h = c .before in
+    let a = h .before .args in
+    let m = length-take-le (a .count) (a .t2) (omega arith) in
+    sym (meet-none (a .feed) (take (a .count) (a .t2)) (h .loop .at) (omega arith)) ∙ h .loop .inv
+
+pub do-boxes-meet-spec : {M : Type 1} → statement M
+do-boxes-meet-spec =
+    tie.close
+    (tie.spec
+    Inv-loop
+    μ-loop
+    loop-holds
+    mul-run
+    array-copy-out-run
+    add-clashes-any
+    clashes-any-requires
+    returns
+    add-at
+    loop-less
+    loop-again
+    returns-2)

@@ -1,0 +1,60 @@
+-- When the boxes of two runs share a point.
+use mathlib.Core.Bool.{Bool, true, false}
+use mathlib.Core.List.{List, [], _∷_}
+use Prim.Native.Nat.{ℕ}
+use lib.IntN.{ℤ}
+use lib.Signed.{ltZ}
+use lib.Dec.{eqb}
+use Rattle.refusal.specs.Tests.{both, either, choose}
+use Rattle.grid.specs.declared.Place.{Place}
+use Rattle.grid.specs.declared.Spot.{Spot}
+use Rattle.tree.specs.declared.Run.{Run}
+use Rattle.tree.specs.Growth.{placeOf, spotAt}
+
+-- A test does not hold.
+unfoldable pub fails : Bool → Bool
+fails t = choose t false true
+
+-- A number is less than both c and d.
+unfoldable pub belowBoth : ℤ → ℤ → ℤ → Bool
+belowBoth a c d = both (ltZ a c) (ltZ a d)
+
+-- Both a and b are less than both c and d.
+unfoldable pub under : ℤ → ℤ → ℤ → ℤ → Bool
+under a b c d = both (belowBoth a c d) (belowBoth b c d)
+
+-- The stretch between a and b and the stretch between c and d share a number, an end of both at least: neither lies under the other.
+unfoldable pub overlap : ℤ → ℤ → ℤ → ℤ → Bool
+overlap a b c d = both (fails (under a b c d)) (fails (under c d a b))
+
+-- The box of a and b and the box of c and d share a point; boxes that only touch do.
+unfoldable pub boxesShare : Place → Place → Place → Place → Bool
+boxesShare a b c d = both (overlap (a .x) (b .x) (c .x) (d .x)) (overlap (a .y) (b .y) (c .y) (d .y))
+
+-- A pin is an end of a run.
+unfoldable pub isEnd : ℕ → Run → Bool
+isEnd n r = either (eqb n (r .near)) (eqb n (r .far))
+
+-- Two runs have a common pin.
+unfoldable pub common : Run → Run → Bool
+common r s = either (isEnd (r .near) s) (isEnd (r .far) s)
+
+-- Two runs without a common pin have boxes that share a point.
+unfoldable pub clash : List Spot → Run → Run → Bool
+clash feed r s =
+    both (fails (common r s))
+    (boxesShare
+    (placeOf (spotAt feed (r .near)))
+    (placeOf (spotAt feed (r .far)))
+    (placeOf (spotAt feed (s .near)))
+    (placeOf (spotAt feed (s .far))))
+
+-- A run clashes with one of some others.
+unfoldable pub clashAny : List Spot → Run → List Run → Bool
+clashAny feed r [] = false
+clashAny feed r (s ∷ others) = either (clash feed r s) (clashAny feed r others)
+
+-- The boxes of two of the runs, without a common pin, share a point.
+unfoldable pub boxesMeet : List Spot → List Run → Bool
+boxesMeet feed [] = false
+boxesMeet feed (r ∷ others) = either (clashAny feed r others) (boxesMeet feed others)

@@ -1,0 +1,105 @@
+-- The runs of a feed: always the earliest pair between a reached pin and one not reached.
+use mathlib.Core.Bool.{Bool, true, false}
+use mathlib.Core.List.{List, [], _∷_, _++_}
+use Prim.Native.Nat.{ℕ, zero, suc}
+use lib.IntN.{pos}
+use lib.Dec.{eqb}
+use lib.ListN.{length, getD}
+use Rattle.refusal.specs.Tests.{both, choose}
+use Rattle.grid.specs.declared.Place.{Place}
+use Rattle.grid.specs.declared.Spot.{Spot}
+use Rattle.grid.specs.declared.Spot.the-variants.{Absent, At}
+use Rattle.grid.specs.declared.Pair.{Pair}
+use Rattle.grid.specs.Place.{inside}
+use Rattle.grid.specs.Weight.{pairOf, comesBefore}
+use Rattle.tree.specs.declared.Run.{Run}
+
+-- A pin is there.
+abbrev pub present : Spot → Bool
+present Absent = false
+present (At p) = true
+
+-- Where a pin stands; the middle of the board stands in for a pin that is not there.
+abbrev pub placeOf : Spot → Place
+placeOf Absent = record { x = pos 0; y = pos 0 }
+placeOf (At p) = p
+
+-- What a feed has at a pin's number.
+abbrev pub spotAt : List Spot → ℕ → Spot
+spotAt feed i = getD feed i Absent
+
+-- Every pin that is there stands on the board.
+unfoldable pub allInside : List Spot → Bool
+allInside [] = true
+allInside (s ∷ feed) = both (inside (placeOf s)) (allInside feed)
+
+-- The pair of two pins of a feed.
+unfoldable pub pairAt : List Spot → ℕ → ℕ → Pair
+pairAt feed i j = pairOf i (placeOf (spotAt feed i)) j (placeOf (spotAt feed j))
+
+-- A run from its near pin to its far pin.
+abbrev pub run : ℕ → ℕ → Run
+run near far = record { near = near; far = far }
+
+-- A run is taken before another where its pair comes before the other's.
+unfoldable pub sooner : List Spot → Run → Run → Bool
+sooner feed r s = comesBefore (pairAt feed (r .near) (r .far)) (pairAt feed (s .near) (s .far))
+
+-- A number before others, where a test holds.
+unfoldable pub keptIf : Bool → ℕ → List ℕ → List ℕ
+keptIf true n l = n ∷ l
+keptIf false n l = l
+
+-- The numbers of the pins that are there, ascending; the spots are those from number i on.
+unfoldable pub pinsFrom : ℕ → List Spot → List ℕ
+pinsFrom i [] = []
+pinsFrom i (s ∷ feed) = keptIf (present s) i (pinsFrom (suc i) feed)
+
+-- The pins without one of them.
+unfoldable pub without : ℕ → List ℕ → List ℕ
+without n [] = []
+without n (m ∷ l) = keptIf (choose (eqb m n) false true) m (without n l)
+
+-- The runs from one near pin.
+unfoldable pub runsFrom : ℕ → List ℕ → List Run
+runsFrom near [] = []
+runsFrom near (far ∷ fars) = run near far ∷ runsFrom near fars
+
+-- Every run between a reached pin (near) and one not reached (far).
+unfoldable pub between : List ℕ → List ℕ → List Run
+between [] fars = []
+between (near ∷ nears) fars = runsFrom near fars ++ between nears fars
+
+-- The earliest of a run and some others.
+unfoldable pub earliest : List Spot → Run → List Run → Run
+earliest feed r [] = r
+earliest feed r (s ∷ others) = earliest feed (choose (sooner feed s r) s r) others
+
+-- The earliest of some runs.
+unfoldable pub earliestOf : List Spot → List Run → Run
+earliestOf feed [] = run 0 0
+earliestOf feed (r ∷ others) = earliest feed r others
+
+-- The run that is taken next: the earliest between a reached pin and one not reached.
+unfoldable pub next : List Spot → List ℕ → List ℕ → Run
+next feed reached left = earliestOf feed (between reached left)
+
+-- Runs are listed as they are taken, as many as there are pins left to reach.
+unfoldable pub grown : List Spot → ℕ → List ℕ → List ℕ → List Run
+grown feed zero reached left = []
+grown feed (suc turns) reached left =
+    let r : Run = next feed reached left in
+    r ∷ grown feed turns (r .far ∷ reached) (without (r .far) left)
+
+-- The runs when growing from the first of some pins.
+unfoldable pub runsAmong : List Spot → List ℕ → List Run
+runsAmong feed [] = []
+runsAmong feed (first ∷ left) = grown feed (length left) (first ∷ []) left
+
+-- The pins of a feed, ascending.
+unfoldable pub pinsOf : List Spot → List ℕ
+pinsOf feed = pinsFrom 0 feed
+
+-- The runs of a feed, grown from the lowest-numbered pin.
+unfoldable pub runsOf : List Spot → List Run
+runsOf feed = runsAmong feed (pinsOf feed)

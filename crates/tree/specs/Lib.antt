@@ -1,0 +1,5 @@
+-- What the words of the tree mean.
+pub mod Growth
+pub mod Boxes
+pub mod Trees
+pub mod Offers

@@ -1,0 +1,33 @@
+-- The runs of a feed, or 17 or 18.
+use mathlib.Core.Bool.{Bool, true, false}
+use mathlib.Core.List.{List, [], _∷_, _++_}
+use Prim.Native.Nat.{ℕ, _-_}
+use lib.ListN.{length, replicate}
+use Rattle.refusal.specs.Tests.{choose}
+use Rattle.refusal.specs.declared.Verdict.{Verdict}
+use Rattle.refusal.specs.declared.Verdict.the-variants.{Accepted, NoPins, BoxesMeet}
+use Rattle.grid.specs.declared.Spot.{Spot}
+use Rattle.tree.specs.declared.Run.{Run}
+use Rattle.tree.specs.declared.Tree.{Tree}
+use Rattle.tree.specs.Growth.{run, pinsOf, runsOf}
+use Rattle.tree.specs.Boxes.{boxesMeet}
+
+-- Some runs in 31 entries; entries after the last are 0, 0.
+unfoldable pub entries : List Run → List Run
+entries runs = runs ++ replicate (31 - length runs) (run 0 0)
+
+-- A verdict with some runs.
+unfoldable pub treeWith : Verdict → List Run → Tree
+treeWith v runs = record { verdict = v; count = length runs; runs = entries runs }
+
+-- There are no pins.
+abbrev pub none : List ℕ → Bool
+none [] = true
+none (n ∷ pins) = false
+
+-- 17: no pins to wire. 18: boxes of two runs without a common pin share a point. Else the runs.
+unfoldable pub treeOf : List Spot → Tree
+treeOf feed =
+    choose (none (pinsOf feed)) (treeWith NoPins [])
+    (choose (boxesMeet feed (runsOf feed)) (treeWith BoxesMeet [])
+    (treeWith Accepted (runsOf feed)))

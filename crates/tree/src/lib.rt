@@ -1,0 +1,398 @@
+// The runs of a feed: the tree that joins its pins, grown from the lowest-numbered pin, or why there is none.
+use grid::Pair;
+use grid::Place;
+use grid::Spot;
+use grid::Weight;
+use refusal::Verdict;
+ghost use mathlib.Core.Path.{_≡_};
+ghost use mathlib.Core.Bool.{true};
+ghost use mathlib.Core.List.{[]};
+ghost use Prim.Native.Nat.{_≤_};
+ghost use lib.ListN.{take, drop};
+ghost use Rattle.grid.specs.Place.{inside};
+ghost use Rattle.tree.specs.Growth.{present, placeOf, spotAt, allInside};
+ghost use Rattle.tree.specs.Boxes.{belowBoth, under, overlap, boxesShare, isEnd, common, clash, clashAny, boxesMeet};
+ghost use Rattle.tree.specs.Trees.{treeWith, treeOf};
+ghost use Rattle.tree.specs.Offers.{noOffer, offerOf, firstOffer, betterOffer, nextOffer, firstOffers, nextOffers, betterChoice, choiceOf, takenRuns, firstFrom, takenOf};
+
+// A run: the pin that was reached before it, and the pin that it reaches.
+pub struct Run {
+    pub near: usize,
+    pub far: usize,
+}
+
+// The runs of a feed in the order in which they are taken, or a refusal. Entries after the last are 0, 0.
+pub struct Tree {
+    pub verdict: Verdict,
+    pub count: usize,
+    pub runs: [Run; 31],
+}
+
+// What a pin keeps while the tree grows: whether it waits to be reached, the pin that would reach it, and their pair.
+pub struct Offer {
+    pub waits: bool,
+    pub near: usize,
+    pub pair: Pair,
+}
+
+// A pin with what it keeps.
+pub struct Choice {
+    pub pin: usize,
+    pub offer: Offer,
+}
+
+// Some runs in 31 entries, and how many they are.
+pub struct Taken {
+    pub count: usize,
+    pub runs: [Run; 31],
+}
+
+// Whether a pin is there.
+fn is_there(spot: Spot) -> bool
+    ensures { λ r. ⌜ r ≡ present spot ⌝ }
+{
+    match spot {
+        Spot::Absent => false,
+        Spot::At(_) => true,
+    }
+}
+
+// Where a pin stands; the middle of the board where none does.
+fn place_of(spot: Spot) -> Place
+    ensures { λ r. ⌜ r ≡ placeOf spot ⌝ }
+{
+    match spot {
+        Spot::Absent => Place { x: 0, y: 0 },
+        Spot::At(place) => place,
+    }
+}
+
+// Where the pin with this number stands.
+fn place_at(feed: [Spot; 32], pin: usize) -> Place
+    ensures { λ r. ⌜ r ≡ placeOf (spotAt feed pin) ⌝ }
+{
+    if pin < 32 {
+        let spot = feed[pin];
+        return place_of(spot);
+    }
+    Place { x: 0, y: 0 }
+}
+
+// The lowest number of a pin that is there, or 32.
+fn first_pin(feed: [Spot; 32]) -> usize
+    ensures { λ r. ⌜ r ≡ firstFrom 0 feed ⌝ }
+{
+    let mut pin = 0;
+    while pin < 32 {
+        let spot = feed[pin];
+        if is_there(spot) {
+            return pin;
+        }
+        pin += 1;
+    }
+    32
+}
+
+// What a pin keeps that does not wait.
+fn no_offer() -> Offer
+    ensures { λ r. ⌜ r ≡ noOffer ⌝ }
+{
+    let weight = Weight {
+        distance: 0,
+        rise: 0,
+        right: 0,
+    };
+    let pair = Pair {
+        weight,
+        low: 0,
+        high: 0,
+    };
+    Offer {
+        waits: false,
+        near: 0,
+        pair,
+    }
+}
+
+// The offer of a reached pin to a pin that waits.
+fn offer_of(near: usize, from: Place, pin: usize, to: Place) -> Offer
+    requires { ⌜ (inside from ≡ true) × (inside to ≡ true) ⌝ }
+    ensures { λ r. ⌜ r ≡ offerOf near from pin to ⌝ }
+{
+    let pair = grid::pair_of(near, from, pin, to);
+    Offer {
+        waits: true,
+        near,
+        pair,
+    }
+}
+
+// What a pin keeps when the first pin is reached.
+fn first_offer(first: usize, from: Place, pin: usize, spot: Spot) -> Offer
+    requires { ⌜ (inside from ≡ true) × (inside (placeOf spot) ≡ true) ⌝ }
+    ensures { λ r. ⌜ r ≡ firstOffer first from pin spot ⌝ }
+{
+    if !is_there(spot) {
+        return no_offer();
+    }
+    if pin == first {
+        return no_offer();
+    }
+    offer_of(first, from, pin, place_of(spot))
+}
+
+// The earlier of two offers.
+fn better_offer(kept: Offer, new: Offer) -> Offer
+    ensures { λ r. ⌜ r ≡ betterOffer kept new ⌝ }
+{
+    let p = new.pair;
+    let q = kept.pair;
+    if grid::before(p, q) { new } else { kept }
+}
+
+// What a pin keeps when one more pin is reached.
+fn next_offer(near: usize, from: Place, pin: usize, spot: Spot, kept: Offer) -> Offer
+    requires { ⌜ (inside from ≡ true) × (inside (placeOf spot) ≡ true) ⌝ }
+    ensures { λ r. ⌜ r ≡ nextOffer near from pin spot kept ⌝ }
+{
+    if !kept.waits {
+        return kept;
+    }
+    if pin == near {
+        return no_offer();
+    }
+    let new = offer_of(near, from, pin, place_of(spot));
+    better_offer(kept, new)
+}
+
+// What the pins keep when the first pin is reached.
+fn first_offers(feed: [Spot; 32], first: usize) -> [Offer; 32]
+    requires { ⌜ allInside feed ≡ true ⌝ }
+    ensures { λ r. ⌜ r ≡ firstOffers first (placeOf (spotAt feed first)) 0 feed ⌝ }
+{
+    let from = place_at(feed, first);
+    let none = no_offer();
+    let mut offers = [none; 32];
+    let mut pin = 0;
+    while pin < 32 {
+        let spot = feed[pin];
+        offers[pin] = first_offer(first, from, pin, spot);
+        pin += 1;
+    }
+    offers
+}
+
+// What the pins keep when one more pin is reached: one weight for each pin that waits.
+fn next_offers(feed: [Spot; 32], kept: [Offer; 32], near: usize) -> [Offer; 32]
+    requires { ⌜ allInside feed ≡ true ⌝ }
+    ensures { λ r. ⌜ r ≡ nextOffers near (placeOf (spotAt feed near)) 0 feed kept ⌝ }
+{
+    let from = place_at(feed, near);
+    let mut offers = kept;
+    let mut pin = 0;
+    while pin < 32 {
+        let spot = feed[pin];
+        let offer = offers[pin];
+        offers[pin] = next_offer(near, from, pin, spot, offer);
+        pin += 1;
+    }
+    offers
+}
+
+// The earlier of a choice and a pin with what it keeps.
+fn better_choice(choice: Choice, pin: usize, offer: Offer) -> Choice
+    ensures { λ r. ⌜ r ≡ betterChoice choice pin offer ⌝ }
+{
+    if !offer.waits {
+        return choice;
+    }
+    let kept = choice.offer;
+    if !kept.waits {
+        return Choice { pin, offer };
+    }
+    let p = offer.pair;
+    let q = kept.pair;
+    if grid::before(p, q) {
+        return Choice { pin, offer };
+    }
+    choice
+}
+
+// The pin with the earliest offer; one that does not wait where no pin does.
+fn earliest_offer(offers: [Offer; 32]) -> Choice
+    ensures { λ r. ⌜ r ≡ choiceOf offers ⌝ }
+{
+    let none = no_offer();
+    let mut choice = Choice {
+        pin: 0,
+        offer: none,
+    };
+    let mut pin = 0;
+    while pin < 32 {
+        let offer = offers[pin];
+        choice = better_choice(choice, pin, offer);
+        pin += 1;
+    }
+    choice
+}
+
+// The runs that are taken from these offers on, always the earliest offer.
+fn take_runs(feed: [Spot; 32], opening: [Offer; 32]) -> Taken
+    requires { ⌜ allInside feed ≡ true ⌝ }
+    ensures { λ r. ⌜ r ≡ takenOf (takenRuns feed 31 opening) ⌝ }
+{
+    let mut offers = opening;
+    let mut runs = [Run { near: 0, far: 0 }; 31];
+    let mut count = 0;
+    while count < 31 {
+        let choice = earliest_offer(offers);
+        let offer = choice.offer;
+        if !offer.waits {
+            return Taken { count, runs };
+        }
+        let far = choice.pin;
+        runs[count] = Run {
+            near: offer.near,
+            far,
+        };
+        let after = next_offers(feed, offers, far);
+        offers = after;
+        count += 1;
+    }
+    Taken { count, runs }
+}
+
+// Whether a number is less than both of two.
+fn below_both(a: i32, c: i32, d: i32) -> bool
+    ensures { λ r. ⌜ r ≡ belowBoth a c d ⌝ }
+{
+    a < c && a < d
+}
+
+// Whether both of two numbers are less than both of two others.
+fn is_under(a: i32, b: i32, c: i32, d: i32) -> bool
+    ensures { λ r. ⌜ r ≡ under a b c d ⌝ }
+{
+    let first = below_both(a, c, d);
+    let second = below_both(b, c, d);
+    if first { second } else { false }
+}
+
+// Whether the stretch from a to b and the stretch from c to d share a number.
+fn do_overlap(a: i32, b: i32, c: i32, d: i32) -> bool
+    ensures { λ r. ⌜ r ≡ overlap a b c d ⌝ }
+{
+    let first = is_under(a, b, c, d);
+    let second = is_under(c, d, a, b);
+    if first { false } else { !second }
+}
+
+// Whether the box of a and b and the box of c and d share a point.
+fn boxes_share(a: Place, b: Place, c: Place, d: Place) -> bool
+    ensures { λ r. ⌜ r ≡ boxesShare a b c d ⌝ }
+{
+    let x = do_overlap(a.x, b.x, c.x, d.x);
+    let y = do_overlap(a.y, b.y, c.y, d.y);
+    if x { y } else { false }
+}
+
+// Whether a pin is an end of a run.
+fn is_end(pin: usize, run: Run) -> bool
+    ensures { λ r. ⌜ r ≡ isEnd pin run ⌝ }
+{
+    if pin == run.near {
+        return true;
+    }
+    pin == run.far
+}
+
+// Whether two runs have a common pin.
+fn have_common(a: Run, b: Run) -> bool
+    ensures { λ r. ⌜ r ≡ common a b ⌝ }
+{
+    if is_end(a.near, b) {
+        return true;
+    }
+    is_end(a.far, b)
+}
+
+// Whether two runs without a common pin have boxes that share a point.
+fn do_clash(feed: [Spot; 32], a: Run, b: Run) -> bool
+    ensures { λ r. ⌜ r ≡ clash feed a b ⌝ }
+{
+    if have_common(a, b) {
+        return false;
+    }
+    let p = place_at(feed, a.near);
+    let q = place_at(feed, a.far);
+    let s = place_at(feed, b.near);
+    let t = place_at(feed, b.far);
+    boxes_share(p, q, s, t)
+}
+
+// Whether a run clashes with one of the runs from number `start` on.
+fn clashes_any(feed: [Spot; 32], runs: [Run; 31], count: usize, run: Run, start: usize) -> bool
+    requires { ⌜ count ≤ 31 ⌝ }
+    ensures { λ r. ⌜ r ≡ clashAny feed run (drop start (take count runs)) ⌝ }
+{
+    let mut at = start;
+    while at < count {
+        let other = runs[at];
+        if do_clash(feed, run, other) {
+            return true;
+        }
+        at += 1;
+    }
+    false
+}
+
+// Whether the boxes of two of the runs, without a common pin, share a point.
+fn do_boxes_meet(feed: [Spot; 32], runs: [Run; 31], count: usize) -> bool
+    requires { ⌜ count ≤ 31 ⌝ }
+    ensures { λ r. ⌜ r ≡ boxesMeet feed (take count runs) ⌝ }
+{
+    let mut at = 0;
+    while at < count {
+        let run = runs[at];
+        if clashes_any(feed, runs, count, run, at + 1) {
+            return true;
+        }
+        at += 1;
+    }
+    false
+}
+
+// A refusal, with no runs.
+fn refused(verdict: Verdict) -> Tree
+    ensures { λ r. ⌜ r ≡ treeWith verdict [] ⌝ }
+{
+    let runs = [Run { near: 0, far: 0 }; 31];
+    Tree {
+        verdict,
+        count: 0,
+        runs,
+    }
+}
+
+// The runs of these pins, or 17 or 18.
+pub fn tree_of(feed: [Spot; 32]) -> Tree
+    requires { ⌜ allInside feed ≡ true ⌝ }
+    ensures { λ r. ⌜ r ≡ treeOf feed ⌝ }
+{
+    let first = first_pin(feed);
+    if first == 32 {
+        return refused(Verdict::NoPins);
+    }
+    let offers = first_offers(feed, first);
+    let taken = take_runs(feed, offers);
+    let count = taken.count;
+    let runs = taken.runs;
+    if do_boxes_meet(feed, runs, count) {
+        return refused(Verdict::BoxesMeet);
+    }
+    Tree {
+        verdict: Verdict::Accepted,
+        count,
+        runs,
+    }
+}
