@@ -1,0 +1,8 @@
+-- The laws of the journal that other crates cite.
+pub mod Own
+pub mod Seated
+pub mod Filled
+pub mod Turns
+pub mod Edits
+mod Passing
+mod Dropping

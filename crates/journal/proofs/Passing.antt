@@ -1,0 +1,58 @@
+-- A pass over the records in use: what is left of them, and of a seat's edits, one record further on. Forwards and backwards. Assumes nothing.
+use mathlib.Core.Path.{_≡_, refl, ap, sym, _∙_}
+use mathlib.Core.Bool.{Bool, true, false}
+use mathlib.Core.List.{List, [], _∷_, _++_, append-nil, reverse, reverse-append}
+use Prim.Native.Nat.{ℕ, zero, suc, _+_, _-_, _<_, _≤_}
+use native.Mathlib.Numerals.{add-one, sub-one}
+use native.Mathlib.Omega.{arith}
+use lib.ListN.{length, take, drop, getD, drop-of-length-le, take-append-drop, length-drop, length-reverse}
+use lib.Seq.{length-take-le, drop-cons, getD-take, take-suc, drop-at}
+use Rattle.drawing.specs.declared.Edit.{Edit}
+use Rattle.journal.specs.declared.Record.{Record}
+use Rattle.journal.specs.Journal.{blank, own}
+use Rattle.journal.proofs.Own.{own-nil, own-here, own-past, own-append}
+
+-- Forwards: the records from i on.
+module _ (j : List Record) (u i : ℕ) (f : u ≤ length j) where
+  pub next : i < u → drop i (take u j) ≡ getD j i blank ∷ drop (i + 1) (take u j)
+  next h =
+      let a : length (take u j) ≡ u = length-take-le u j f in
+      drop-cons (take u j) i blank (omega arith) ∙ rw (getD-take u j i blank h, add-one)
+
+  pub none-left : u ≤ i → drop i (take u j) ≡ []
+  none-left h =
+      let a : length (take u j) ≡ u = length-take-le u j f in
+      let b : length (take u j) ≤ i = omega arith in
+      drop-of-length-le (take u j) b
+
+  module _ (s : ℕ) where
+    pub next-own : i < u → getD j i blank .seat ≡ s → own s (drop i (take u j)) ≡ getD j i blank .edit ∷ own s (drop (i + 1) (take u j))
+    next-own h e = rw (next h) (own-here s _ _ e)
+
+    pub next-other : i < u → (getD j i blank .seat ≡ s → ⊥) → own s (drop i (take u j)) ≡ own s (drop (i + 1) (take u j))
+    next-other h d = rw (next h) (own-past s _ _ d)
+
+    pub own-left : u ≤ i → own s (drop i (take u j)) ≡ []
+    own-left h = rw (none-left h) (own-nil s)
+
+-- Backwards: the records below i, the latest first.
+module _ (j : List Record) (s i : ℕ) (h : 0 < i) (f : i ≤ length j) where
+  below : own s (take i j) ≡ own s (take (i - 1) j) ++ own s (getD j (i - 1) blank ∷ [])
+  below =
+      let w : i ≡ suc (i - 1) = omega arith in
+      ap (λ (n : ℕ). own s (take n j)) w
+      ∙ ap (own s) (take-suc j (i - 1) blank (omega arith))
+      ∙ own-append s (take (i - 1) j) (getD j (i - 1) blank ∷ [])
+
+  pub back-own : getD j (i - 1) blank .seat ≡ s → reverse (own s (take i j)) ≡ getD j (i - 1) blank .edit ∷ reverse (own s (take (i - 1) j))
+  back-own e = rw (below, own-here s (getD j (i - 1) blank) [] e, own-nil s) (reverse-append (own s (take (i - 1) j)) _)
+
+  pub back-other : (getD j (i - 1) blank .seat ≡ s → ⊥) → reverse (own s (take i j)) ≡ reverse (own s (take (i - 1) j))
+  back-other d = rw (below, own-past s (getD j (i - 1) blank) [] d, own-nil s, append-nil (own s (take (i - 1) j)))
+
+-- The first k of a list, the latest first, come after the others when all are turned round.
+pub turned : {A : Type 0} (l : List A) (n k : ℕ) → n ≡ length l → drop (n - k) (reverse l) ≡ reverse (take k l)
+turned l n k e =
+    let a : length (reverse (drop k l)) ≡ n - k = length-reverse (drop k l) ∙ length-drop k l ∙ rw (← e) in
+    let p : reverse l ≡ reverse (drop k l) ++ reverse (take k l) = ap reverse (sym (take-append-drop k l)) ∙ reverse-append (take k l) (drop k l) in
+    rw p (drop-at (reverse (drop k l)) (reverse (take k l)) (n - k) a)

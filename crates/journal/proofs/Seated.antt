@@ -1,0 +1,93 @@
+-- Records whose seats are the desk's: dropping and appending keep them so, and the seats own all of them together. From `seated`; assumes nothing.
+use mathlib.Core.Path.{_≡_, refl, ap, sym, _∙_}
+use mathlib.Core.Bool.{Bool, true, false}
+use mathlib.Core.List.{List, [], _∷_, _++_}
+use mathlib.Core.Logic.{_⊎_, inl, inr, ⊎-elim}
+use Prim.Native.Nat.{ℕ, zero, suc, _+_, _-_, _<_, _≤_}
+use native.Mathlib.Omega.{arith}
+use borrow.Author.Tests.{ltb-true, lt-ltb, le-ltb}
+use lib.Dec.{ltb}
+use lib.ListN.{length}
+use Rattle.refusal.specs.Tests.{both}
+use Rattle.refusal.proofs.Tests.{both-left, both-right, both-of, both-yes, both-no}
+use Rattle.drawing.specs.declared.Edit.{Edit}
+use Rattle.journal.specs.declared.Record.{Record}
+use Rattle.journal.specs.Journal.{seats, recorded, own, kept, added, seated, ownedBelow}
+use Rattle.journal.proofs.Own.{same-or-not, own-nil, own-here, own-past, kept-nil, kept-here, kept-none, kept-past}
+
+-- One record more at the front.
+module _ (r : Record) (l : List Record) where
+  pub seated-first : seated (r ∷ l) ≡ true → r .seat < seats
+  unfolding seated
+  seated-first h = ltb-true _ _ (both-left _ _ h)
+
+  pub seated-rest : seated (r ∷ l) ≡ true → seated l ≡ true
+  unfolding seated
+  seated-rest h = both-right _ _ h
+
+  pub seated-cons : r .seat < seats → seated l ≡ true → seated (r ∷ l) ≡ true
+  unfolding seated
+  seated-cons p q = both-of (lt-ltb _ _ p) q
+
+  -- The first record decides: where it passes, what is left are the others; where it fails, all is said.
+  pub seated-yes : r .seat < seats → seated (r ∷ l) ≡ seated l
+  unfolding seated
+  seated-yes p = both-yes _ (lt-ltb _ _ p)
+
+  pub seated-no : seats ≤ r .seat → seated (r ∷ l) ≡ false
+  unfolding seated
+  seated-no p = both-no _ (le-ltb _ _ p)
+
+pub seated-nil : seated [] ≡ true
+unfolding seated
+seated-nil = refl
+
+-- Seated records put together are seated.
+pub seated-append : (l m : List Record) → seated l ≡ true → seated m ≡ true → seated (l ++ m) ≡ true
+seated-append [] m h k = k
+seated-append (r ∷ l) m h k = seated-cons r (l ++ m) (seated-first r l h) (seated-append l m (seated-rest r l h) k)
+
+-- Dropping keeps records seated.
+pub seated-kept : (s k : ℕ) (l : List Record) → seated l ≡ true → seated (kept s k l) ≡ true
+seated-kept s k [] h = rw (kept-nil s k) h
+seated-kept s zero (r ∷ l) h =
+    let i : seated (kept s zero l) ≡ true = seated-kept s zero l (seated-rest r l h) in
+    ⊎-elim
+    (λ e. rw (kept-none s r l e) i)
+    (λ d. rw (kept-past s r l zero d) (seated-cons r (kept s zero l) (seated-first r l h) i))
+    (same-or-not (r .seat) s)
+seated-kept s (suc k) (r ∷ l) h =
+    ⊎-elim
+    (λ e. rw (kept-here s r l k e) (seated-cons r (kept s k l) (seated-first r l h) (seated-kept s k l (seated-rest r l h))))
+    (λ d. rw (kept-past s r l (suc k) d) (seated-cons r (kept s (suc k) l) (seated-first r l h) (seated-kept s (suc k) l (seated-rest r l h))))
+    (same-or-not (r .seat) s)
+
+-- A new edit of one of the desk's seats keeps them so.
+pub seated-added : (s k : ℕ) (e : Edit) (l : List Record) → s < seats → seated l ≡ true → seated (added s k e l) ≡ true
+seated-added s k e l p h = seated-append (kept s k l) _ (seated-kept s k l h) (seated-cons (recorded s e) [] p seated-nil)
+
+owned-nil : (n : ℕ) → ownedBelow n [] ≡ 0
+unfolding ownedBelow
+owned-nil zero = refl
+owned-nil (suc n) = rw (own-nil n) (omega (arith, owned-nil n))
+
+owned-past : (n : ℕ) (r : Record) (l : List Record) → n ≤ r .seat → ownedBelow n (r ∷ l) ≡ ownedBelow n l
+unfolding ownedBelow
+owned-past zero r l h = refl
+owned-past (suc n) r l h =
+    rw (own-past n r l (λ (e : r .seat ≡ n). omega arith)) (omega (arith, owned-past n r l (omega arith)))
+
+owned-here : (n : ℕ) (r : Record) (l : List Record) → r .seat < n → ownedBelow n (r ∷ l) ≡ ownedBelow n l + 1
+unfolding ownedBelow
+owned-here zero r l h = absurd (omega arith)
+owned-here (suc n) r l h =
+    ⊎-elim
+    (λ e. rw (own-here n r l e) (omega (arith, owned-past n r l (omega arith))))
+    (λ d. rw (own-past n r l d) (omega (arith, owned-here n r l (omega arith))))
+    (same-or-not (r .seat) n)
+
+-- The seats own all records together: their edits' numbers add up to the number of records.
+pub owned-all : (l : List Record) → seated l ≡ true → ownedBelow seats l ≡ length l
+owned-all [] h = owned-nil seats
+owned-all (r ∷ l) h =
+    omega (arith, owned-here seats r l (seated-first r l h), owned-all l (seated-rest r l h))

@@ -1,0 +1,115 @@
+-- `journal::can_take_back_all` meets its contract: all can be taken back where those left can, from the pins that those passed leave. Assumes nothing.
+use mathlib.Core.Path.{_≡_, refl, ap, sym, _∙_}
+use Prim.Native.Nat.{_+_, _-_, _<_, _≤_}
+use native.Mathlib.Omega.{arith}
+use mathlib.Core.List.{[], reverse}
+use borrow.Author.Needs.{needs}
+use lib.ListN.{length, take, drop}
+use Rattle.drawing.specs.Edits.{takeable, unmade}
+use Rattle.journal.specs.Journal.{own, takeableAll}
+use Rattle.journal.proofs.Passing.{back-own, back-other, turned}
+use Rattle.journal.proofs.Own.{own-nil}
+use Rattle.journal.proofs.Turns.{pass-skip, pass-step, pass-stop, pass-end}
+use Rattle.journal.proofs.Edits.{takeable-pin}
+use Rattle.journal.proofs.can_take_back_all.Statement.{statement}
+use Rattle.journal.proofs.can_take_back_all.Tie as tie
+
+abbrev Inv-loop : tie.InvT-loop
+Inv-loop used seat owned standing journal q₀ skip₀ i₀ q skip i = (i ≤ used) × (takeableAll q₀ (reverse (take standing (own seat (take used journal)))) ≡ takeableAll q (drop skip (reverse (own seat (take i journal)))))
+
+abbrev μ-loop : tie.MeasureT-loop
+μ-loop used seat owned standing journal q₀ skip₀ i₀ q skip i = i
+
+sub-skip : tie.Need-sub-skip Inv-loop μ-loop
+sub-skip c = omega arith
+
+loop-holds : tie.Need-loop-holds Inv-loop μ-loop
+loop-holds c = (omega arith, rw (turned (own (c .args .seat) (take (c .args .used) (c .args .t2))) (c .args .owned) (c .args .standing) (c .pre .1)))
+
+sub-i : tie.Need-sub-i Inv-loop μ-loop
+sub-i c = omega arith
+
+mul-r : tie.Need-mul-r Inv-loop μ-loop
+mul-r c = omega arith
+
+array-copy-out-r : tie.Need-array-copy-out-r Inv-loop μ-loop
+array-copy-out-r c = omega arith
+
+sub-skip-2 : tie.Need-sub-skip-2 Inv-loop μ-loop
+sub-skip-2 c = omega arith
+
+loop-less : tie.Need-loop-less Inv-loop μ-loop
+loop-less c = omega arith
+
+loop-again : tie.Need-loop-again Inv-loop μ-loop
+loop-again c =
+    let a = c .before .before .before .before .before .before .args in
+    let o = c .before .before .before .before .before .loop in
+    let f : o .i ≤ length (a .t2) = omega arith in
+    (omega arith, o .inv .1 ∙ pass-skip takeable unmade (o .q) (o .skip) (back-own (a .t2) (a .seat) (o .i) (c .before .before .before .before .loop-test .taken) f (c .before .if1 .taken)) (c .if2 .taken))
+
+can-take-back-requires : tie.Need-can-take-back-requires Inv-loop μ-loop
+can-take-back-requires c κs = search needs
+
+take-back-requires : tie.Need-take-back-requires Inv-loop μ-loop
+take-back-requires c κs = takeable-pin _ _ (sym (c .before .can-take-back .ensures) ∙ c .if3 .taken)
+
+loop-less-2 : tie.Need-loop-less-2 Inv-loop μ-loop
+loop-less-2 c = omega arith
+
+loop-again-2 : tie.Need-loop-again-2 Inv-loop μ-loop
+loop-again-2 c =
+    let a = c .before .before .before .before .before .before .before .before .before .args in
+    let o = c .before .before .before .before .before .before .before .before .loop in
+    let f : o .i ≤ length (a .t2) = omega arith in (
+      omega arith,
+      o .inv .1 ∙ pass-step takeable unmade (o .q) (o .skip) (back-own (a .t2) (a .seat) (o .i) (c .before .before .before .before .before .before .before .loop-test .taken) f (c .before .before .before .before .if1 .taken)) (c .before .before .before .if2 .left) (c .before .before .can-take-back .ensures) (c .before .if3 .taken) (c .take-back .ensures),
+    )
+
+returns : tie.Need-returns Inv-loop μ-loop
+returns c =
+    let a = c .before .before .before .before .before .before .before .before .args in
+    let o = c .before .before .before .before .before .before .before .loop in
+    let f : o .i ≤ length (a .t2) = omega arith in
+    sym (o .inv .1 ∙ pass-stop takeable unmade (o .q) (o .skip) (back-own (a .t2) (a .seat) (o .i) (c .before .before .before .before .before .before .loop-test .taken) f (c .before .before .before .if1 .taken)) (c .before .before .if2 .left) (c .before .can-take-back .ensures) (c .if3 .left))
+
+loop-less-3 : tie.Need-loop-less-3 Inv-loop μ-loop
+loop-less-3 c = omega arith
+
+loop-again-3 : tie.Need-loop-again-3 Inv-loop μ-loop
+loop-again-3 c =
+    let a = c .before .before .before .before .before .args in
+    let o = c .before .before .before .before .loop in
+    let f : o .i ≤ length (a .t2) = omega arith in
+    (omega arith, o .inv .1 ∙ rw (back-other (a .t2) (a .seat) (o .i) (c .before .before .before .loop-test .taken) f (c .if1 .left)))
+
+returns-2 : tie.Need-returns-2 Inv-loop μ-loop
+returns-2 c =
+    let a = c .before .before .args in
+    let o = c .before .loop in
+    let z : o .i ≡ 0 = omega arith in
+    let e : reverse (own (a .seat) (take (o .i) (a .t2))) ≡ [] = rw (z, own-nil (a .seat)) in
+    sym (o .inv .1 ∙ pass-end takeable unmade (o .q) (o .skip) e)
+
+pub can-take-back-all-spec : {M : Type 1} → statement M
+can-take-back-all-spec =
+    tie.close
+    (tie.spec
+    Inv-loop
+    μ-loop
+    sub-skip
+    loop-holds
+    sub-i
+    mul-r
+    array-copy-out-r
+    sub-skip-2
+    loop-less
+    loop-again
+    can-take-back-requires
+    take-back-requires
+    loop-less-2
+    loop-again-2
+    returns
+    loop-less-3
+    loop-again-3
+    returns-2)

@@ -1,0 +1,89 @@
+-- `journal::edit_of` meets its contract: the edit sought is the one at `left` among the seat's that are left. Assumes nothing.
+use mathlib.Core.Path.{_≡_, refl, ap, sym, _∙_}
+use Prim.Native.Nat.{_+_, _-_, _<_, _≤_}
+use native.Mathlib.Omega.{arith}
+use lib.ListN.{length, take, drop, getD}
+use borrow.Author.Needs.{needs}
+use Rattle.journal.specs.Journal.{blank, noEdit, own}
+use Rattle.journal.proofs.Passing.{next-own, next-other, own-left}
+use Rattle.journal.proofs.Turns.{getD-one}
+use Rattle.journal.proofs.edit_of.Statement.{statement}
+use Rattle.journal.proofs.edit_of.Tie as tie
+
+abbrev Inv-loop : tie.InvT-loop
+Inv-loop used seat number journal left₀ i₀ left i = (i ≤ used) × (getD (own seat (take used journal)) number noEdit ≡ getD (own seat (drop i (take used journal))) left noEdit)
+
+abbrev μ-loop : tie.MeasureT-loop
+μ-loop used seat number journal left₀ i₀ left i = used - i
+
+loop-holds : tie.Need-loop-holds Inv-loop μ-loop
+loop-holds c = (omega arith, refl)
+
+mul-r : tie.Need-mul-r Inv-loop μ-loop
+mul-r c = omega arith
+
+array-copy-out-r : tie.Need-array-copy-out-r Inv-loop μ-loop
+array-copy-out-r c = omega arith
+
+add-i : tie.Need-add-i Inv-loop μ-loop
+add-i c = omega arith
+
+returns : tie.Need-returns Inv-loop μ-loop
+returns c =
+    let a = c .before .before .before .before .before .before .args in
+    let o = c .before .before .before .before .before .loop in
+    let f : a .used ≤ length (a .t1) = omega arith in
+    sym (o .inv .1 ∙ rw (next-own (a .t1) (a .used) (o .i) f (a .seat) (c .before .before .before .before .loop-test .taken) (c .before .if1 .taken), c .if2 .taken))
+
+sub-left : tie.Need-sub-left Inv-loop μ-loop
+sub-left c = omega arith
+
+loop-less : tie.Need-loop-less Inv-loop μ-loop
+loop-less c = omega arith
+
+loop-again : tie.Need-loop-again Inv-loop μ-loop
+loop-again c =
+    let a = c .before .before .before .before .before .before .args in
+    let o = c .before .before .before .before .before .loop in
+    let f : a .used ≤ length (a .t1) = omega arith in
+    let h : 0 < o .left = omega arith in
+    (omega arith, o .inv .1 ∙ rw (next-own (a .t1) (a .used) (o .i) f (a .seat) (c .before .before .before .before .loop-test .taken) (c .before .if1 .taken)) (getD-one (o .left) (getD (a .t1) (o .i) blank .edit) (own (a .seat) (drop (o .i + 1) (take (a .used) (a .t1)))) noEdit h))
+
+loop-less-2 : tie.Need-loop-less-2 Inv-loop μ-loop
+loop-less-2 c = omega arith
+
+loop-again-2 : tie.Need-loop-again-2 Inv-loop μ-loop
+loop-again-2 c =
+    let a = c .before .before .before .before .before .args in
+    let o = c .before .before .before .before .loop in
+    let f : a .used ≤ length (a .t1) = omega arith in
+    (omega arith, o .inv .1 ∙ rw (next-other (a .t1) (a .used) (o .i) f (a .seat) (c .before .before .before .loop-test .taken) (c .if1 .left)))
+
+no-edit-requires : tie.Need-no-edit-requires Inv-loop μ-loop
+no-edit-requires c κs = search needs
+
+returns-2 : tie.Need-returns-2 Inv-loop μ-loop
+returns-2 c =
+    let a = c .before .before .before .args in
+    let o = c .before .before .loop in
+    let f : a .used ≤ length (a .t1) = omega arith in
+    c .no-edit .ensures ∙ sym (o .inv .1 ∙ rw (own-left (a .t1) (a .used) (o .i) f (a .seat) (c .before .loop-test .left)))
+
+pub edit-of-spec : {M : Type 1} → statement M
+edit-of-spec =
+    tie.close
+    (tie.spec
+    Inv-loop
+    μ-loop
+    loop-holds
+    mul-r
+    array-copy-out-r
+    add-i
+    returns
+    sub-left
+    loop-less
+    loop-again
+    loop-less-2
+    loop-again-2
+    no-edit-requires
+    returns-2)

@@ -1,0 +1,2 @@
+-- What the words of the journal mean.
+pub mod Journal

@@ -1,0 +1,240 @@
+// The journal: the records of all seats, counting and finding a seat's own, dropping and appending, and whether a seat's edits can be redone and taken back.
+use drawing::Edit;
+use drawing::Held;
+use drawing::Pin;
+use grid::Place;
+ghost use mathlib.Core.Path.{_≡_};
+ghost use Prim.Native.Nat.{_<_, _≤_};
+ghost use mathlib.Core.List.{reverse};
+ghost use lib.ListN.{drop, getD, length, set, take};
+ghost use Rattle.journal.specs.Journal.{records, noEdit, blank, own, kept, added, compacted, seated, replayable, takeableAll};
+
+// All seats share a journal of this many records.
+pub const RECORDS: usize = 256;
+
+// Seats are numbered from 0 to one less than this.
+pub const SEATS: usize = 8;
+
+// A journal record: its seat and one edit of the drawing there.
+pub struct Record {
+    pub seat: usize,
+    pub edit: Edit,
+}
+
+// A journal with the number of its records in use.
+pub struct Compacted {
+    pub journal: [Record; RECORDS],
+    pub used: usize,
+}
+
+// The edit of a record that is not in use.
+pub fn no_edit() -> Edit
+    ensures { λ r. ⌜ r ≡ noEdit ⌝ }
+{
+    Edit::Placed(
+        0,
+        Held {
+            place: Place { x: 0, y: 0 },
+        },
+    )
+}
+
+// A record that is not in use.
+pub fn blank_record() -> Record
+    ensures { λ r. ⌜ r ≡ blank ⌝ }
+{
+    let e = no_edit();
+    Record { seat: 0, edit: e }
+}
+
+// How many of the first `used` records are the seat's.
+pub fn count_of(journal: [Record; RECORDS], used: usize, seat: usize) -> usize
+    requires { ⌜ used ≤ records ⌝ }
+    ensures { λ r. ⌜ r ≡ length (own seat (take used journal)) ⌝ }
+{
+    let mut count: usize = 0;
+    let mut i: usize = 0;
+    while i < used {
+        let r = journal[i];
+        i = i + 1;
+        if r.seat == seat {
+            count = count + 1;
+        }
+    }
+    count
+}
+
+// The seat's edit of that number, counted from 0.
+pub fn edit_of(journal: [Record; RECORDS], used: usize, seat: usize, number: usize) -> Edit
+    requires { ⌜ used ≤ records ⌝ }
+    ensures { λ r. ⌜ r ≡ getD (own seat (take used journal)) number noEdit ⌝ }
+{
+    let mut left: usize = number;
+    let mut i: usize = 0;
+    while i < used {
+        let r = journal[i];
+        i = i + 1;
+        if r.seat == seat {
+            if left == 0 {
+                let e = r.edit;
+                return e;
+            }
+            left = left - 1;
+        }
+    }
+    no_edit()
+}
+
+// The journal without the seat's records beyond its first `keep`: those behind move up, and blank records follow.
+pub fn compact(journal: [Record; RECORDS], used: usize, seat: usize, keep: usize) -> Compacted
+    requires { ⌜ used ≤ records ⌝ }
+    ensures { λ r. ⌜ r ≡ compacted (kept seat keep (take used journal)) ⌝ }
+{
+    let b = blank_record();
+    let mut out = [b; RECORDS];
+    let mut written: usize = 0;
+    let mut left: usize = keep;
+    let mut i: usize = 0;
+    while i < used {
+        let r = journal[i];
+        i = i + 1;
+        if r.seat == seat {
+            if 0 < left {
+                left = left - 1;
+                out[written] = r;
+                written = written + 1;
+            }
+        } else {
+            out[written] = r;
+            written = written + 1;
+        }
+    }
+    Compacted {
+        journal: out,
+        used: written,
+    }
+}
+
+// The journal with its latest record after those in use.
+pub fn append(journal: [Record; RECORDS], used: usize, latest: Record) -> [Record; RECORDS]
+    requires { ⌜ used < records ⌝ }
+    ensures { λ r. ⌜ r ≡ set journal used latest ⌝ }
+{
+    let mut out = journal;
+    out[used] = latest;
+    out
+}
+
+// The journal after a new edit of the seat: its records beyond the first `keep` are dropped, and the edit is recorded.
+pub fn enter(
+    journal: [Record; RECORDS],
+    used: usize,
+    seat: usize,
+    keep: usize,
+    edit: Edit,
+) -> Compacted
+    requires { ⌜ (used ≤ records) × (length (kept seat keep (take used journal)) < records) ⌝ }
+    ensures { λ r. ⌜ r ≡ compacted (added seat keep edit (take used journal)) ⌝ }
+{
+    let left = compact(journal, used, seat, keep);
+    let room = left.journal;
+    let n = left.used;
+    let out = append(
+        room,
+        n,
+        Record {
+            seat: seat,
+            edit: edit,
+        },
+    );
+    Compacted {
+        journal: out,
+        used: n + 1,
+    }
+}
+
+// Whether the seat of every record in use is one of the desk's.
+pub fn all_seated(journal: [Record; RECORDS], used: usize) -> bool
+    requires { ⌜ used ≤ records ⌝ }
+    ensures { λ r. ⌜ r ≡ seated (take used journal) ⌝ }
+{
+    let mut i: usize = 0;
+    while i < used {
+        let r = journal[i];
+        if r.seat < SEATS {
+            i = i + 1;
+        } else {
+            return false;
+        }
+    }
+    true
+}
+
+// Whether the seat's taken-back edits, those after the first `standing`, can be made on these pins one after the other.
+pub fn can_redo_all(
+    pins: [Pin; 32],
+    journal: [Record; RECORDS],
+    used: usize,
+    seat: usize,
+    standing: usize,
+) -> bool
+    requires { ⌜ used ≤ records ⌝ }
+    ensures { λ r. ⌜ r ≡ replayable pins (drop standing (own seat (take used journal))) ⌝ }
+{
+    let mut q = pins;
+    let mut skip: usize = standing;
+    let mut i: usize = 0;
+    while i < used {
+        let r = journal[i];
+        i = i + 1;
+        if r.seat == seat {
+            if 0 < skip {
+                skip = skip - 1;
+            } else {
+                let e = r.edit;
+                if drawing::can_make(q, e) {
+                    let next = drawing::make(q, e);
+                    q = next;
+                } else {
+                    return false;
+                }
+            }
+        }
+    }
+    true
+}
+
+// Whether the seat's first `standing` edits of the `owned` that it has can be taken back from these pins, the latest first.
+pub fn can_take_back_all(
+    pins: [Pin; 32],
+    journal: [Record; RECORDS],
+    used: usize,
+    seat: usize,
+    owned: usize,
+    standing: usize,
+) -> bool
+    requires { ⌜ (used ≤ records) × (owned ≡ length (own seat (take used journal))) × (standing ≤ owned) ⌝ }
+    ensures { λ r. ⌜ r ≡ takeableAll pins (reverse (take standing (own seat (take used journal)))) ⌝ }
+{
+    let mut q = pins;
+    let mut skip: usize = owned - standing;
+    let mut i: usize = used;
+    while 0 < i {
+        i = i - 1;
+        let r = journal[i];
+        if r.seat == seat {
+            if 0 < skip {
+                skip = skip - 1;
+            } else {
+                let e = r.edit;
+                if drawing::can_take_back(q, e) {
+                    let former = drawing::take_back(q, e);
+                    q = former;
+                } else {
+                    return false;
+                }
+            }
+        }
+    }
+    true
+}
