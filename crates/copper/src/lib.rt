@@ -147,7 +147,12 @@ fn arms_to(pin: Place, tip: Place) -> Arms
     let west = reach_of(row, tip.x, pin.x);
     let north = reach_of(column, pin.y, tip.y);
     let south = reach_of(column, tip.y, pin.y);
-    Arms { east, west, north, south }
+    Arms {
+        east,
+        west,
+        north,
+        south,
+    }
 }
 
 // The larger of two numbers.
@@ -186,7 +191,12 @@ pub fn no_tally() -> Tally
     ensures { λ r. ⌜ r ≡ noTally ⌝ }
 {
     Tally {
-        arms: Arms { east: 0, west: 0, north: 0, south: 0 },
+        arms: Arms {
+            east: 0,
+            west: 0,
+            north: 0,
+            south: 0,
+        },
         paid: 0,
     }
 }
@@ -211,7 +221,10 @@ pub fn leading_on(tally: Tally, upper: bool, near: Place, far: Place) -> Tally
     let more = arms_to(near, tip);
     let before = tally.arms;
     let arms = longest_of(before, more);
-    Tally { arms, paid: tally.paid }
+    Tally {
+        arms,
+        paid: tally.paid,
+    }
 }
 
 // What a pin costs.

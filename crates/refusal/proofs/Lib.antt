@@ -1,2 +1,3 @@
--- The laws of tests joined by words.
+-- The laws of tests joined by words, and of rows of refusals.
 pub mod Tests
+pub mod Rows
