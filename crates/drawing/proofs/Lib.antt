@@ -1,3 +1,8 @@
 -- The laws of drawings that other crates cite.
+pub mod Places
+pub mod Rules
+pub mod Making
 mod Loops
 mod Tests
+pub mod Numbered
+mod Worked

@@ -14,7 +14,7 @@ use Rattle.drawing.specs.declared.Stand.the-variants.{Absent, There}
 use Rattle.drawing.specs.declared.Pin.{Pin}
 use Rattle.drawing.specs.declared.Edit.{Edit}
 use Rattle.drawing.specs.declared.Edit.the-variants.{Placed, Moved, Removed}
-use Rattle.drawing.specs.Pins.{pins, absent, there, holding, isThere, samePin, samePins, crowded}
+use Rattle.drawing.specs.Pins.{pins, absent, there, holding, isThere, samePin, samePins, crowded, settled}
 
 -- The number of the pin that an edit names.
 abbrev pub pinOf : Edit → ℕ
@@ -68,6 +68,31 @@ makeable l (Placed p h) = both (ltb p pins) (placeable l p h)
 makeable l (Moved p a b) = both (ltb p pins) (movable l p a b)
 makeable l (Removed p h) = both (ltb p pins) (samePin (getD l p absent) (there h))
 
--- An edit that stands on these pins could have been made: on the pins with it taken back it can be made, and gives these.
+-- An edit that stands on these pins could have been made: with it taken back, it can be made, its pin is settled, and making it gives
+-- these pins.
 unfoldable pub takeable : List Pin → Edit → Bool
-takeable l e = both (makeable (unmade l e) e) (samePins (made (unmade l e) e) l)
+takeable l e = both (makeable (unmade l e) e) (both (settled (unmade l e) (pinOf e)) (samePins (made (unmade l e) e) l))
+
+-- The place of a pin that is not there.
+abbrev pub nowhere : Place
+nowhere = record { x = pos 0; y = pos 0 }
+
+abbrev pub heldIn : Stand → Held
+heldIn Absent = holding nowhere
+heldIn (There h) = h
+
+-- What a pin holds.
+unfoldable pub heldBy : Pin → Held
+heldBy q = heldIn (q .stand)
+
+-- The edit that places a pin at a place.
+abbrev pub placed : ℕ → Place → Edit
+placed p at = Placed p (holding at)
+
+-- The edit that moves a pin from where it stands.
+abbrev pub moved : List Pin → ℕ → Place → Edit
+moved l p at = Moved p (heldBy (getD l p absent) .place) at
+
+-- The edit that removes a pin, with what it holds.
+abbrev pub removed : List Pin → ℕ → Edit
+removed l p = Removed p (heldBy (getD l p absent))

@@ -4,7 +4,7 @@ use mathlib.Core.List.{List, [], _∷_, map}
 use Prim.Native.Nat.{ℕ}
 use lib.Dec.{eqb}
 use lib.IntN.{pos}
-use lib.ListN.{length, set}
+use lib.ListN.{length, getD, set}
 use Rattle.refusal.specs.Tests.{both, either}
 use Rattle.grid.specs.declared.Place.{Place}
 use Rattle.grid.specs.declared.Spot.{Spot}
@@ -85,6 +85,10 @@ withinIn (There h) = inside (h .place)
 -- A pin, if it is there, is on the board.
 unfoldable pub within : Pin → Bool
 within q = withinIn (q .stand)
+
+-- Pin p, if it is there, is on the board, and no other pin is too near to it.
+unfoldable pub settled : List Pin → ℕ → Bool
+settled l p = both (within (getD l p absent)) (not (meetsAny (getD l p absent) (set l p absent)))
 
 -- Every pin that is there is on the board.
 unfoldable pub allWithin : List Pin → Bool

@@ -4,8 +4,8 @@ use grid::Spot;
 ghost use mathlib.Core.Path.{_≡_};
 ghost use Prim.Native.Nat.{_<_, _≤_};
 ghost use lib.ListN.{drop};
-ghost use Rattle.drawing.specs.Pins.{absent, there, isThere, sameHeld, samePin, samePins, meets, meetsAny, crowded, within, allWithin, allApart, lawful, feedOf, spotOf};
-ghost use Rattle.drawing.specs.Edits.{pinOf, movedPin, standsAt, fits, placeable, movable, makeable, made, unmade, takeable};
+ghost use Rattle.drawing.specs.Pins.{absent, there, isThere, sameHeld, samePin, samePins, meets, meetsAny, crowded, within, settled, allWithin, allApart, lawful, feedOf, spotOf};
+ghost use Rattle.drawing.specs.Edits.{pinOf, movedPin, standsAt, fits, placeable, movable, makeable, made, unmade, takeable, heldBy, placed, moved, removed};
 
 // The pins of a drawing are numbered from 0 to one less than this.
 pub const PINS: usize = 32;
@@ -163,6 +163,21 @@ fn is_within(pin: Pin) -> bool
             let p = h.place;
             grid::is_inside(p)
         }
+    }
+}
+
+// Whether a pin, if it is there, is on the board with no other pin too near to it.
+fn is_settled(pins: [Pin; 32], pin: usize) -> bool
+    requires { ⌜ pin < 32 ⌝ }
+    ensures { λ r. ⌜ r ≡ settled pins pin ⌝ }
+{
+    let q = pins[pin];
+    let mut others = pins;
+    others[pin] = absent_pin();
+    if is_within(q) {
+        if meets_any(q, others, 0) { false } else { true }
+    } else {
+        false
     }
 }
 
@@ -388,9 +403,54 @@ pub fn can_take_back(pins: [Pin; 32], edit: Edit) -> bool
     }
     let before = take_back(pins, edit);
     if can_make(before, edit) {
-        let after = make(before, edit);
-        same_pins(after, pins)
+        if is_settled(before, number) {
+            let after = make(before, edit);
+            same_pins(after, pins)
+        } else {
+            false
+        }
     } else {
         false
     }
+}
+
+// What a pin holds: nothing but the middle of the board where it is not there.
+fn held_by(pin: Pin) -> Held
+    ensures { λ r. ⌜ r ≡ heldBy pin ⌝ }
+{
+    let s = pin.stand;
+    match s {
+        Stand::Absent => Held {
+            place: Place { x: 0, y: 0 },
+        },
+        Stand::There(h) => h,
+    }
+}
+
+// The edit that places a pin.
+pub fn edit_placing(pin: usize, at: Place) -> Edit
+    ensures { λ r. ⌜ r ≡ placed pin at ⌝ }
+{
+    Edit::Placed(pin, Held { place: at })
+}
+
+// The edit that moves a pin from where it stands.
+pub fn edit_moving(pins: [Pin; 32], pin: usize, to: Place) -> Edit
+    requires { ⌜ pin < 32 ⌝ }
+    ensures { λ r. ⌜ r ≡ moved pins pin to ⌝ }
+{
+    let q = pins[pin];
+    let h = held_by(q);
+    let from = h.place;
+    Edit::Moved(pin, from, to)
+}
+
+// The edit that removes a pin, with what it holds.
+pub fn edit_removing(pins: [Pin; 32], pin: usize) -> Edit
+    requires { ⌜ pin < 32 ⌝ }
+    ensures { λ r. ⌜ r ≡ removed pins pin ⌝ }
+{
+    let q = pins[pin];
+    let h = held_by(q);
+    Edit::Removed(pin, h)
 }

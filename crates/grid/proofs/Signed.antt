@@ -136,7 +136,7 @@ abs-cond : (t : Bool) (a b : ℕ) → ltb a b ≡ t → natAbs (cond t (negsuc (
 abs-cond true a b e = omega (arith, ltb-true a b e)
 abs-cond false a b e = omega (arith, ltb-false a b e)
 
-abs-sub : (a b : ℕ) → natAbs (subℕ a b) ≡ (a - b) + (b - a)
+pub abs-sub : (a b : ℕ) → natAbs (subℕ a b) ≡ (a - b) + (b - a)
 abs-sub a b = abs-cond (ltb a b) a b refl
 
 -- How far two numbers are apart, in ℕ.

@@ -3,14 +3,12 @@ use mathlib.Core.Path.{_≡_, refl, ap, sym, _∙_}
 use mathlib.Core.Bool.{Bool, true, false}
 use mathlib.Core.List.{List, [], _∷_, _++_, append-nil}
 use mathlib.Core.Logic.{_⊎_, inl, inr, ⊎-elim}
-use Prim.Native.Nat.{ℕ, zero, suc, _+_, _-_, _<_, _≤_}
-use native.Mathlib.Numerals.{sub-one}
+use Prim.Native.Nat.{ℕ, zero, suc, _+_, _-_, _≤_}
 use native.Mathlib.Omega.{arith}
 use borrow.Author.Tests.{eqb-true, eqb-false, eq-eqb, ne-eqb}
 use lib.Dec.{eqb}
-use lib.ListN.{length, take, length-append, length-take}
+use lib.ListN.{length, take, length-append}
 use lib.Seq.{take-nil}
-use Rattle.refusal.specs.Tests.{choose}
 use Rattle.refusal.proofs.Tests.{choose-yes, choose-no}
 use Rattle.drawing.specs.declared.Edit.{Edit}
 use Rattle.journal.specs.declared.Record.{Record}

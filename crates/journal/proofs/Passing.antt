@@ -1,13 +1,11 @@
 -- A pass over the records in use: what is left of them, and of a seat's edits, one record further on. Forwards and backwards. Assumes nothing.
-use mathlib.Core.Path.{_≡_, refl, ap, sym, _∙_}
-use mathlib.Core.Bool.{Bool, true, false}
+use mathlib.Core.Path.{_≡_, ap, sym, _∙_}
 use mathlib.Core.List.{List, [], _∷_, _++_, append-nil, reverse, reverse-append}
-use Prim.Native.Nat.{ℕ, zero, suc, _+_, _-_, _<_, _≤_}
-use native.Mathlib.Numerals.{add-one, sub-one}
+use Prim.Native.Nat.{ℕ, suc, _+_, _-_, _<_, _≤_}
+use native.Mathlib.Numerals.{add-one}
 use native.Mathlib.Omega.{arith}
 use lib.ListN.{length, take, drop, getD, drop-of-length-le, take-append-drop, length-drop, length-reverse}
 use lib.Seq.{length-take-le, drop-cons, getD-take, take-suc, drop-at}
-use Rattle.drawing.specs.declared.Edit.{Edit}
 use Rattle.journal.specs.declared.Record.{Record}
 use Rattle.journal.specs.Journal.{blank, own}
 use Rattle.journal.proofs.Own.{own-nil, own-here, own-past, own-append}

@@ -1,18 +1,16 @@
 -- Records whose seats are the desk's: dropping and appending keep them so, and the seats own all of them together. From `seated`; assumes nothing.
-use mathlib.Core.Path.{_≡_, refl, ap, sym, _∙_}
-use mathlib.Core.Bool.{Bool, true, false}
+use mathlib.Core.Path.{_≡_, refl}
+use mathlib.Core.Bool.{true, false}
 use mathlib.Core.List.{List, [], _∷_, _++_}
-use mathlib.Core.Logic.{_⊎_, inl, inr, ⊎-elim}
+use mathlib.Core.Logic.{_⊎_, ⊎-elim}
 use Prim.Native.Nat.{ℕ, zero, suc, _+_, _-_, _<_, _≤_}
 use native.Mathlib.Omega.{arith}
 use borrow.Author.Tests.{ltb-true, lt-ltb, le-ltb}
-use lib.Dec.{ltb}
 use lib.ListN.{length}
-use Rattle.refusal.specs.Tests.{both}
 use Rattle.refusal.proofs.Tests.{both-left, both-right, both-of, both-yes, both-no}
 use Rattle.drawing.specs.declared.Edit.{Edit}
 use Rattle.journal.specs.declared.Record.{Record}
-use Rattle.journal.specs.Journal.{seats, recorded, own, kept, added, seated, ownedBelow}
+use Rattle.journal.specs.Journal.{seats, recorded, kept, added, seated, ownedBelow}
 use Rattle.journal.proofs.Own.{same-or-not, own-nil, own-here, own-past, kept-nil, kept-here, kept-none, kept-past}
 
 -- One record more at the front.

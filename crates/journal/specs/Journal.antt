@@ -1,5 +1,5 @@
 -- The journal: the edits of one seat in it, what dropping and appending leave, and when a seat's edits can be redone and taken back.
-use mathlib.Core.Bool.{Bool, true, false}
+use mathlib.Core.Bool.{Bool, true}
 use mathlib.Core.List.{List, [], _∷_, _++_}
 use Prim.Native.Nat.{ℕ, zero, suc, _+_, _-_}
 use lib.Dec.{eqb, ltb}

@@ -1,6 +1,7 @@
 // The journal: the records of all seats, counting and finding a seat's own, dropping and appending, and whether a seat's edits can be redone and taken back.
 use drawing::Edit;
 use drawing::Held;
+use drawing::PINS;
 use drawing::Pin;
 use grid::Place;
 ghost use mathlib.Core.Path.{_≡_};
@@ -55,9 +56,9 @@ pub fn count_of(journal: [Record; RECORDS], used: usize, seat: usize) -> usize
     let mut count: usize = 0;
     let mut i: usize = 0;
     while i < used {
-        let r = journal[i];
+        let seen = journal[i];
         i = i + 1;
-        if r.seat == seat {
+        if seen.seat == seat {
             count = count + 1;
         }
     }
@@ -72,11 +73,11 @@ pub fn edit_of(journal: [Record; RECORDS], used: usize, seat: usize, number: usi
     let mut left: usize = number;
     let mut i: usize = 0;
     while i < used {
-        let r = journal[i];
+        let sought = journal[i];
         i = i + 1;
-        if r.seat == seat {
+        if sought.seat == seat {
             if left == 0 {
-                let e = r.edit;
+                let e = sought.edit;
                 return e;
             }
             left = left - 1;
@@ -96,16 +97,16 @@ pub fn compact(journal: [Record; RECORDS], used: usize, seat: usize, keep: usize
     let mut left: usize = keep;
     let mut i: usize = 0;
     while i < used {
-        let r = journal[i];
+        let entry = journal[i];
         i = i + 1;
-        if r.seat == seat {
+        if entry.seat == seat {
             if 0 < left {
                 left = left - 1;
-                out[written] = r;
+                out[written] = entry;
                 written = written + 1;
             }
         } else {
-            out[written] = r;
+            out[written] = entry;
             written = written + 1;
         }
     }
@@ -172,7 +173,7 @@ pub fn all_seated(journal: [Record; RECORDS], used: usize) -> bool
 
 // Whether the seat's taken-back edits, those after the first `standing`, can be made on these pins one after the other.
 pub fn can_redo_all(
-    pins: [Pin; 32],
+    pins: [Pin; PINS],
     journal: [Record; RECORDS],
     used: usize,
     seat: usize,
@@ -185,13 +186,13 @@ pub fn can_redo_all(
     let mut skip: usize = standing;
     let mut i: usize = 0;
     while i < used {
-        let r = journal[i];
+        let redone = journal[i];
         i = i + 1;
-        if r.seat == seat {
+        if redone.seat == seat {
             if 0 < skip {
                 skip = skip - 1;
             } else {
-                let e = r.edit;
+                let e = redone.edit;
                 if drawing::can_make(q, e) {
                     let next = drawing::make(q, e);
                     q = next;
@@ -206,7 +207,7 @@ pub fn can_redo_all(
 
 // Whether the seat's first `standing` edits of the `owned` that it has can be taken back from these pins, the latest first.
 pub fn can_take_back_all(
-    pins: [Pin; 32],
+    pins: [Pin; PINS],
     journal: [Record; RECORDS],
     used: usize,
     seat: usize,
@@ -217,16 +218,16 @@ pub fn can_take_back_all(
     ensures { λ r. ⌜ r ≡ takeableAll pins (reverse (take standing (own seat (take used journal)))) ⌝ }
 {
     let mut q = pins;
-    let mut skip: usize = owned - standing;
+    let mut later: usize = owned - standing;
     let mut i: usize = used;
     while 0 < i {
         i = i - 1;
-        let r = journal[i];
-        if r.seat == seat {
-            if 0 < skip {
-                skip = skip - 1;
+        let undone = journal[i];
+        if undone.seat == seat {
+            if 0 < later {
+                later = later - 1;
             } else {
-                let e = r.edit;
+                let e = undone.edit;
                 if drawing::can_take_back(q, e) {
                     let former = drawing::take_back(q, e);
                     q = former;

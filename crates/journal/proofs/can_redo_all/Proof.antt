@@ -1,6 +1,6 @@
 -- `journal::can_redo_all` meets its contract: all can be redone where those left can, on the pins that those passed leave. Assumes nothing.
-use mathlib.Core.Path.{_≡_, refl, ap, sym, _∙_}
-use Prim.Native.Nat.{_+_, _-_, _<_, _≤_}
+use mathlib.Core.Path.{_≡_, refl, sym, _∙_}
+use Prim.Native.Nat.{_-_, _≤_}
 use native.Mathlib.Omega.{arith}
 use borrow.Author.Needs.{needs}
 use lib.ListN.{length, take, drop}
@@ -21,11 +21,11 @@ abbrev μ-loop : tie.MeasureT-loop
 loop-holds : tie.Need-loop-holds Inv-loop μ-loop
 loop-holds c = (omega arith, refl)
 
-mul-r : tie.Need-mul-r Inv-loop μ-loop
-mul-r c = omega arith
+mul-redone : tie.Need-mul-redone Inv-loop μ-loop
+mul-redone c = omega arith
 
-array-copy-out-r : tie.Need-array-copy-out-r Inv-loop μ-loop
-array-copy-out-r c = omega arith
+array-copy-out-redone : tie.Need-array-copy-out-redone Inv-loop μ-loop
+array-copy-out-redone c = omega arith
 
 add-i : tie.Need-add-i Inv-loop μ-loop
 add-i c = omega arith
@@ -92,8 +92,8 @@ can-redo-all-spec =
     Inv-loop
     μ-loop
     loop-holds
-    mul-r
-    array-copy-out-r
+    mul-redone
+    array-copy-out-redone
     add-i
     sub-skip
     loop-less

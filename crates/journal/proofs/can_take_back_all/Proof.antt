@@ -1,6 +1,6 @@
 -- `journal::can_take_back_all` meets its contract: all can be taken back where those left can, from the pins that those passed leave. Assumes nothing.
-use mathlib.Core.Path.{_≡_, refl, ap, sym, _∙_}
-use Prim.Native.Nat.{_+_, _-_, _<_, _≤_}
+use mathlib.Core.Path.{_≡_, sym, _∙_}
+use Prim.Native.Nat.{_-_, _≤_}
 use native.Mathlib.Omega.{arith}
 use mathlib.Core.List.{[], reverse}
 use borrow.Author.Needs.{needs}
@@ -15,13 +15,13 @@ use Rattle.journal.proofs.can_take_back_all.Statement.{statement}
 use Rattle.journal.proofs.can_take_back_all.Tie as tie
 
 abbrev Inv-loop : tie.InvT-loop
-Inv-loop used seat owned standing journal q₀ skip₀ i₀ q skip i = (i ≤ used) × (takeableAll q₀ (reverse (take standing (own seat (take used journal)))) ≡ takeableAll q (drop skip (reverse (own seat (take i journal)))))
+Inv-loop used seat owned standing journal q₀ later₀ i₀ q later i = (i ≤ used) × (takeableAll q₀ (reverse (take standing (own seat (take used journal)))) ≡ takeableAll q (drop later (reverse (own seat (take i journal)))))
 
 abbrev μ-loop : tie.MeasureT-loop
-μ-loop used seat owned standing journal q₀ skip₀ i₀ q skip i = i
+μ-loop used seat owned standing journal q₀ later₀ i₀ q later i = i
 
-sub-skip : tie.Need-sub-skip Inv-loop μ-loop
-sub-skip c = omega arith
+sub-later : tie.Need-sub-later Inv-loop μ-loop
+sub-later c = omega arith
 
 loop-holds : tie.Need-loop-holds Inv-loop μ-loop
 loop-holds c = (omega arith, rw (turned (own (c .args .seat) (take (c .args .used) (c .args .t2))) (c .args .owned) (c .args .standing) (c .pre .1)))
@@ -29,14 +29,14 @@ loop-holds c = (omega arith, rw (turned (own (c .args .seat) (take (c .args .use
 sub-i : tie.Need-sub-i Inv-loop μ-loop
 sub-i c = omega arith
 
-mul-r : tie.Need-mul-r Inv-loop μ-loop
-mul-r c = omega arith
+mul-undone : tie.Need-mul-undone Inv-loop μ-loop
+mul-undone c = omega arith
 
-array-copy-out-r : tie.Need-array-copy-out-r Inv-loop μ-loop
-array-copy-out-r c = omega arith
+array-copy-out-undone : tie.Need-array-copy-out-undone Inv-loop μ-loop
+array-copy-out-undone c = omega arith
 
-sub-skip-2 : tie.Need-sub-skip-2 Inv-loop μ-loop
-sub-skip-2 c = omega arith
+sub-later-2 : tie.Need-sub-later-2 Inv-loop μ-loop
+sub-later-2 c = omega arith
 
 loop-less : tie.Need-loop-less Inv-loop μ-loop
 loop-less c = omega arith
@@ -46,7 +46,7 @@ loop-again c =
     let a = c .before .before .before .before .before .before .args in
     let o = c .before .before .before .before .before .loop in
     let f : o .i ≤ length (a .t2) = omega arith in
-    (omega arith, o .inv .1 ∙ pass-skip takeable unmade (o .q) (o .skip) (back-own (a .t2) (a .seat) (o .i) (c .before .before .before .before .loop-test .taken) f (c .before .if1 .taken)) (c .if2 .taken))
+    (omega arith, o .inv .1 ∙ pass-skip takeable unmade (o .q) (o .later) (back-own (a .t2) (a .seat) (o .i) (c .before .before .before .before .loop-test .taken) f (c .before .if1 .taken)) (c .if2 .taken))
 
 can-take-back-requires : tie.Need-can-take-back-requires Inv-loop μ-loop
 can-take-back-requires c κs = search needs
@@ -63,7 +63,7 @@ loop-again-2 c =
     let o = c .before .before .before .before .before .before .before .before .loop in
     let f : o .i ≤ length (a .t2) = omega arith in (
       omega arith,
-      o .inv .1 ∙ pass-step takeable unmade (o .q) (o .skip) (back-own (a .t2) (a .seat) (o .i) (c .before .before .before .before .before .before .before .loop-test .taken) f (c .before .before .before .before .if1 .taken)) (c .before .before .before .if2 .left) (c .before .before .can-take-back .ensures) (c .before .if3 .taken) (c .take-back .ensures),
+      o .inv .1 ∙ pass-step takeable unmade (o .q) (o .later) (back-own (a .t2) (a .seat) (o .i) (c .before .before .before .before .before .before .before .loop-test .taken) f (c .before .before .before .before .if1 .taken)) (c .before .before .before .if2 .left) (c .before .before .can-take-back .ensures) (c .before .if3 .taken) (c .take-back .ensures),
     )
 
 returns : tie.Need-returns Inv-loop μ-loop
@@ -71,7 +71,7 @@ returns c =
     let a = c .before .before .before .before .before .before .before .before .args in
     let o = c .before .before .before .before .before .before .before .loop in
     let f : o .i ≤ length (a .t2) = omega arith in
-    sym (o .inv .1 ∙ pass-stop takeable unmade (o .q) (o .skip) (back-own (a .t2) (a .seat) (o .i) (c .before .before .before .before .before .before .loop-test .taken) f (c .before .before .before .if1 .taken)) (c .before .before .if2 .left) (c .before .can-take-back .ensures) (c .if3 .left))
+    sym (o .inv .1 ∙ pass-stop takeable unmade (o .q) (o .later) (back-own (a .t2) (a .seat) (o .i) (c .before .before .before .before .before .before .loop-test .taken) f (c .before .before .before .if1 .taken)) (c .before .before .if2 .left) (c .before .can-take-back .ensures) (c .if3 .left))
 
 loop-less-3 : tie.Need-loop-less-3 Inv-loop μ-loop
 loop-less-3 c = omega arith
@@ -89,7 +89,7 @@ returns-2 c =
     let o = c .before .loop in
     let z : o .i ≡ 0 = omega arith in
     let e : reverse (own (a .seat) (take (o .i) (a .t2))) ≡ [] = rw (z, own-nil (a .seat)) in
-    sym (o .inv .1 ∙ pass-end takeable unmade (o .q) (o .skip) e)
+    sym (o .inv .1 ∙ pass-end takeable unmade (o .q) (o .later) e)
 
 pub can-take-back-all-spec : {M : Type 1} → statement M
 can-take-back-all-spec =
@@ -97,12 +97,12 @@ can-take-back-all-spec =
     (tie.spec
     Inv-loop
     μ-loop
-    sub-skip
+    sub-later
     loop-holds
     sub-i
-    mul-r
-    array-copy-out-r
-    sub-skip-2
+    mul-undone
+    array-copy-out-undone
+    sub-later-2
     loop-less
     loop-again
     can-take-back-requires

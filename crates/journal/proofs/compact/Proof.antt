@@ -1,6 +1,5 @@
 -- `journal::compact` meets its contract: what is written, and what is kept of the records left, make up what is kept. Assumes nothing.
-use mathlib.Core.Path.{_≡_, refl, ap, sym, _∙_}
-use Prim.Native.Nat.{_+_, _-_, _<_, _≤_}
+use Prim.Native.Nat.{_-_, _<_, _≤_}
 use native.Mathlib.Omega.{arith}
 use borrow.Author.Needs.{needs}
 use lib.ListN.{length, take}
@@ -20,11 +19,11 @@ blank-record-requires c κs = search needs
 loop-holds : tie.Need-loop-holds Inv-loop μ-loop
 loop-holds c = (omega arith, omega arith, drop-start _ _ _ _ (c .blank-record .ensures))
 
-mul-r : tie.Need-mul-r Inv-loop μ-loop
-mul-r c = omega arith
+mul-entry : tie.Need-mul-entry Inv-loop μ-loop
+mul-entry c = omega arith
 
-array-copy-out-r : tie.Need-array-copy-out-r Inv-loop μ-loop
-array-copy-out-r c = omega arith
+array-copy-out-entry : tie.Need-array-copy-out-entry Inv-loop μ-loop
+array-copy-out-entry c = omega arith
 
 add-i : tie.Need-add-i Inv-loop μ-loop
 add-i c = omega arith
@@ -106,8 +105,8 @@ compact-spec =
     μ-loop
     blank-record-requires
     loop-holds
-    mul-r
-    array-copy-out-r
+    mul-entry
+    array-copy-out-entry
     add-i
     sub-left
     mul-out

@@ -1,0 +1,22 @@
+-- `drawing::held_by` meets its contract, by the pin's two cases. Assumes nothing.
+use borrow.Author.Needs.{needs}
+use Rattle.drawing.specs.Edits.{heldBy}
+use Rattle.drawing.proofs.held_by.Statement.{statement}
+use Rattle.drawing.proofs.held_by.Tie as tie
+
+enum-told : tie.Need-enum-told
+enum-told c = search needs
+
+enum-known-s : tie.Need-enum-known-s
+enum-known-s c = search needs
+
+returns : tie.Need-returns
+unfolding heldBy
+returns c = rw (c .enum-told .given .1)
+
+returns-2 : tie.Need-returns-2
+unfolding heldBy
+returns-2 c = rw (c .before .s .given .1)
+
+pub held-by-spec : {M : Type 1} → statement M
+held-by-spec = tie.close (tie.spec enum-told enum-known-s returns returns-2)
