@@ -4,5 +4,7 @@ pub mod Seated
 pub mod Filled
 pub mod Turns
 pub mod Edits
+pub mod Cut
 mod Passing
 mod Dropping
+mod Worked

@@ -8,7 +8,7 @@ use Rattle.drawing.specs.Edits.{makeable, made}
 use Rattle.journal.specs.Journal.{own, replayable}
 use Rattle.journal.proofs.Passing.{next-own, next-other, own-left}
 use Rattle.journal.proofs.Turns.{pass-skip, pass-step, pass-stop, pass-end}
-use Rattle.journal.proofs.Edits.{makeable-pin}
+use Rattle.drawing.proofs.Making.{makeable-number}
 use Rattle.journal.proofs.can_redo_all.Statement.{statement}
 use Rattle.journal.proofs.can_redo_all.Tie as tie
 
@@ -47,7 +47,7 @@ can-make-requires : tie.Need-can-make-requires Inv-loop μ-loop
 can-make-requires c κs = search needs
 
 make-requires : tie.Need-make-requires Inv-loop μ-loop
-make-requires c κs = makeable-pin _ _ (sym (c .before .can-make .ensures) ∙ c .if3 .taken)
+make-requires c κs = makeable-number _ _ (sym (c .before .can-make .ensures) ∙ c .if3 .taken)
 
 loop-less-2 : tie.Need-loop-less-2 Inv-loop μ-loop
 loop-less-2 c = omega arith

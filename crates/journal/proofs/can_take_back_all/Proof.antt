@@ -10,7 +10,7 @@ use Rattle.journal.specs.Journal.{own, takeableAll}
 use Rattle.journal.proofs.Passing.{back-own, back-other, turned}
 use Rattle.journal.proofs.Own.{own-nil}
 use Rattle.journal.proofs.Turns.{pass-skip, pass-step, pass-stop, pass-end}
-use Rattle.journal.proofs.Edits.{takeable-pin}
+use Rattle.drawing.proofs.Making.{takeable-number}
 use Rattle.journal.proofs.can_take_back_all.Statement.{statement}
 use Rattle.journal.proofs.can_take_back_all.Tie as tie
 
@@ -52,7 +52,7 @@ can-take-back-requires : tie.Need-can-take-back-requires Inv-loop μ-loop
 can-take-back-requires c κs = search needs
 
 take-back-requires : tie.Need-take-back-requires Inv-loop μ-loop
-take-back-requires c κs = takeable-pin _ _ (sym (c .before .can-take-back .ensures) ∙ c .if3 .taken)
+take-back-requires c κs = takeable-number _ _ (sym (c .before .can-take-back .ensures) ∙ c .if3 .taken)
 
 loop-less-2 : tie.Need-loop-less-2 Inv-loop μ-loop
 loop-less-2 c = omega arith

@@ -1,0 +1,40 @@
+-- Which lengths a map may have. Assumes nothing.
+use mathlib.Core.Path.{_≡_, refl, sym, _∙_}
+use mathlib.Core.Bool.{Bool, true, false, not}
+use mathlib.Core.List.{List}
+use Prim.Native.Nat.{ℕ, _%_, _<_, _≤_}
+use lib.Dec.{ltb, eqb}
+use lib.ListN.{length}
+use borrow.Author.Tests.{lt-ltb, le-ltb, ltb-false, eq-eqb, ne-eqb, eqb-true, not-false}
+use Rattle.refusal.specs.Tests.{either, choose}
+use Rattle.refusal.proofs.Tests.{choose-yes, choose-no, either-left, either-right}
+use Rattle.refusal.specs.declared.Verdict.the-variants.{MapLength}
+use Rattle.pinmap.specs.Record.{recordSize}
+use Rattle.pinmap.specs.Map.{mostBytes, wrongLength, refusedBy, readFrom, noPins, readMap}
+use Rattle.pinmap.proofs.Progress.{countOf}
+
+not-of : {t : Bool} {s : Bool} → t ≡ s → not t ≡ not s
+not-of e = rw e
+
+module _ (map : List ℕ) where
+  pub too-long : mostBytes < length map → wrongLength map ≡ true
+  unfolding wrongLength
+  too-long h = either-left _ (lt-ltb _ _ h)
+
+  pub not-whole : length map ≤ mostBytes → (length map % recordSize ≡ 0 → ⊥) → wrongLength map ≡ true
+  unfolding wrongLength
+  not-whole h k = either-right _ (le-ltb _ _ h) ∙ not-of (ne-eqb _ _ k)
+
+  pub right-length : length map ≤ mostBytes → length map % recordSize ≡ 0 → wrongLength map ≡ false
+  unfolding wrongLength
+  right-length h k = either-right _ (le-ltb _ _ h) ∙ not-of (eq-eqb _ _ k)
+
+-- Reading, by the length.
+module _ (map : List ℕ) (job : ℕ) where
+  pub turned-away : wrongLength map ≡ true → refusedBy MapLength ≡ readMap map job
+  unfolding readMap
+  turned-away e = sym (choose-yes _ _ e)
+
+  pub looked-at : wrongLength map ≡ false → readFrom (countOf map) map job 0 0 noPins ≡ readMap map job
+  unfolding readMap
+  looked-at e = sym (choose-no _ _ e)

@@ -1,0 +1,95 @@
+-- Worked cases of the pin map, each computed: D3, the empty map, the lengths at the limits, and the order of the refusals. Assumes nothing.
+use mathlib.Core.Path.{_≡_, refl}
+use mathlib.Core.Bool.{true, false, not}
+use mathlib.Core.List.{List, [], _∷_, _++_}
+use Prim.Native.Nat.{ℕ}
+use lib.IntN.{ℤ, pos, negsuc}
+use lib.ListN.{set, replicate}
+use Rattle.refusal.specs.declared.Verdict.the-variants.{Accepted, MapLength, OtherJob, FaultyRecord, RoomTooSmall}
+use Rattle.refusal.specs.Tests.{both, either, choose}
+use Rattle.refusal.specs.Refusals.{turn, accepted, toldOf}
+use Rattle.grid.specs.Number.{numberAt, first, second, third, fourth}
+use Rattle.grid.specs.Place.{onBoard, inside, difference, closer, tooNear}
+use Rattle.drawing.specs.declared.Pin.{Pin}
+use Rattle.drawing.specs.Pins.{pins, absent, there, holding, meets, meetsAny, crowded}
+use Rattle.pinmap.specs.Record.{recordOf, recordBytes, pinBytes, judged}
+use Rattle.pinmap.specs.Map.{noPins, refusedBy, readAs, withRecord, readFrom, wrongLength, readMap, mapFrom, mapOf, written, noRoom, writeMap, bufferAfter}
+
+-- Job 7, pin 0 at (1,-1).
+abbrev onePin : List Pin
+onePin = there (holding (record { x = pos 1; y = negsuc 0 })) ∷ replicate 31 absent
+
+-- It is written 00 07 00 00 00 00 00 01 FF FF FF FF.
+abbrev oneRecord : List ℕ
+oneRecord = 0 ∷ 7 ∷ 0 ∷ 0 ∷ 0 ∷ 0 ∷ 0 ∷ 1 ∷ 255 ∷ 255 ∷ 255 ∷ 255 ∷ []
+
+-- A record of a job, a pin and a byte 3, at (x, 0) for an x below 256.
+abbrev given : ℕ → ℕ → ℕ → ℕ → List ℕ
+given job pin blank x = 0 ∷ job ∷ pin ∷ blank ∷ 0 ∷ 0 ∷ 0 ∷ x ∷ 0 ∷ 0 ∷ 0 ∷ 0 ∷ []
+
+D3-written : mapOf 7 onePin ≡ oneRecord
+unfolding mapOf mapFrom pinBytes recordBytes first second third fourth
+D3-written = refl
+
+D3-read : readMap oneRecord 7 ≡ readAs onePin
+unfolding readMap wrongLength either choose readFrom recordOf numberAt judged turn accepted inside onBoard both crowded meetsAny meets withRecord noPins
+D3-read = refl
+
+-- Written into a buffer of 14 bytes, it leaves the last two; into one of 11, it is refused.
+D3-buffer : bufferAfter onePin 7 (replicate 14 9) ≡ oneRecord ++ (9 ∷ 9 ∷ [])
+unfolding bufferAfter noRoom written choose mapOf mapFrom pinBytes recordBytes first second third fourth
+D3-buffer = refl
+
+D3-answer : (writeMap onePin 7 (replicate 14 9) ≡ record { verdict = Accepted; bytes = 12 })
+    × (writeMap onePin 7 (replicate 11 9) ≡ record { verdict = RoomTooSmall; bytes = 0 })
+    × (bufferAfter onePin 7 (replicate 11 9) ≡ replicate 11 9)
+unfolding writeMap bufferAfter noRoom written choose mapOf mapFrom pinBytes recordBytes first second third fourth
+D3-answer = (refl, refl, refl)
+
+-- An empty map is a drawing without pins, and the other way round.
+empty-read : readMap [] 7 ≡ readAs noPins
+unfolding readMap wrongLength either choose readFrom
+empty-read = refl
+
+empty-written : mapOf 7 noPins ≡ []
+unfolding mapOf mapFrom pinBytes noPins
+empty-written = refl
+
+-- 13 at a length that is odd, at 11, and at 396.
+lengths : (readMap (7 ∷ []) 7 ≡ refusedBy MapLength) × (readMap (replicate 11 0) 7 ≡ refusedBy MapLength) × (readMap (replicate 396 0) 7 ≡ refusedBy MapLength)
+unfolding readMap wrongLength either choose
+lengths = (refl, refl, refl)
+
+-- 384 is looked at: its first record has another job.
+longest : readMap (replicate 384 0) 7 ≡ refusedBy (OtherJob 0)
+unfolding readMap wrongLength either choose readFrom recordOf judged turn accepted
+longest = refl
+
+-- 14 before 15: a record with another job and a pin above 31 gives 14.
+other-job-first : readMap (given 8 40 1 0) 7 ≡ refusedBy (OtherJob 0)
+unfolding readMap wrongLength either choose readFrom recordOf judged turn accepted
+other-job-first = refl
+
+-- The first faulty record is named: record 1 has a byte 3 that is not zero, record 2 another job.
+first-faulty : readMap (given 7 0 0 0 ++ (given 7 1 5 3 ++ given 8 2 0 6)) 7 ≡ refusedBy (FaultyRecord 1)
+unfolding readMap wrongLength either choose readFrom recordOf numberAt judged turn accepted inside onBoard both crowded meetsAny meets withRecord noPins
+first-faulty = refl
+
+-- A pin that comes twice, one that is not above the one before, and a place that comes twice.
+not-ascending : readMap (given 7 3 0 0 ++ given 7 3 0 1) 7 ≡ refusedBy (FaultyRecord 1)
+unfolding readMap wrongLength either choose readFrom recordOf numberAt judged turn accepted inside onBoard both crowded meetsAny meets withRecord noPins
+not-ascending = refl
+
+descending : readMap (given 7 3 0 0 ++ given 7 2 0 1) 7 ≡ refusedBy (FaultyRecord 1)
+unfolding readMap wrongLength either choose readFrom recordOf numberAt judged turn accepted inside onBoard both crowded meetsAny meets withRecord noPins
+descending = refl
+
+place-twice : readMap (given 7 3 0 9 ++ given 7 4 0 9) 7 ≡ refusedBy (FaultyRecord 1)
+unfolding readMap wrongLength either choose readFrom recordOf numberAt judged turn accepted inside onBoard both crowded meetsAny meets tooNear closer difference withRecord noPins
+place-twice = refl
+
+-- x 20,000 is accepted, 20,001 is 15.
+limits : (accepted (readMap (0 ∷ 7 ∷ 0 ∷ 0 ∷ 0 ∷ 0 ∷ 78 ∷ 32 ∷ 0 ∷ 0 ∷ 0 ∷ 0 ∷ []) 7 .verdict) ≡ true)
+    × (readMap (0 ∷ 7 ∷ 0 ∷ 0 ∷ 0 ∷ 0 ∷ 78 ∷ 33 ∷ 0 ∷ 0 ∷ 0 ∷ 0 ∷ []) 7 ≡ refusedBy (FaultyRecord 0))
+unfolding readMap wrongLength either choose readFrom recordOf numberAt judged turn accepted inside onBoard both crowded meetsAny meets withRecord noPins
+limits = (refl, refl)

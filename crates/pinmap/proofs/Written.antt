@@ -1,0 +1,183 @@
+-- What writing leaves in a buffer: a record's stores, and pin after pin. Assumes nothing.
+use mathlib.Core.Path.{_≡_, refl, sym, ap, _∙_}
+use mathlib.Core.Bool.{true, false}
+use mathlib.Core.List.{List, [], _∷_, _++_, append-nil, append-assoc}
+use Prim.Native.Nat.{ℕ, suc, _+_, _-_, _*_, _/_, _%_, _<_, _≤_}
+use native.Mathlib.Omega.{arith}
+use native.Mathlib.Numerals.{add-one}
+use native.Mathlib.Nat.{add-zero}
+use lib.IntN.{ℤ, pos}
+use lib.ListN.{length, getD, take, drop, set, length-append, length-set, drop-of-length-le}
+use lib.Seq.{sets, sets-eq, length-sets, drop-cons, drop-drop}
+use borrow.Rule.Slice.PartMut.{putMid}
+use borrow.Author.Tests.{lt-ltb, le-ltb}
+use Rattle.refusal.specs.declared.Verdict.the-variants.{Accepted, RoomTooSmall}
+use Rattle.refusal.proofs.Tests.{choose-yes, choose-no}
+use Rattle.grid.specs.Number.{putAt}
+use Rattle.drawing.specs.declared.Held.{Held}
+use Rattle.drawing.specs.declared.Stand.{Stand}
+use Rattle.drawing.specs.declared.Stand.the-variants.{Absent, There}
+use Rattle.drawing.specs.declared.Pin.{Pin}
+use Rattle.drawing.specs.Pins.{pins, absent}
+use Rattle.pinmap.specs.Record.{recordSize, recordBytes, bytesIn, pinBytes}
+use Rattle.pinmap.specs.Map.{mapFrom, mapOf, written, noRoom, writeMap, bufferAfter}
+
+-- Two runs of stores, one after the other.
+pub sets-append : (xs ys l : List ℕ) (i : ℕ) → sets l i (xs ++ ys) ≡ sets (sets l i xs) (i + length xs) ys
+sets-append [] ys l i = rw add-zero
+sets-append (x ∷ xs) ys l i =
+    let e : suc i + length xs ≡ i + suc (length xs) = omega arith in
+    sets-append xs ys (set l i x) (suc i) ∙ ap (λ (n : ℕ). sets (sets (set l i x) (suc i) xs) n ys) e
+
+-- Stores from the front on leave what follows them.
+pub sets-front : (xs l : List ℕ) → length xs ≤ length l → sets l 0 xs ≡ written xs l
+unfolding written
+sets-front xs l h =
+    let e : 0 + length xs ≡ length xs = omega arith in
+    sets-eq xs l 0 (omega arith) ∙ rw e
+
+-- Storing a number leaves the length.
+pub put-length : (l : List ℕ) (at : ℕ) (z : ℤ) → length (putAt l at z) ≡ length l
+unfolding putAt
+put-length l at z = simp length-set
+
+-- The stores of a record fill its part.
+pub record-stored : (part : List ℕ) (job pin : ℕ) (held : Held) → length part ≡ recordSize
+    → putAt (putAt (set (set (set (set part 0 (job / 256)) 1 (job % 256)) 2 pin) 3 0) 4 (held .place .x)) 8 (held .place .y) ≡ recordBytes job pin held
+unfolding putAt recordBytes
+record-stored part job pin held h =
+    sets-eq (recordBytes job pin held) part 0 (omega arith) ∙ ap (λ (l : List ℕ). recordBytes job pin held ++ l) (drop-of-length-le part {i = recordSize} (omega arith))
+    ∙ append-nil (recordBytes job pin held)
+
+pub record-length : (job pin : ℕ) (held : Held) → length (recordBytes job pin held) ≡ recordSize
+unfolding recordBytes
+record-length job pin held = refl
+
+pub pin-length : (job pin : ℕ) (q : Pin) → length (pinBytes job pin q) ≤ recordSize
+unfolding pinBytes recordBytes
+pin-length job pin q = by-stand (q .stand)
+  where
+    by-stand : (t : Stand) → length (bytesIn job pin t) ≤ recordSize
+    by-stand Absent = omega arith
+    by-stand (There held) = omega arith
+
+-- A pin that is absent has no bytes, one that is there has its record.
+module _ (job pin : ℕ) (q : Pin) where
+  pub absent-bytes : q .stand ≡ Absent → pinBytes job pin q ≡ []
+  unfolding pinBytes
+  absent-bytes e = rw e
+
+  pub there-bytes : {held : Held} → q .stand ≡ There held → pinBytes job pin q ≡ recordBytes job pin held
+  unfolding pinBytes
+  there-bytes e = rw e
+
+  pub there-length : {held : Held} → q .stand ≡ There held → length (pinBytes job pin q) ≡ recordSize
+  there-length {held} e = ap length (there-bytes e) ∙ record-length job pin held
+
+-- A record that was written into its own part of the buffer is stored there.
+pub part-put : (buffer part : List ℕ) (at : ℕ) → length part ≡ recordSize → at + recordSize ≤ length buffer
+    → putMid at (at + recordSize - at) buffer part ≡ sets buffer at part
+part-put buffer part at e h =
+    let k : at + recordSize - at ≡ length part = omega arith in
+    rw k
+    (sym
+    (sets-eq part buffer at (omega arith) ∙ append-assoc (take at buffer) part (drop (at + length part) buffer)
+    ∙ ap (λ (l : List ℕ). take at buffer ++ (part ++ l)) (sym (drop-drop (length part) at buffer))))
+
+-- The map from pin i on: what it has for pin i, and the map from the next pin on; nothing after the last pin.
+module _ (job : ℕ) (l : List Pin) (i : ℕ) where
+  pub map-next : i < length l → mapFrom job i (drop i l) ≡ pinBytes job i (getD l i absent) ++ mapFrom job (i + 1) (drop (i + 1) l)
+  unfolding mapFrom
+  map-next h = rw (drop-cons l i absent h, add-one)
+
+  pub map-end : length l ≤ i → mapFrom job i (drop i l) ≡ []
+  unfolding mapFrom
+  map-end h = rw (drop-of-length-le l h)
+
+-- ---- counting the bytes
+
+-- So many bytes for the pins below i: with those from i on they are all.
+pub record Counted (l : List Pin) (bytes i : ℕ) : Type 0 where
+  pub within : i ≤ pins
+  pub small : bytes ≤ i * recordSize
+  pub rest : (job : ℕ) → length (mapOf job l) ≡ bytes + length (mapFrom job i (drop i l))
+
+pub counted-start : (l : List Pin) → Counted l 0 0
+unfolding mapOf
+counted-start l = record { within = omega arith; small = omega arith; rest = λ job. omega arith }
+
+module _ (l : List Pin) (bytes i : ℕ) (s : Counted l bytes i) where
+  pub counted-next : {n : ℕ} → i < length l → i < pins → ((job number : ℕ) → n ≡ length (pinBytes job number (getD l i absent))) → Counted l (bytes + n) (i + 1)
+  counted-next {n} h k e =
+      record {
+        within = omega arith;
+        small = omega (arith, e 0 0, pin-length 0 0 (getD l i absent));
+        rest = λ job. omega (arith, s .rest job, ap length (map-next job l i h), e job i, length-append (pinBytes job i (getD l i absent)) (mapFrom job (i + 1) (drop (i + 1) l)));
+      }
+
+  pub counted-end : length l ≤ i → (job : ℕ) → bytes ≡ length (mapOf job l)
+  counted-end h job = omega (arith, s .rest job, ap length (map-end job l i h))
+
+-- ---- storing them
+
+-- The pins below i are written: storing those from i on gives what storing the whole map gives.
+pub record Storing (job : ℕ) (l : List Pin) (before now : List ℕ) (at i : ℕ) : Type 0 where
+  pub within : i ≤ pins
+  pub same : length now ≡ length before
+  pub room : at + length (mapFrom job i (drop i l)) ≤ length before
+  pub rest : sets now at (mapFrom job i (drop i l)) ≡ sets before 0 (mapOf job l)
+
+pub storing-start : (job : ℕ) (l : List Pin) (buffer : List ℕ) → length (mapOf job l) ≤ length buffer → Storing job l buffer buffer 0 0
+unfolding mapOf
+storing-start job l buffer h = record { within = omega arith; same = refl; room = omega arith; rest = refl }
+
+module _ (job : ℕ) (l : List Pin) (before now : List ℕ) (at i : ℕ) (s : Storing job l before now at i) where
+  module _ (h : i < length l) where
+    abbrev own : List ℕ
+    own = pinBytes job i (getD l i absent)
+
+    pub storing-room : at + length own ≤ length now
+    storing-room =
+        omega (arith, s .room, s .same, ap length (map-next job l i h), length-append own (mapFrom job (i + 1) (drop (i + 1) l)))
+
+    pub storing-next : i < pins → {r : ℕ} {after : List ℕ} → r ≡ at + length own → after ≡ sets now at own → Storing job l before after r (i + 1)
+    storing-next k {r} {after} er ea =
+        record {
+          within = omega arith;
+          same = ap length ea ∙ length-sets now at own ∙ s .same;
+          room = omega (arith, s .room, er, ap length (map-next job l i h), length-append own (mapFrom job (i + 1) (drop (i + 1) l)));
+          rest =
+              rw (er, ea)
+              (sym (sets-append own (mapFrom job (i + 1) (drop (i + 1) l)) now at) ∙ ap (sets now at) (sym (map-next job l i h)) ∙ s .rest);
+        }
+
+  pub storing-end : length l ≤ i → length (mapOf job l) ≤ length before → now ≡ written (mapOf job l) before
+  storing-end h k =
+      ap (sets now at) (sym (map-end job l i h)) ∙ s .rest ∙ sets-front (mapOf job l) before k
+
+-- ---- the answer, by the room
+
+module _ (l : List Pin) (job : ℕ) (buffer : List ℕ) {n : ℕ} (e : n ≡ length (mapOf job l)) where
+  pub too-small : length buffer < n → noRoom l job buffer ≡ true
+  unfolding noRoom
+  too-small h = lt-ltb (length buffer) (length (mapOf job l)) (omega arith)
+
+  pub room-enough : n ≤ length buffer → noRoom l job buffer ≡ false
+  unfolding noRoom
+  room-enough h = le-ltb (length buffer) (length (mapOf job l)) (omega arith)
+
+  pub answer-small : length buffer < n → record { verdict = RoomTooSmall; bytes = 0 } ≡ writeMap l job buffer
+  unfolding writeMap
+  answer-small h = sym (choose-yes _ _ (too-small h))
+
+  pub buffer-small : length buffer < n → buffer ≡ bufferAfter l job buffer
+  unfolding bufferAfter
+  buffer-small h = sym (choose-yes _ _ (too-small h))
+
+  pub answer-written : n ≤ length buffer → record { verdict = Accepted; bytes = n } ≡ writeMap l job buffer
+  unfolding writeMap
+  answer-written h = rw e (sym (choose-no _ _ (room-enough h)))
+
+  pub buffer-written : n ≤ length buffer → written (mapOf job l) buffer ≡ bufferAfter l job buffer
+  unfolding bufferAfter
+  buffer-written h = sym (choose-no _ _ (room-enough h))

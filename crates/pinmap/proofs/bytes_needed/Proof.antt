@@ -1,0 +1,63 @@
+-- `pinmap::bytes_needed` meets its contract. Assumes nothing.
+use Prim.Native.Nat.{_-_, _<_, _≤_}
+use native.Mathlib.Omega.{arith}
+use lib.ListN.{length}
+use lib.ListN.{getD}
+use lib.IntN.{pos}
+use Rattle.drawing.specs.Pins.{absent}
+use Rattle.pinmap.proofs.Written.{Counted, counted-start, counted-next, counted-end, pin-length}
+use Rattle.pinmap.proofs.bytes_needed.Statement.{statement}
+use Rattle.pinmap.proofs.bytes_needed.Tie as tie
+
+abbrev Inv-loop : tie.InvT-loop
+Inv-loop pins bytes₀ i₀ bytes i = Counted pins bytes i
+
+abbrev μ-loop : tie.MeasureT-loop
+μ-loop pins bytes₀ i₀ bytes i = 32 - i
+
+loop-holds : tie.Need-loop-holds Inv-loop μ-loop
+loop-holds c = counted-start _
+
+mul-q : tie.Need-mul-q Inv-loop μ-loop
+mul-q c = omega arith
+
+array-copy-out-q : tie.Need-array-copy-out-q Inv-loop μ-loop
+array-copy-out-q c = omega arith
+
+bytes-of-requires : tie.Need-bytes-of-requires Inv-loop μ-loop
+bytes-of-requires c κs = tt
+
+add-bytes : tie.Need-add-bytes Inv-loop μ-loop
+add-bytes c = omega (arith, pin-length 0 0 (getD (c .before .before .before .before .args .t1) (c .before .before .before .loop .i) absent), c .bytes-of .ensures 0 0)
+
+add-i : tie.Need-add-i Inv-loop μ-loop
+add-i c = omega arith
+
+loop-less : tie.Need-loop-less Inv-loop μ-loop
+loop-less c = omega arith
+
+loop-again : tie.Need-loop-again Inv-loop μ-loop
+loop-again c =
+    let h : c .before .before .before .loop .i < length (c .before .before .before .before .args .t1) = omega arith in
+    counted-next _ _ _ (c .before .before .before .loop .inv) h (omega arith) (c .bytes-of .ensures)
+
+returns : tie.Need-returns Inv-loop μ-loop
+returns c =
+    let h : length (c .before .before .args .t1) ≤ c .before .loop .i = omega arith in
+    counted-end _ _ _ (c .before .loop .inv) h
+
+pub bytes-needed-spec : {M : Type 1} → statement M
+bytes-needed-spec =
+    tie.close
+    (tie.spec
+    Inv-loop
+    μ-loop
+    loop-holds
+    mul-q
+    array-copy-out-q
+    bytes-of-requires
+    add-bytes
+    add-i
+    loop-less
+    loop-again
+    returns)

@@ -1,0 +1,99 @@
+-- `pinmap::judge` meets its contract. Assumes nothing.
+use borrow.Author.Needs.{needs}
+use borrow.Author.Tests.{leb-false}
+use mathlib.Core.Path.{refl, sym, _∙_}
+use Rattle.pinmap.specs.Record.{judged}
+use Rattle.pinmap.proofs.Turns.{row-met, row-passed}
+use Rattle.pinmap.proofs.judge.Statement.{statement}
+use Rattle.pinmap.proofs.judge.Tie as tie
+
+has-other-job-requires : tie.Need-has-other-job-requires
+has-other-job-requires c κs = search needs
+
+returns : tie.Need-returns
+unfolding judged
+returns c =
+    row-met _ (c .before .has-other-job .ensures) (c .if1 .taken)
+
+has-pin-above-requires : tie.Need-has-pin-above-requires
+has-pin-above-requires c κs = search needs
+
+returns-2 : tie.Need-returns-2
+unfolding judged
+returns-2 c =
+    row-passed _ (c .before .before .before .has-other-job .ensures) (c .before .before .if1 .left)
+    (row-met _ (c .before .has-pin-above .ensures) (c .if2 .taken))
+
+is-not-blank-requires : tie.Need-is-not-blank-requires
+is-not-blank-requires c κs = search needs
+
+returns-3 : tie.Need-returns-3
+unfolding judged
+returns-3 c =
+    row-passed _ (c .before .before .before .before .before .has-other-job .ensures) (c .before .before .before .before .if1 .left)
+    (row-passed _ (c .before .before .before .has-pin-above .ensures) (c .before .before .if2 .left)
+    (row-met _ (c .before .is-not-blank .ensures) (c .if3 .taken)))
+
+is-outside-requires : tie.Need-is-outside-requires
+is-outside-requires c κs = search needs
+
+returns-4 : tie.Need-returns-4
+unfolding judged
+returns-4 c =
+    row-passed _ (c .before .before .before .before .before .before .before .has-other-job .ensures) (c .before .before .before .before .before .before .if1 .left)
+    (row-passed _ (c .before .before .before .before .before .has-pin-above .ensures) (c .before .before .before .before .if2 .left)
+    (row-passed _ (c .before .before .before .is-not-blank .ensures) (c .before .before .if3 .left)
+    (row-met _ (c .before .is-outside .ensures) (c .if4 .taken))))
+
+is-not-above-requires : tie.Need-is-not-above-requires
+is-not-above-requires c κs = search needs
+
+returns-5 : tie.Need-returns-5
+unfolding judged
+returns-5 c =
+    row-passed _ (c .before .before .before .before .before .before .before .before .before .has-other-job .ensures) (c .before .before .before .before .before .before .before .before .if1 .left)
+    (row-passed _ (c .before .before .before .before .before .before .before .has-pin-above .ensures) (c .before .before .before .before .before .before .if2 .left)
+    (row-passed _ (c .before .before .before .before .before .is-not-blank .ensures) (c .before .before .before .before .if3 .left)
+    (row-passed _ (c .before .before .before .is-outside .ensures) (c .before .before .if4 .left)
+    (row-met _ (c .before .is-not-above .ensures) (c .if5 .taken)))))
+
+has-place-taken-requires : tie.Need-has-place-taken-requires
+has-place-taken-requires c κs = leb-false _ _ (sym (c .before .before .before .before .before .before .before .has-pin-above .ensures) ∙ c .before .before .before .before .before .before .if2 .left)
+
+returns-6 : tie.Need-returns-6
+unfolding judged
+returns-6 c =
+    row-passed _ (c .before .before .before .before .before .before .before .before .before .before .before .has-other-job .ensures) (c .before .before .before .before .before .before .before .before .before .before .if1 .left)
+    (row-passed _ (c .before .before .before .before .before .before .before .before .before .has-pin-above .ensures) (c .before .before .before .before .before .before .before .before .if2 .left)
+    (row-passed _ (c .before .before .before .before .before .before .before .is-not-blank .ensures) (c .before .before .before .before .before .before .if3 .left)
+    (row-passed _ (c .before .before .before .before .before .is-outside .ensures) (c .before .before .before .before .if4 .left)
+    (row-passed _ (c .before .before .before .is-not-above .ensures) (c .before .before .if5 .left)
+    (row-met _ (c .before .has-place-taken .ensures) (c .if6 .taken))))))
+
+returns-7 : tie.Need-returns-7
+unfolding judged
+returns-7 c =
+    row-passed _ (c .before .before .before .before .before .before .before .before .before .before .before .has-other-job .ensures) (c .before .before .before .before .before .before .before .before .before .before .if1 .left)
+    (row-passed _ (c .before .before .before .before .before .before .before .before .before .has-pin-above .ensures) (c .before .before .before .before .before .before .before .before .if2 .left)
+    (row-passed _ (c .before .before .before .before .before .before .before .is-not-blank .ensures) (c .before .before .before .before .before .before .if3 .left)
+    (row-passed _ (c .before .before .before .before .before .is-outside .ensures) (c .before .before .before .before .if4 .left)
+    (row-passed _ (c .before .before .before .is-not-above .ensures) (c .before .before .if5 .left)
+    (row-passed _ (c .before .has-place-taken .ensures) (c .if6 .left) refl)))))
+
+pub judge-spec : {M : Type 1} → statement M
+judge-spec =
+    tie.close
+    (tie.spec
+    has-other-job-requires
+    returns
+    has-pin-above-requires
+    returns-2
+    is-not-blank-requires
+    returns-3
+    is-outside-requires
+    returns-4
+    is-not-above-requires
+    returns-5
+    has-place-taken-requires
+    returns-6
+    returns-7)

@@ -1,0 +1,15 @@
+-- `pinmap::no_pins` meets its contract. Assumes nothing.
+use borrow.Author.Needs.{needs}
+use Rattle.pinmap.specs.Map.{noPins}
+use Rattle.pinmap.proofs.no_pins.Statement.{statement}
+use Rattle.pinmap.proofs.no_pins.Tie as tie
+
+absent-pin-requires : tie.Need-absent-pin-requires
+absent-pin-requires c κs = search needs
+
+returns : tie.Need-returns
+unfolding noPins
+returns c = rw (c .absent-pin .ensures)
+
+pub no-pins-spec : {M : Type 1} → statement M
+no-pins-spec = tie.close (tie.spec absent-pin-requires returns)

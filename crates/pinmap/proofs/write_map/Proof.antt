@@ -1,0 +1,35 @@
+-- `pinmap::write_map` meets its contract. Assumes nothing.
+use borrow.Author.Needs.{needs}
+use native.Mathlib.Omega.{arith}
+use mathlib.Core.Path.{_∙_}
+use Rattle.pinmap.proofs.Written.{answer-small, buffer-small, answer-written, buffer-written}
+use Rattle.pinmap.proofs.write_map.Statement.{statement}
+use Rattle.pinmap.proofs.write_map.Tie as tie
+
+bytes-needed-requires : tie.Need-bytes-needed-requires
+bytes-needed-requires c κs = search needs
+
+returns : tie.Need-returns
+returns c =
+    let A = c .before .before .before .args in
+    let e = c .before .bytes-needed .ensures (A .job) in
+    (answer-small (A .pins) (A .job) (A .buffer .now) e (c .if1 .taken), buffer-small (A .pins) (A .job) (A .buffer .now) e (c .if1 .taken))
+
+write-records-requires : tie.Need-write-records-requires
+write-records-requires c κs =
+    let e = c .before .before .bytes-needed .ensures (c .before .before .before .before .args .job) in
+    omega arith
+
+same-length : tie.Need-same-length
+same-length c = search needs
+
+returns-2 : tie.Need-returns-2
+returns-2 c =
+    let A = c .before .before .before .before .before .before .before .args in
+    let e = c .before .before .before .before .before .bytes-needed .ensures (A .job) in
+    let h = c .before .before .before .before .if1 .left in
+    (answer-written (A .pins) (A .job) (A .buffer .now) e h, c .before .before .write-records .ensures ∙ buffer-written (A .pins) (A .job) (A .buffer .now) e h)
+
+pub write-map-spec : {M : Type 1} → statement M
+write-map-spec =
+    tie.close (tie.spec bytes-needed-requires returns write-records-requires same-length returns-2)

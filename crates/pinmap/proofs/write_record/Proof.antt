@@ -1,0 +1,67 @@
+-- `pinmap::write_record` meets its contract. Assumes nothing.
+use borrow.Author.Needs.{needs}
+use native.Mathlib.Omega.{arith}
+use mathlib.Core.Path.{_≡_, _∙_, ap}
+use lib.ListN.{length, length-set}
+use Rattle.grid.specs.Number.{putAt}
+use Rattle.grid.proofs.Signed.{held}
+use Rattle.pinmap.proofs.Written.{put-length}
+use Rattle.pinmap.proofs.Written.{record-stored}
+use Rattle.pinmap.proofs.write_record.Statement.{statement}
+use Rattle.pinmap.proofs.write_record.Tie as tie
+
+cast-part : tie.Need-cast-part
+cast-part c = search needs
+
+slice-write-part : tie.Need-slice-write-part
+slice-write-part c = search needs
+
+cast-part-2 : tie.Need-cast-part-2
+cast-part-2 c = search needs
+
+slice-write-part-2 : tie.Need-slice-write-part-2
+slice-write-part-2 c = search needs
+
+cast-part-3 : tie.Need-cast-part-3
+cast-part-3 c = search needs
+
+slice-write-part-3 : tie.Need-slice-write-part-3
+slice-write-part-3 c = search needs
+
+slice-write-part-4 : tie.Need-slice-write-part-4
+slice-write-part-4 c = search needs
+
+write-number-requires : tie.Need-write-number-requires
+write-number-requires c κs = simp length-set (omega arith)
+
+write-number-requires-2 : tie.Need-write-number-requires-2
+write-number-requires-2 c κs = rw (c .before .before .before .before .write-number .ensures, put-length) (simp length-set (omega arith))
+
+same-length : tie.Need-same-length
+same-length c =
+    ap length (c .before .before .write-number2 .ensures) ∙ put-length _ 8 _ ∙ ap length (c .before .before .before .before .before .before .before .write-number .ensures) ∙ put-length _ 4 _ ∙ simp length-set
+
+returns : tie.Need-returns
+returns c =
+    let g = c .before .before .before .before .before .before .before .before .struct-told .given in
+    let A = c .before .before .before .before .before .before .before .before .before .before .before .before .args in
+    let h = A .held in
+    let ex = rw (held (h .place .x) (g .0 .1)) at (c .before .before .before .before .before .before .before .write-number .ensures) in
+    let ey = rw (held (h .place .y) (g .1 .0 .1)) at (c .before .before .write-number2 .ensures) in
+    ey ∙ ap (λ l. putAt l 8 (h .place .y)) ex ∙ record-stored (A .part .now) (A .job) (A .pin) h (c .before .before .before .before .before .before .before .before .before .before .before .before .pre .0)
+
+pub write-record-spec : {M : Type 1} → statement M
+write-record-spec =
+    tie.close
+    (tie.spec
+    cast-part
+    slice-write-part
+    cast-part-2
+    slice-write-part-2
+    cast-part-3
+    slice-write-part-3
+    slice-write-part-4
+    write-number-requires
+    write-number-requires-2
+    same-length
+    returns)

@@ -1,0 +1,68 @@
+-- `pinmap::write_records` meets its contract. Assumes nothing.
+use Prim.Native.Nat.{_-_, _<_, _≤_}
+use native.Mathlib.Omega.{arith}
+use lib.ListN.{length}
+use Rattle.pinmap.proofs.Written.{Storing, storing-start, storing-room, storing-next, storing-end}
+use Rattle.pinmap.proofs.write_records.Statement.{statement}
+use Rattle.pinmap.proofs.write_records.Tie as tie
+
+abbrev Inv-loop : tie.InvT-loop
+Inv-loop job buffer₀ pins at₀ i₀ buffer at i = Storing job pins buffer₀ buffer at i
+
+abbrev μ-loop : tie.MeasureT-loop
+μ-loop job buffer₀ pins at₀ i₀ buffer at i = 32 - i
+
+loop-holds : tie.Need-loop-holds Inv-loop μ-loop
+loop-holds c = storing-start _ _ _ (c .before .pre)
+
+mul-q : tie.Need-mul-q Inv-loop μ-loop
+mul-q c = omega arith
+
+array-copy-out-q : tie.Need-array-copy-out-q Inv-loop μ-loop
+array-copy-out-q c = omega arith
+
+write-pin-requires : tie.Need-write-pin-requires Inv-loop μ-loop
+write-pin-requires c κs =
+    let A = c .before .before .before .before .before .args in
+    let L = c .before .before .before .loop in
+    let h : L .i < length (A .t1) = omega arith in
+    (storing-room (A .job) (A .t1) (A .buffer .now) (L .buffer) (L .at) (L .i) (L .inv) h, omega arith)
+
+add-i : tie.Need-add-i Inv-loop μ-loop
+add-i c = omega arith
+
+loop-less : tie.Need-loop-less Inv-loop μ-loop
+loop-less c = omega arith
+
+loop-again : tie.Need-loop-again Inv-loop μ-loop
+loop-again c =
+    let A = c .before .before .before .before .before .before .before .before .args in
+    let L = c .before .before .before .before .before .before .loop in
+    let h : L .i < length (A .t1) = omega arith in
+    storing-next (A .job) (A .t1) (A .buffer .now) (L .buffer) (L .at) (L .i) (L .inv) h (omega arith) (c .before .before .write-pin .ensures .0) (c .before .before .write-pin .ensures .1)
+
+same-length : tie.Need-same-length Inv-loop μ-loop
+same-length c = c .before .loop .inv .same
+
+returns : tie.Need-returns Inv-loop μ-loop
+returns c =
+    let A = c .before .before .before .args in
+    let L = c .before .loop in
+    let h : length (A .t1) ≤ L .i = omega arith in
+    storing-end (A .job) (A .t1) (A .buffer .now) (L .buffer) (L .at) (L .i) (L .inv) h (c .before .before .before .pre)
+
+pub write-records-spec : {M : Type 1} → statement M
+write-records-spec =
+    tie.close
+    (tie.spec
+    Inv-loop
+    μ-loop
+    loop-holds
+    mul-q
+    array-copy-out-q
+    write-pin-requires
+    add-i
+    loop-less
+    loop-again
+    same-length
+    returns)

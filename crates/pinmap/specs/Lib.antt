@@ -1,0 +1,3 @@
+-- What the words of the pin map mean.
+pub mod Record
+pub mod Map

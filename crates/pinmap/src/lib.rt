@@ -1,0 +1,275 @@
+// The pin map: a record read from its own part of the map, reading a map, and writing one.
+use drawing::Held;
+use drawing::Pin;
+use drawing::Stand;
+use grid::Place;
+use refusal::Verdict;
+ghost use mathlib.Core.Path.{_≡_};
+ghost use Prim.Native.Nat.{ℕ, _+_, _<_, _≤_, _/_};
+ghost use lib.ListN.{length};
+ghost use lib.Seq.{sets};
+ghost use Rattle.pinmap.specs.Record.{recordSize, recordOf, recordBytes, pinBytes, otherJob, pinAbove, notBlank, outside, notAbove, placeTaken, judged};
+ghost use Rattle.pinmap.specs.Map.{noPins, refusedBy, readFrom, readMap, wrongLength, mapOf, writeMap, bufferAfter, written};
+
+// A record has this many bytes.
+pub const RECORD_BYTES: usize = 12;
+
+// A map has at most this many bytes.
+pub const MOST_BYTES: usize = 384;
+
+// What a record says: its job, its pin number, its byte 3, and its place.
+pub struct Record {
+    pub job: u16,
+    pub pin: usize,
+    pub blank: u8,
+    pub place: Place,
+}
+
+// What reading a map comes to: accepted, with the drawing's pins, or refused, with no pin.
+pub struct Reading {
+    pub verdict: Verdict,
+    pub pins: [Pin; 32],
+}
+
+// What writing a map comes to, and how many bytes were written.
+pub struct Writing {
+    pub verdict: Verdict,
+    pub bytes: usize,
+}
+
+// What the record in its own part of the map says.
+pub fn read_record(part: &[u8]) -> Record
+    requires { ⌜ length (now part) ≡ recordSize ⌝ }
+    ensures { λ r. ⌜ r ≡ recordOf (now (part .entry)) ⌝ }
+{
+    let job = part[0] as u16 * 256 + part[1] as u16;
+    let place = Place {
+        x: grid::read_number(part, 4),
+        y: grid::read_number(part, 8),
+    };
+    Record {
+        job,
+        pin: part[2] as usize,
+        blank: part[3],
+        place,
+    }
+}
+
+// Whether a record has a job other than this one.
+pub fn has_other_job(given: Record, job: u16) -> bool
+    ensures { λ r. ⌜ r ≡ otherJob job given ⌝ }
+{
+    given.job != job
+}
+
+// Whether a record's pin number is above the last one of a drawing.
+pub fn has_pin_above(given: Record) -> bool
+    ensures { λ r. ⌜ r ≡ pinAbove given ⌝ }
+{
+    drawing::PINS <= given.pin
+}
+
+// Whether a record's byte 3 is not zero.
+pub fn is_not_blank(given: Record) -> bool
+    ensures { λ r. ⌜ r ≡ notBlank given ⌝ }
+{
+    given.blank != 0
+}
+
+// Whether a record's place is outside the board.
+pub fn is_outside(given: Record) -> bool
+    ensures { λ r. ⌜ r ≡ outside given ⌝ }
+{
+    let at = given.place;
+    !grid::is_inside(at)
+}
+
+// Whether a record's pin number is not above that of the record before, which `next` comes after.
+pub fn is_not_above(given: Record, next: usize) -> bool
+    ensures { λ r. ⌜ r ≡ notAbove next given ⌝ }
+{
+    given.pin < next
+}
+
+// Whether a record's place is too near to that of another pin among the earlier ones.
+pub fn has_place_taken(given: Record, earlier: [Pin; 32]) -> bool
+    requires { ⌜ given .pin < 32 ⌝ }
+    ensures { λ r. ⌜ r ≡ placeTaken earlier given ⌝ }
+{
+    let at = given.place;
+    drawing::is_crowded(earlier, given.pin, at)
+}
+
+// What a record comes to, as the one of this number after those that were read.
+fn judge(given: Record, job: u16, number: usize, next: usize, earlier: [Pin; 32]) -> Verdict
+    ensures { λ r. ⌜ r ≡ judged job number next earlier given ⌝ }
+{
+    if has_other_job(given, job) {
+        return Verdict::OtherJob(number);
+    }
+    if has_pin_above(given) {
+        return Verdict::FaultyRecord(number);
+    }
+    if is_not_blank(given) {
+        return Verdict::FaultyRecord(number);
+    }
+    if is_outside(given) {
+        return Verdict::FaultyRecord(number);
+    }
+    if is_not_above(given, next) {
+        return Verdict::FaultyRecord(number);
+    }
+    if has_place_taken(given, earlier) {
+        return Verdict::FaultyRecord(number);
+    }
+    Verdict::Accepted
+}
+
+// The pins of a drawing without pins.
+pub fn no_pins() -> [Pin; 32]
+    ensures { λ r. ⌜ r ≡ noPins ⌝ }
+{
+    let pin = drawing::absent_pin();
+    [pin; 32]
+}
+
+// A reading that was turned away.
+fn refuse(verdict: Verdict) -> Reading
+    ensures { λ r. ⌜ r ≡ refusedBy verdict ⌝ }
+{
+    Reading {
+        verdict,
+        pins: no_pins(),
+    }
+}
+
+// Reads the records of a map one after the other, up to the first faulty one.
+fn read_records(map: &[u8], job: u16) -> Reading
+    ensures { λ r. ⌜ r ≡ readFrom (length (now (map .entry)) / recordSize) (now (map .entry)) job 0 0 noPins ⌝ }
+{
+    let count = map.len() / RECORD_BYTES;
+    let mut pins = no_pins();
+    let mut next: usize = 0;
+    let mut number: usize = 0;
+    while number < count {
+        let at = number * RECORD_BYTES;
+        let end = at + RECORD_BYTES;
+        let given = read_record(&map[at..end]);
+        let verdict = judge(given, job, number, next, pins);
+        if refusal::is_accepted(verdict) {
+            let pin = given.pin;
+            let place = given.place;
+            pins[pin] = drawing::pin_with(Held { place });
+            next = pin + 1;
+            number = number + 1;
+        } else {
+            return refuse(verdict);
+        }
+    }
+    Reading {
+        verdict: Verdict::Accepted,
+        pins,
+    }
+}
+
+// Reads a map under a job: the pins of its drawing, or why it is turned away.
+pub fn read_map(map: &[u8], job: u16) -> Reading
+    ensures { λ r. ⌜ r ≡ readMap (now (map .entry)) job ⌝ }
+{
+    if MOST_BYTES < map.len() {
+        return refuse(Verdict::MapLength);
+    }
+    if map.len() % RECORD_BYTES != 0 {
+        return refuse(Verdict::MapLength);
+    }
+    read_records(map, job)
+}
+
+// Writes the record of a pin into its own part of the map.
+fn write_record(part: &mut [u8], job: u16, pin: usize, held: Held)
+    requires { ⌜ (length (now part) ≡ recordSize) × (pin < 32) ⌝ }
+    ensures { λ _. ⌜ now (part .exit) ≡ recordBytes job pin held ⌝ }
+{
+    let place = held.place;
+    part[0] = (job / 256) as u8;
+    part[1] = (job % 256) as u8;
+    part[2] = pin as u8;
+    part[3] = 0;
+    grid::write_number(part, 4, place.x);
+    grid::write_number(part, 8, place.y);
+}
+
+// How many bytes a map has for a pin, under any job and number.
+fn bytes_of(pin: Pin) -> usize
+    ensures { λ r. ⌜ ((job number : ℕ) → r ≡ length (pinBytes job number pin)) ⌝ }
+{
+    let s = pin.stand;
+    match s {
+        Stand::Absent => 0,
+        Stand::There(held) => RECORD_BYTES,
+    }
+}
+
+// How many bytes the map of a drawing has, under any job.
+fn bytes_needed(pins: [Pin; 32]) -> usize
+    ensures { λ r. ⌜ ((job : ℕ) → r ≡ length (mapOf job pins)) ⌝ }
+{
+    let mut bytes: usize = 0;
+    let mut i: usize = 0;
+    while i < 32 {
+        let q = pins[i];
+        bytes = bytes + bytes_of(q);
+        i = i + 1;
+    }
+    bytes
+}
+
+// Writes what a map has for a pin from `at` on, and says where the next record begins.
+fn write_pin(buffer: &mut [u8], at: usize, job: u16, pin: usize, q: Pin) -> usize
+    requires { ⌜ (at + length (pinBytes job pin q) ≤ length (now buffer)) × (pin < 32) ⌝ }
+    ensures { λ r. ⌜ r ≡ at + length (pinBytes job pin q) ⌝ }
+    ensures { λ _. ⌜ now (buffer .exit) ≡ sets (now (buffer .entry)) at (pinBytes job pin q) ⌝ }
+{
+    let s = q.stand;
+    match s {
+        Stand::Absent => at,
+        Stand::There(held) => {
+            let end = at + RECORD_BYTES;
+            write_record(&mut buffer[at..end], job, pin, held);
+            end
+        }
+    }
+}
+
+// Writes the records of a drawing's pins, where there is room for them.
+fn write_records(pins: [Pin; 32], job: u16, buffer: &mut [u8])
+    requires { ⌜ length (mapOf job pins) ≤ length (now buffer) ⌝ }
+    ensures { λ _. ⌜ now (buffer .exit) ≡ written (mapOf job pins) (now (buffer .entry)) ⌝ }
+{
+    let mut at: usize = 0;
+    let mut i: usize = 0;
+    while i < 32 {
+        let q = pins[i];
+        at = write_pin(buffer, at, job, i, q);
+        i = i + 1;
+    }
+}
+
+// Writes the map of a drawing's pins into a lent buffer, and says how many bytes were written; bytes after the last record stay as they were.
+pub fn write_map(pins: [Pin; 32], job: u16, buffer: &mut [u8]) -> Writing
+    ensures { λ r. ⌜ r ≡ writeMap pins job (now (buffer .entry)) ⌝ }
+    ensures { λ _. ⌜ now (buffer .exit) ≡ bufferAfter pins job (now (buffer .entry)) ⌝ }
+{
+    let bytes = bytes_needed(pins);
+    if buffer.len() < bytes {
+        return Writing {
+            verdict: Verdict::RoomTooSmall,
+            bytes: 0,
+        };
+    }
+    write_records(pins, job, buffer);
+    Writing {
+        verdict: Verdict::Accepted,
+        bytes,
+    }
+}
