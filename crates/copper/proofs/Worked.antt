@@ -1,16 +1,13 @@
 -- Boards worked by hand: the lengths of W3, W5 and W6, computed from the definition of length. Assumes nothing.
 use mathlib.Core.Path.{_≡_, refl}
-use mathlib.Core.List.{List, [], _∷_, _++_}
-use Prim.Native.Nat.{ℕ}
+use mathlib.Core.List.{_++_}
 use lib.IntN.{ℤ, pos, negsuc}
 use Rattle.refusal.specs.Tests.{both, either, choose}
 use Rattle.grid.specs.declared.Place.{Place}
 use Rattle.grid.specs.Place.{difference, sameNumber}
-use Rattle.copper.specs.declared.Shape.{Shape}
 use Rattle.copper.specs.declared.Shape.the-variants.{Straight, Lower, Upper}
-use Rattle.copper.specs.declared.Leg.{Leg}
-use Rattle.copper.specs.Shapes.{isStraight, lowerCorner, upperCorner, cornerOf, firstLeg, secondLeg, legsOf}
-use Rattle.copper.specs.Length.{Step, sameStep, stepsAcross, stepsUp, smaller, stepsOf, stepsOfAll, among, different, lengthOf}
+use Rattle.copper.specs.Shapes.{lowerCorner, upperCorner, legsOf}
+use Rattle.copper.specs.Length.{sameStep, stepsAcross, stepsUp, smaller, stepsOf, stepsOfAll, among, different, lengthOf}
 
 place : ℤ → ℤ → Place
 place x y = record { x = x; y = y }

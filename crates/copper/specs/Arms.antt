@@ -1,5 +1,5 @@
 -- Arms: how far the legs that leave a pin reach, and what a pin shows of them.
-use mathlib.Core.Bool.{Bool, true, false}
+use mathlib.Core.Bool.{Bool}
 use Prim.Native.Nat.{ℕ, _+_, _-_, _≤_, _<_, max}
 use lib.IntN.{ℤ}
 use lib.Signed.{leZ}

@@ -1,5 +1,5 @@
 -- The shapes of a run: straight, lower and upper; its corner and its legs.
-use mathlib.Core.Bool.{Bool, true, false}
+use mathlib.Core.Bool.{Bool}
 use mathlib.Core.List.{List, [], _∷_}
 use Prim.Native.Nat.{ℕ}
 use lib.Signed.{leZ}

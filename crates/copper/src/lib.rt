@@ -3,7 +3,7 @@ ghost use mathlib.Core.Path.{_≡_};
 ghost use mathlib.Core.Bool.{true};
 ghost use Prim.Native.Nat.{max};
 ghost use lib.Signed.{leZ};
-ghost use Rattle.copper.specs.Shapes.{isStraight, lowerCorner, upperCorner, cornerOf, firstLeg, secondLeg, legCount, shapeOf};
+ghost use Rattle.copper.specs.Shapes.{isStraight, crossing, lowerCorner, upperCorner, cornerOf, firstLeg, secondLeg, legCount, shapeOf};
 ghost use Rattle.copper.specs.Arms.{reach, armsTo, longest, paidFor, noTally, reachedBy, leadingOn, owed, Fair};
 ghost use Rattle.grid.specs.Place.{difference};
 use grid::Place;
@@ -42,15 +42,24 @@ pub fn is_straight(a: Place, b: Place) -> bool
     a.x == b.x || a.y == b.y
 }
 
+// The place in the column of one end and the row of the other.
+fn crossing_of(column: Place, row: Place) -> Place
+    ensures { λ r. ⌜ r ≡ crossing column row ⌝ }
+{
+    Place {
+        x: column.x,
+        y: row.y,
+    }
+}
+
 // The corner at the smaller y of the two ends.
 fn lower_corner(a: Place, b: Place) -> Place
     ensures { λ r. ⌜ r ≡ lowerCorner a b ⌝ }
 {
     if a.y <= b.y {
-        Place { x: b.x, y: a.y }
-    } else {
-        Place { x: a.x, y: b.y }
+        return crossing_of(b, a);
     }
+    crossing_of(a, b)
 }
 
 // The corner at the larger y of the two ends.
@@ -58,10 +67,9 @@ fn upper_corner(a: Place, b: Place) -> Place
     ensures { λ r. ⌜ r ≡ upperCorner a b ⌝ }
 {
     if a.y <= b.y {
-        Place { x: a.x, y: b.y }
-    } else {
-        Place { x: b.x, y: a.y }
+        return crossing_of(a, b);
     }
+    crossing_of(b, a)
 }
 
 // Where the leg that leaves `near` ends: at the corner, or where the run is straight at `far`.

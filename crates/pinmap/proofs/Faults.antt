@@ -1,19 +1,18 @@
 -- A record is accepted just where none of its faults is there. Assumes nothing.
-use mathlib.Core.Path.{_≡_, refl, sym, _∙_}
+use mathlib.Core.Path.{_≡_, refl, sym}
 use mathlib.Core.Bool.{Bool, true, false, not}
 use mathlib.Core.List.{List}
 use Prim.Native.Nat.{ℕ, _<_, _≤_}
 use borrow.Author.Tests.{leb-false, ltb-false, eqb-true, not-false, eq-eqb, lt-leb, le-ltb}
-use Rattle.refusal.specs.declared.Verdict.{Verdict}
 use Rattle.refusal.specs.declared.Verdict.the-variants.{Accepted, OtherJob, FaultyRecord}
-use Rattle.refusal.specs.Tests.{choose}
-use Rattle.refusal.specs.Refusals.{turn, accepted, toldOf}
+use Rattle.refusal.specs.Refusals.{accepted}
+use Rattle.refusal.proofs.Rows.{passed}
 use Rattle.grid.specs.Place.{inside}
 use Rattle.drawing.specs.declared.Pin.{Pin}
 use Rattle.drawing.specs.Pins.{pins}
 use Rattle.pinmap.specs.declared.Record.{Record}
 use Rattle.pinmap.specs.Record.{otherJob, pinAbove, notBlank, outside, notAbove, placeTaken, judged}
-use Rattle.pinmap.proofs.Turns.{row-met, row-passed}
+use Rattle.pinmap.proofs.Turns.{row-passed}
 
 -- A record without a fault.
 pub record Faultless (job next : ℕ) (earlier : List Pin) (r : Record) : Type 0 where
@@ -24,12 +23,6 @@ pub record Faultless (job next : ℕ) (earlier : List Pin) (r : Record) : Type 0
   pub above : next ≤ r .pin
   pub free : placeTaken earlier r ≡ false
 
--- Where a row of refusals comes to acceptance, its condition fails and the later rows come to it.
-past : (t : Bool) (v w : Verdict) → accepted v ≡ false → accepted (turn t v w) ≡ true → (t ≡ false) × (accepted w ≡ true)
-unfolding turn choose
-past true v w f e = (cc, cc)
-past false v w f e = (refl, e)
-
 not-is : (t : Bool) → t ≡ true → not t ≡ false
 not-is t e = rw e
 
@@ -37,12 +30,12 @@ module _ (job number next : ℕ) (earlier : List Pin) (r : Record) where
   pub faultless : accepted (judged job number next earlier r) ≡ true → Faultless job next earlier r
   unfolding judged accepted
   faultless e0 =
-      let (f1, e1) = past (otherJob job r) (OtherJob number) _ refl e0 in
-      let (f2, e2) = past (pinAbove r) (FaultyRecord number) _ refl e1 in
-      let (f3, e3) = past (notBlank r) (FaultyRecord number) _ refl e2 in
-      let (f4, e4) = past (outside r) (FaultyRecord number) _ refl e3 in
-      let (f5, e5) = past (notAbove next r) (FaultyRecord number) _ refl e4 in
-      let (f6, e6) = past (placeTaken earlier r) (FaultyRecord number) _ refl e5 in
+      let (f1, e1) = passed (otherJob job r) (OtherJob number) _ refl e0 in
+      let (f2, e2) = passed (pinAbove r) (FaultyRecord number) _ refl e1 in
+      let (f3, e3) = passed (notBlank r) (FaultyRecord number) _ refl e2 in
+      let (f4, e4) = passed (outside r) (FaultyRecord number) _ refl e3 in
+      let (f5, e5) = passed (notAbove next r) (FaultyRecord number) _ refl e4 in
+      let (f6, e6) = passed (placeTaken earlier r) (FaultyRecord number) _ refl e5 in
       record {
         own-job = eqb-true _ _ (not-false _ f1);
         pin-low = leb-false _ _ f2;

@@ -3,10 +3,9 @@ use mathlib.Core.Path.{_≡_, refl, sym, _∙_}
 use mathlib.Core.Bool.{Bool, true, false, not}
 use mathlib.Core.List.{List}
 use Prim.Native.Nat.{ℕ, _%_, _<_, _≤_}
-use lib.Dec.{ltb, eqb}
 use lib.ListN.{length}
 use borrow.Author.Tests.{lt-ltb, le-ltb, ltb-false, eq-eqb, ne-eqb, eqb-true, not-false}
-use Rattle.refusal.specs.Tests.{either, choose}
+use Rattle.refusal.specs.Tests.{either}
 use Rattle.refusal.proofs.Tests.{choose-yes, choose-no, either-left, either-right}
 use Rattle.refusal.specs.declared.Verdict.the-variants.{MapLength}
 use Rattle.pinmap.specs.Record.{recordSize}
@@ -15,6 +14,11 @@ use Rattle.pinmap.proofs.Progress.{countOf}
 
 not-of : {t : Bool} {s : Bool} → t ≡ s → not t ≡ not s
 not-of e = rw e
+
+either-none : (a b : Bool) → either a b ≡ false → (a ≡ false) × (b ≡ false)
+unfolding either
+either-none true b e = (cc, cc)
+either-none false b e = (refl, e)
 
 module _ (map : List ℕ) where
   pub too-long : mostBytes < length map → wrongLength map ≡ true
@@ -28,6 +32,12 @@ module _ (map : List ℕ) where
   pub right-length : length map ≤ mostBytes → length map % recordSize ≡ 0 → wrongLength map ≡ false
   unfolding wrongLength
   right-length h k = either-right _ (le-ltb _ _ h) ∙ not-of (eq-eqb _ _ k)
+
+  pub length-right : wrongLength map ≡ false → (length map ≤ mostBytes) × (length map % recordSize ≡ 0)
+  unfolding wrongLength
+  length-right e =
+      let f = either-none _ _ e in
+      (ltb-false _ _ (f .0), eqb-true _ _ (not-false _ (f .1)))
 
 -- Reading, by the length.
 module _ (map : List ℕ) (job : ℕ) where

@@ -1,5 +1,5 @@
 -- How a map is read record by record: what one turn of the loop does to what is left to read. Assumes nothing.
-use mathlib.Core.Path.{_≡_, refl, sym, ap, _∙_}
+use mathlib.Core.Path.{_≡_, sym, ap, _∙_}
 use mathlib.Core.Bool.{Bool, true, false}
 use mathlib.Core.List.{List}
 use Prim.Native.Nat.{ℕ, suc, _+_, _-_, _*_, _/_, _<_, _≤_}
@@ -12,7 +12,6 @@ use Rattle.refusal.proofs.Tests.{choose-yes, choose-no}
 use Rattle.drawing.specs.declared.Pin.{Pin}
 use Rattle.drawing.specs.Pins.{pins, there, holding}
 use Rattle.pinmap.specs.declared.Record.{Record}
-use Rattle.pinmap.specs.declared.Reading.{Reading}
 use Rattle.pinmap.specs.Record.{recordSize, recordOf, judged}
 use Rattle.pinmap.proofs.Faults.{faultless}
 use Rattle.pinmap.specs.Map.{noPins, refusedBy, readAs, withRecord, readFrom}
@@ -85,9 +84,6 @@ pub part-is : (map : List ℕ) (number : ℕ) → lentAt map number ≡ partAt m
 part-is map number =
     let e : number * recordSize + recordSize - number * recordSize ≡ recordSize = omega arith in
     rw e
-
-pub part-fits : (map : List ℕ) (number : ℕ) → number < countOf map → number * recordSize + recordSize ≤ length map
-part-fits map number h = omega arith
 
 pub part-length : (map : List ℕ) (number : ℕ) → number < countOf map → length (lentAt map number) ≡ recordSize
 part-length map number h = rw part-is (simp (length-take, length-drop) (omega arith))

@@ -1,8 +1,7 @@
 -- How the rows of a call's refusals are read by a code that makes their tests one after the other. Assumes nothing.
-use mathlib.Core.Path.{_≡_, refl, sym, _∙_}
+use mathlib.Core.Path.{_≡_, sym, _∙_}
 use mathlib.Core.Bool.{Bool, true, false}
 use Rattle.refusal.specs.declared.Verdict.{Verdict}
-use Rattle.refusal.specs.Tests.{choose}
 use Rattle.refusal.specs.Refusals.{turn}
 use Rattle.refusal.proofs.Tests.{choose-yes, choose-no}
 

@@ -1,17 +1,17 @@
 -- Worked cases of the pin map, each computed: D3, the empty map, the lengths at the limits, and the order of the refusals. Assumes nothing.
 use mathlib.Core.Path.{_≡_, refl}
-use mathlib.Core.Bool.{true, false, not}
+use mathlib.Core.Bool.{true}
 use mathlib.Core.List.{List, [], _∷_, _++_}
 use Prim.Native.Nat.{ℕ}
-use lib.IntN.{ℤ, pos, negsuc}
-use lib.ListN.{set, replicate}
+use lib.IntN.{pos, negsuc}
+use lib.ListN.{replicate}
 use Rattle.refusal.specs.declared.Verdict.the-variants.{Accepted, MapLength, OtherJob, FaultyRecord, RoomTooSmall}
 use Rattle.refusal.specs.Tests.{both, either, choose}
-use Rattle.refusal.specs.Refusals.{turn, accepted, toldOf}
+use Rattle.refusal.specs.Refusals.{turn, accepted}
 use Rattle.grid.specs.Number.{numberAt, first, second, third, fourth}
 use Rattle.grid.specs.Place.{onBoard, inside, difference, closer, tooNear}
 use Rattle.drawing.specs.declared.Pin.{Pin}
-use Rattle.drawing.specs.Pins.{pins, absent, there, holding, meets, meetsAny, crowded}
+use Rattle.drawing.specs.Pins.{absent, there, holding, meets, meetsAny, crowded}
 use Rattle.pinmap.specs.Record.{recordOf, recordBytes, pinBytes, judged}
 use Rattle.pinmap.specs.Map.{noPins, refusedBy, readAs, withRecord, readFrom, wrongLength, readMap, mapFrom, mapOf, written, noRoom, writeMap, bufferAfter}
 

@@ -6,7 +6,7 @@ use Prim.Native.Nat.{ℕ, suc, _+_, _-_, _*_, _/_, _%_, _<_, _≤_}
 use native.Mathlib.Omega.{arith}
 use native.Mathlib.Numerals.{add-one}
 use native.Mathlib.Nat.{add-zero}
-use lib.IntN.{ℤ, pos}
+use lib.IntN.{ℤ}
 use lib.ListN.{length, getD, take, drop, set, length-append, length-set, drop-of-length-le}
 use lib.Seq.{sets, sets-eq, length-sets, drop-cons, drop-drop}
 use borrow.Rule.Slice.PartMut.{putMid}
@@ -93,6 +93,27 @@ module _ (job : ℕ) (l : List Pin) (i : ℕ) where
   pub map-end : length l ≤ i → mapFrom job i (drop i l) ≡ []
   unfolding mapFrom
   map-end h = rw (drop-of-length-le l h)
+
+-- ---- how long a map is
+
+pin-whole : (job pin : ℕ) (q : Pin) → length (pinBytes job pin q) % recordSize ≡ 0
+unfolding pinBytes recordBytes
+pin-whole job pin q = by-stand (q .stand)
+  where
+    by-stand : (t : Stand) → length (bytesIn job pin t) % recordSize ≡ 0
+    by-stand Absent = refl
+    by-stand (There held) = refl
+
+-- A record at most for each pin, and nothing but records.
+pub map-size : (job i : ℕ) (l : List Pin) → (length (mapFrom job i l) ≤ length l * recordSize) × (length (mapFrom job i l) % recordSize ≡ 0)
+unfolding mapFrom
+map-size job i [] = (omega arith, refl)
+map-size job i (q ∷ l) =
+    let s = map-size job (i + 1) l in
+    let n = length-append (pinBytes job i q) (mapFrom job (i + 1) l) in
+    let k = pin-length job i q in
+    let w = pin-whole job i q in
+    (omega arith, omega arith)
 
 -- ---- counting the bytes
 

@@ -1,5 +1,5 @@
 -- A pin map: the bytes that a drawing is written as, and what reading a map under a job comes to.
-use mathlib.Core.Bool.{Bool, true, false, not}
+use mathlib.Core.Bool.{Bool, not}
 use mathlib.Core.List.{List, [], _∷_, _++_}
 use Prim.Native.Nat.{ℕ, zero, suc, _+_, _/_, _%_}
 use lib.Dec.{eqb, ltb}
@@ -35,8 +35,8 @@ readAs l = record { verdict = Accepted; pins = l }
 unfoldable pub withRecord : List Pin → Record → List Pin
 withRecord l r = set l (r .pin) (there (holding (r .place)))
 
--- Each record is read from its own part of the map, up to the first faulty one: so many are left, this is the number of the first of them,
--- `next` comes after the pin before, and these are the pins so far.
+-- Each record is read from its own part of the map, up to the first faulty one. So many records are left, the first of them has this number,
+-- `next` is one more than the pin before (0 at first), and these are the pins of the earlier records.
 unfoldable pub readFrom : ℕ → List ℕ → ℕ → ℕ → ℕ → List Pin → Reading
 readFrom zero map job number next earlier = readAs earlier
 readFrom (suc left) map job number next earlier =

@@ -4,11 +4,9 @@ use mathlib.Core.List.{List, [], _∷_}
 use Prim.Native.Nat.{ℕ, _+_, _*_, _/_, _%_}
 use lib.Dec.{eqb, leb, ltb}
 use lib.ListN.{getD}
-use lib.IntN.{pos}
 use Rattle.refusal.specs.declared.Verdict.{Verdict}
 use Rattle.refusal.specs.declared.Verdict.the-variants.{Accepted, OtherJob, FaultyRecord}
 use Rattle.refusal.specs.Refusals.{turn}
-use Rattle.grid.specs.declared.Place.{Place}
 use Rattle.grid.specs.Number.{numberAt, first, second, third, fourth}
 use Rattle.grid.specs.Place.{inside}
 use Rattle.drawing.specs.declared.Held.{Held}
@@ -48,7 +46,7 @@ notBlank r = not (eqb (r .blank) 0)
 abbrev pub outside : Record → Bool
 outside r = not (inside (r .place))
 
--- Its pin is not above the one before, after which `next` comes.
+-- Its pin is not above the one before: `next` is one more than that.
 abbrev pub notAbove : ℕ → Record → Bool
 notAbove next r = ltb (r .pin) next
 

@@ -9,7 +9,7 @@ ghost use Prim.Native.Nat.{ℕ, _+_, _<_, _≤_, _/_};
 ghost use lib.ListN.{length};
 ghost use lib.Seq.{sets};
 ghost use Rattle.pinmap.specs.Record.{recordSize, recordOf, recordBytes, pinBytes, otherJob, pinAbove, notBlank, outside, notAbove, placeTaken, judged};
-ghost use Rattle.pinmap.specs.Map.{noPins, refusedBy, readFrom, readMap, wrongLength, mapOf, writeMap, bufferAfter, written};
+ghost use Rattle.pinmap.specs.Map.{noPins, refusedBy, readFrom, readMap, mapOf, writeMap, bufferAfter, written};
 
 // A record has this many bytes.
 pub const RECORD_BYTES: usize = 12;
@@ -84,7 +84,7 @@ pub fn is_outside(given: Record) -> bool
     !grid::is_inside(at)
 }
 
-// Whether a record's pin number is not above that of the record before, which `next` comes after.
+// Whether a record's pin number is not above the one before: `next` is one more than that.
 pub fn is_not_above(given: Record, next: usize) -> bool
     ensures { λ r. ⌜ r ≡ notAbove next given ⌝ }
 {

@@ -42,6 +42,10 @@ pub fails-yes : {t : Bool} → t ≡ false → fails t ≡ true
 unfolding fails choose
 fails-yes e = rw e
 
+pub fails-of : {t : Bool} → t ≡ true → fails t ≡ false
+unfolding fails choose
+fails-of e = rw e
+
 pub fails-no : (t : Bool) → fails t ≡ true → t ≡ false
 unfolding fails choose
 fails-no true e = absurd (opposite refl (sym e))

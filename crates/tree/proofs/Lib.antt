@@ -11,3 +11,14 @@ pub mod Numbering
 pub mod Going
 pub mod Taking
 pub mod Result
+pub mod Branches
+pub mod Listing
+pub mod Ways
+pub mod Spanning
+pub mod FourPins
+pub mod Neighbours
+pub mod Zones
+pub mod Bent
+pub mod Boxes
+pub mod Apart
+pub mod Answer

@@ -1,12 +1,12 @@
 -- What is left to do at a turn of each loop: one turn more, and none. Assumes nothing.
 use mathlib.Core.Path.{_≡_, refl, sym, ap, _∙_}
-use mathlib.Core.Bool.{true, false}
+use mathlib.Core.Bool.{Bool, true, false}
 use mathlib.Core.List.{List, [], _∷_, _++_}
 use Prim.Native.Nat.{ℕ, _+_, _-_, _<_, _≤_}
 use native.Mathlib.Omega.{arith}
 use native.Mathlib.Numerals.{add-one}
 use lib.ListN.{length, getD, set, take, drop, drop-of-length-le}
-use lib.Seq.{drop-cons, take-suc, take-all, set-at, getD-at, length-take-le, append-snoc}
+use lib.Seq.{getD-take, drop-cons, take-suc, take-all, set-at, getD-at, length-take-le, append-snoc}
 use Rattle.refusal.proofs.Tests.{choose-yes, choose-no, either-left, either-right}
 use Rattle.grid.specs.declared.Spot.{Spot}
 use Rattle.grid.specs.declared.Spot.the-variants.{Absent}
@@ -75,29 +75,43 @@ module _ {A : Type 0} (t l : List A) where
       append-nil [] = refl
       append-nil (a ∷ m) = ap (_∷_ a) (append-nil m)
 
--- ---- runs that clash
-module _ (feed : List Spot) (r : Run) (l : List Run) (i : ℕ) where
-  pub any-turn : i < length l → clash feed r (getD l i (run 0 0)) ≡ false → clashAny feed r (drop i l) ≡ clashAny feed r (drop (i + 1) l)
+-- ---- runs that clash, among the first `count` of some
+rest-of : (l : List Run) (count i : ℕ) → count ≤ length l → i < count → drop i (take count l) ≡ getD l i (run 0 0) ∷ drop (i + 1) (take count l)
+rest-of l count i few h =
+    let m = length-take-le count l few in
+    rest (take count l) i (run 0 0) (omega arith) ∙ ap (λ (r : Run). r ∷ drop (i + 1) (take count l)) (getD-take count l i (run 0 0) h)
+
+none-of : (l : List Run) (count i : ℕ) → count ≤ length l → count ≤ i → drop i (take count l) ≡ []
+none-of l count i few h =
+    let m = length-take-le count l few in
+    let k : length (take count l) ≤ i = omega arith in
+    drop-of-length-le (take count l) k
+
+module _ (feed : List Spot) (r : Run) (l : List Run) (count i : ℕ) (few : count ≤ length l) where
+  pub any-turn : {t : Bool} → i < count → t ≡ clash feed r (getD l i (run 0 0)) → t ≡ false
+      → clashAny feed r (drop (i + 1) (take count l)) ≡ clashAny feed r (drop i (take count l))
   unfolding clashAny
-  any-turn h e = rw (rest l i (run 0 0) h) (either-right _ e)
+  any-turn h e f = rw (rest-of l count i few h) (sym (either-right _ (sym e ∙ f)))
 
-  pub any-found : i < length l → clash feed r (getD l i (run 0 0)) ≡ true → clashAny feed r (drop i l) ≡ true
+  pub any-found : {t : Bool} → i < count → t ≡ clash feed r (getD l i (run 0 0)) → t ≡ true → true ≡ clashAny feed r (drop i (take count l))
   unfolding clashAny
-  any-found h e = rw (rest l i (run 0 0) h) (either-left _ e)
+  any-found h e f = rw (rest-of l count i few h) (sym (either-left _ (sym e ∙ f)))
 
-  pub any-none : length l ≤ i → clashAny feed r (drop i l) ≡ false
+  pub any-none : count ≤ i → false ≡ clashAny feed r (drop i (take count l))
   unfolding clashAny
-  any-none h = rw (drop-of-length-le l h)
+  any-none h = rw (none-of l count i few h)
 
-module _ (feed : List Spot) (l : List Run) (i : ℕ) where
-  pub meet-turn : i < length l → clashAny feed (getD l i (run 0 0)) (drop (i + 1) l) ≡ false → boxesMeet feed (drop i l) ≡ boxesMeet feed (drop (i + 1) l)
+module _ (feed : List Spot) (l : List Run) (count i : ℕ) (few : count ≤ length l) where
+  pub meet-turn : {t : Bool} → i < count → t ≡ clashAny feed (getD l i (run 0 0)) (drop (i + 1) (take count l)) → t ≡ false
+      → boxesMeet feed (drop (i + 1) (take count l)) ≡ boxesMeet feed (drop i (take count l))
   unfolding boxesMeet
-  meet-turn h e = rw (rest l i (run 0 0) h) (either-right _ e)
+  meet-turn h e f = rw (rest-of l count i few h) (sym (either-right _ (sym e ∙ f)))
 
-  pub meet-found : i < length l → clashAny feed (getD l i (run 0 0)) (drop (i + 1) l) ≡ true → boxesMeet feed (drop i l) ≡ true
+  pub meet-found : {t : Bool} → i < count → t ≡ clashAny feed (getD l i (run 0 0)) (drop (i + 1) (take count l)) → t ≡ true
+      → true ≡ boxesMeet feed (drop i (take count l))
   unfolding boxesMeet
-  meet-found h e = rw (rest l i (run 0 0) h) (either-left _ e)
+  meet-found h e f = rw (rest-of l count i few h) (sym (either-left _ (sym e ∙ f)))
 
-  pub meet-none : length l ≤ i → boxesMeet feed (drop i l) ≡ false
+  pub meet-none : count ≤ i → false ≡ boxesMeet feed (drop i (take count l))
   unfolding boxesMeet
-  meet-none h = rw (drop-of-length-le l h)
+  meet-none h = rw (none-of l count i few h)

@@ -138,6 +138,23 @@ pins-distinct i [] = none
 pins-distinct i (s ∷ feed) =
     distinct-kept i (present s) (λ h. let z = pins-there (suc i) feed h in omega (arith, z .1)) (pins-distinct (suc i) feed)
 
+-- The first of the pins is the lowest.
+above-kept : (i : ℕ) (t : Bool) (l : List ℕ) (f : ℕ) (left : List ℕ) → ((a : ℕ) → Among a l → i < a) → (l ≡ f ∷ left → (a : ℕ) → Among a left → f < a)
+    → keptIf t i l ≡ f ∷ left → (a : ℕ) → Among a left → f < a
+unfolding keptIf
+above-kept i true l f left up ih e a m =
+    let p : i ≡ f = cc in
+    let q : l ≡ left = cc in
+    rw (sym p) (up a (rw (sym q) at m))
+above-kept i false l f left up ih e a m = ih e a m
+
+pub first-lowest : (i : ℕ) (feed : List Spot) (f : ℕ) (left : List ℕ) → pinsFrom i feed ≡ f ∷ left → (a : ℕ) → Among a left → f < a
+unfolding pinsFrom
+first-lowest i [] f left e a m = let z : _≡_ {A = ℕ} 0 1 = cc in absurd (omega arith)
+first-lowest i (s ∷ feed) f left e a m =
+    above-kept i (present s) (pinsFrom (suc i) feed) f left (λ b n. let z = pins-there (suc i) feed n in omega (arith, z .1))
+    (λ q b n. first-lowest (suc i) feed f left q b n) e a m
+
 few-kept : (n : ℕ) (t : Bool) (l : List ℕ) (m : ℕ) → length l ≤ m → length (keptIf t n l) ≤ suc m
 unfolding keptIf
 few-kept n true l m h = omega arith

@@ -1,5 +1,6 @@
 -- The runs of the boards worked by hand, W1 to W8, in the order in which they are taken; computed from the definition. Assumes nothing.
 use mathlib.Core.Path.{_≡_, refl}
+use mathlib.Core.Bool.{true, false}
 use mathlib.Core.List.{List, [], _∷_, _++_, map}
 use Prim.Native.Nat.{_-_}
 use lib.IntN.{ℤ, pos, negsuc}
@@ -8,10 +9,11 @@ use Rattle.refusal.specs.Tests.{both, either, choose}
 use Rattle.refusal.specs.declared.Verdict.the-variants.{Accepted, NoPins}
 use Rattle.grid.specs.declared.Spot.{Spot}
 use Rattle.grid.specs.declared.Spot.the-variants.{Absent, At}
-use Rattle.grid.specs.Place.{difference, larger}
+use Rattle.grid.specs.declared.Place.{Place}
+use Rattle.grid.specs.Place.{onBoard, inside, difference, larger}
 use Rattle.grid.specs.Weight.{distanceOf, weightOf, pairOf, byPart, byNumber, comesBefore}
 use Rattle.tree.specs.declared.Run.{Run}
-use Rattle.tree.specs.Growth.{run, pairAt, sooner, keptIf, pinsFrom, without, runsFrom, between, earliest, earliestOf, next, grown, runsAmong, pinsOf, runsOf}
+use Rattle.tree.specs.Growth.{allInside, run, pairAt, sooner, keptIf, pinsFrom, without, runsFrom, between, earliest, earliestOf, next, grown, runsAmong, pinsOf, runsOf}
 use Rattle.tree.specs.Boxes.{fails, belowBoth, under, overlap, boxesShare, isEnd, common, clash, clashAny, boxesMeet}
 use Rattle.tree.specs.Trees.{entries, treeWith, treeOf}
 
@@ -67,3 +69,24 @@ worked = refl
 pub nothing : treeOf (feed []) ≡ treeWith NoPins []
 unfolding treeOf treeWith pinsOf pinsFrom keptIf choose
 nothing = refl
+
+-- What the code asks of a feed can be met: every board stands on the board's range.
+pub met : map (λ spots. allInside (feed spots)) boards ≡ replicate 8 true
+unfolding allInside inside onBoard both
+met = refl
+
+-- Boxes that only touch share a point, at a corner or along a side; boxes a step apart do not.
+abbrev place : ℤ → ℤ → Place
+place x y = record { x = x; y = y }
+
+pub touching : boxesShare (place (pos 0) (pos 0)) (place (pos 1) (pos 1)) (place (pos 2) (pos 2)) (place (pos 1) (pos 1)) ≡ true
+unfolding boxesShare overlap under belowBoth fails both choose
+touching = refl
+
+pub sides : boxesShare (place m1 (pos 0)) (place (pos 1) (pos 1)) (place (pos 5) m2) (place (pos 1) (pos 7)) ≡ true
+unfolding boxesShare overlap under belowBoth fails both choose
+sides = refl
+
+pub a-step-apart : boxesShare (place m1 (pos 0)) (place (pos 1) (pos 1)) (place (pos 5) m2) (place (pos 2) (pos 7)) ≡ false
+unfolding boxesShare overlap under belowBoth fails both choose
+a-step-apart = refl

@@ -23,7 +23,7 @@ belowBoth a c d = both (ltZ a c) (ltZ a d)
 unfoldable pub under : ℤ → ℤ → ℤ → ℤ → Bool
 under a b c d = both (belowBoth a c d) (belowBoth b c d)
 
--- The stretch between a and b and the stretch between c and d share a number, an end of both at least: neither lies under the other.
+-- The stretch from a to b and the stretch from c to d share a number: neither lies wholly under the other.
 unfoldable pub overlap : ℤ → ℤ → ℤ → ℤ → Bool
 overlap a b c d = both (fails (under a b c d)) (fails (under c d a b))
 

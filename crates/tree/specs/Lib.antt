@@ -3,3 +3,4 @@ pub mod Growth
 pub mod Boxes
 pub mod Trees
 pub mod Offers
+pub mod Bends

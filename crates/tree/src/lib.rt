@@ -145,9 +145,13 @@ fn first_offer(first: usize, from: Place, pin: usize, spot: Spot) -> Offer
 fn better_offer(kept: Offer, new: Offer) -> Offer
     ensures { λ r. ⌜ r ≡ betterOffer kept new ⌝ }
 {
-    let p = new.pair;
-    let q = kept.pair;
-    if grid::before(p, q) { new } else { kept }
+    let ours = new.pair;
+    let theirs = kept.pair;
+    if grid::before(ours, theirs) {
+        new
+    } else {
+        kept
+    }
 }
 
 // What a pin keeps when one more pin is reached.
@@ -210,9 +214,9 @@ fn better_choice(choice: Choice, pin: usize, offer: Offer) -> Choice
     if !kept.waits {
         return Choice { pin, offer };
     }
-    let p = offer.pair;
-    let q = kept.pair;
-    if grid::before(p, q) {
+    let first = offer.pair;
+    let second = kept.pair;
+    if grid::before(first, second) {
         return Choice { pin, offer };
     }
     choice

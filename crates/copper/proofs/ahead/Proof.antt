@@ -1,14 +1,10 @@
 -- `copper::ahead` meets its contract: the difference is taken in i64, where it fits and is not negative. Assumes nothing.
-use mathlib.Core.Path.{_≡_, sym, ap, _∙_}
 use Prim.Native.Nat.{_<_}
 use native.Mathlib.Omega.{arith}
-use lib.IntN.{ℤ, natAbs, _-ℤ_}
-use mir.Syntax.{w32, w64}
-use mir.Val.{SFits, Fits}
 use mir.Facts.{toZ-ofZ, sfits-widen}
 use Rattle.grid.specs.Place.{difference}
 use Rattle.grid.proofs.Board.{wide-is, wide-fits, wide-difference}
-use Rattle.copper.proofs.Numbers.{ahead-sign, difference-below, difference-swap}
+use Rattle.copper.proofs.Differences.{ahead-sign, difference-below, difference-swap}
 use Rattle.copper.proofs.ahead.Statement.{statement}
 use Rattle.copper.proofs.ahead.Tie as tie
 

@@ -2,7 +2,7 @@
 use lib.IntN.{ℤ}
 use mir.Facts.{toZ-ofZ}
 use Rattle.grid.proofs.Signed.{le-rd}
-use Rattle.copper.proofs.Numbers.{difference-swap, other-way}
+use Rattle.copper.proofs.Differences.{difference-swap, other-way}
 use borrow.Author.Needs.{needs}
 use Rattle.copper.proofs.apart.Statement.{statement}
 use Rattle.copper.proofs.apart.Tie as tie

@@ -11,7 +11,7 @@ use Rattle.grid.specs.Place.{difference}
 use Rattle.grid.specs.Weight.{distanceOf}
 use Rattle.copper.specs.Shapes.{isStraight}
 use Rattle.copper.specs.Arms.{paidFor}
-use Rattle.copper.proofs.Numbers.{difference-below}
+use Rattle.copper.proofs.Differences.{difference-below}
 use borrow.Author.Needs.{needs}
 use Rattle.copper.proofs.paid_for.Statement.{statement}
 use Rattle.copper.proofs.paid_for.Tie as tie

@@ -1,9 +1,8 @@
--- `pinmap::bytes_needed` meets its contract. Assumes nothing.
+-- `pinmap::bytes_needed` meets its contract. The loop's invariant: the bytes so far and those of the pins from `i` on are all.
+-- The measure is how many pins those are. Assumes nothing.
 use Prim.Native.Nat.{_-_, _<_, _≤_}
 use native.Mathlib.Omega.{arith}
-use lib.ListN.{length}
-use lib.ListN.{getD}
-use lib.IntN.{pos}
+use lib.ListN.{length, getD}
 use Rattle.drawing.specs.Pins.{absent}
 use Rattle.pinmap.proofs.Written.{Counted, counted-start, counted-next, counted-end, pin-length}
 use Rattle.pinmap.proofs.bytes_needed.Statement.{statement}

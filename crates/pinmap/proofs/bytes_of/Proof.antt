@@ -1,4 +1,4 @@
--- `pinmap::bytes_of` meets its contract. Assumes nothing.
+-- `pinmap::bytes_of` meets its contract, by the pin's two cases. Assumes nothing.
 use borrow.Author.Needs.{needs}
 use mathlib.Core.Path.{sym}
 use Rattle.pinmap.specs.Record.{pinBytes}

@@ -1,4 +1,4 @@
--- `pinmap::judge` meets its contract. Assumes nothing.
+-- `pinmap::judge` meets its contract: its tests are the rows of a record's refusals, in their order. Assumes nothing.
 use borrow.Author.Needs.{needs}
 use borrow.Author.Tests.{leb-false}
 use mathlib.Core.Path.{refl, sym, _∙_}

@@ -1,4 +1,4 @@
--- `pinmap::no_pins` meets its contract. Assumes nothing.
+-- `pinmap::no_pins` meets its contract: 32 times an absent pin. Assumes nothing.
 use borrow.Author.Needs.{needs}
 use Rattle.pinmap.specs.Map.{noPins}
 use Rattle.pinmap.proofs.no_pins.Statement.{statement}

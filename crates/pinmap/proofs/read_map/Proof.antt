@@ -1,4 +1,4 @@
--- `pinmap::read_map` meets its contract. Assumes nothing.
+-- `pinmap::read_map` meets its contract: the two tests of the length, then the records. Assumes nothing.
 use borrow.Author.Needs.{needs}
 use mathlib.Core.Path.{_∙_}
 use Rattle.pinmap.proofs.Lengths.{too-long, not-whole, right-length, turned-away, looked-at}

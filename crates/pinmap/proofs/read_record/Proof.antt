@@ -1,4 +1,4 @@
--- `pinmap::read_record` meets its contract. Assumes nothing.
+-- `pinmap::read_record` meets its contract: each byte is in the part. Assumes nothing.
 use borrow.Author.Needs.{needs}
 use native.Mathlib.Omega.{arith}
 use mir.Syntax.{w32}

@@ -1,4 +1,5 @@
--- `pinmap::read_records` meets its contract. Assumes nothing.
+-- `pinmap::read_records` meets its contract. The loop's invariant: what is left of the reading is the reading from record `number` on.
+-- The measure is how many records those are. Assumes nothing.
 use borrow.Author.Needs.{needs}
 use native.Mathlib.Omega.{arith}
 use mathlib.Core.Path.{_∙_}
@@ -48,24 +49,23 @@ pin-with-requires c κs = search needs
 
 mul-pins : tie.Need-mul-pins Inv-loop μ-loop
 mul-pins c =
-    omega (
-      arith,
-      turn-pin _ _ (c .before .before .before .before .before .before .before .before .loop .pins) (c .before .before .before .before .before .before .before .before .loop .next) (c .before .before .before .before .before .before .before .before .loop .number) (c .before .before .before .before .before .before .before .before .loop .inv) (c .before .before .before .before .before .before .before .loop-test .taken)
-          (c .before .before .before .before .before .read-record .ensures) (c .before .before .before .before .judge .ensures) (c .before .before .before .is-accepted .ensures) (c .before .before .if1 .taken),
-    )
+    let L = c .before .before .before .before .before .before .before .before .loop in
+    let p = turn-pin _ _ (L .pins) (L .next) (L .number) (L .inv) (c .before .before .before .before .before .before .before .loop-test .taken)
+    (c .before .before .before .before .before .read-record .ensures) (c .before .before .before .before .judge .ensures) (c .before .before .before .is-accepted .ensures) (c .before .before .if1 .taken) in
+    omega arith
 
 array-set-from-pins : tie.Need-array-set-from-pins Inv-loop μ-loop
 array-set-from-pins c =
-    turn-pin _ _ (c .before .before .before .before .before .before .before .before .loop .pins) (c .before .before .before .before .before .before .before .before .loop .next) (c .before .before .before .before .before .before .before .before .loop .number) (c .before .before .before .before .before .before .before .before .loop .inv) (c .before .before .before .before .before .before .before .loop-test .taken)
+    let L = c .before .before .before .before .before .before .before .before .loop in
+    turn-pin _ _ (L .pins) (L .next) (L .number) (L .inv) (c .before .before .before .before .before .before .before .loop-test .taken)
     (c .before .before .before .before .before .read-record .ensures) (c .before .before .before .before .judge .ensures) (c .before .before .before .is-accepted .ensures) (c .before .before .if1 .taken)
 
 add-next : tie.Need-add-next Inv-loop μ-loop
 add-next c =
-    omega (
-      arith,
-      turn-pin _ _ (c .before .before .before .before .before .before .before .before .loop .pins) (c .before .before .before .before .before .before .before .before .loop .next) (c .before .before .before .before .before .before .before .before .loop .number) (c .before .before .before .before .before .before .before .before .loop .inv) (c .before .before .before .before .before .before .before .loop-test .taken)
-          (c .before .before .before .before .before .read-record .ensures) (c .before .before .before .before .judge .ensures) (c .before .before .before .is-accepted .ensures) (c .before .before .if1 .taken),
-    )
+    let L = c .before .before .before .before .before .before .before .before .loop in
+    let p = turn-pin _ _ (L .pins) (L .next) (L .number) (L .inv) (c .before .before .before .before .before .before .before .loop-test .taken)
+    (c .before .before .before .before .before .read-record .ensures) (c .before .before .before .before .judge .ensures) (c .before .before .before .is-accepted .ensures) (c .before .before .if1 .taken) in
+    omega arith
 
 add-number : tie.Need-add-number Inv-loop μ-loop
 add-number c = omega arith
@@ -75,7 +75,8 @@ loop-less c = omega arith
 
 loop-again : tie.Need-loop-again Inv-loop μ-loop
 loop-again c =
-    turn-goes _ _ (c .before .before .before .before .before .before .before .before .loop .pins) (c .before .before .before .before .before .before .before .before .loop .next) (c .before .before .before .before .before .before .before .before .loop .number) (c .before .before .before .before .before .before .before .before .loop .inv) (c .before .before .before .before .before .before .before .loop-test .taken)
+    let L = c .before .before .before .before .before .before .before .before .loop in
+    turn-goes _ _ (L .pins) (L .next) (L .number) (L .inv) (c .before .before .before .before .before .before .before .loop-test .taken)
     (c .before .before .before .before .before .read-record .ensures) (c .before .before .before .before .judge .ensures) (c .before .before .before .is-accepted .ensures) (c .before .before .if1 .taken) (c .pin-with .ensures)
 
 refuse-requires : tie.Need-refuse-requires Inv-loop μ-loop
@@ -83,11 +84,13 @@ refuse-requires c κs = search needs
 
 returns : tie.Need-returns Inv-loop μ-loop
 returns c =
-    c .refuse .ensures ∙ turn-stops _ _ (c .before .before .before .before .before .before .before .loop .pins) (c .before .before .before .before .before .before .before .loop .next) (c .before .before .before .before .before .before .before .loop .number) (c .before .before .before .before .before .before .before .loop .inv) (c .before .before .before .before .before .before .loop-test .taken)
+    let L = c .before .before .before .before .before .before .before .loop in
+    c .refuse .ensures
+    ∙ turn-stops _ _ (L .pins) (L .next) (L .number) (L .inv) (c .before .before .before .before .before .before .loop-test .taken)
     (c .before .before .before .before .read-record .ensures) (c .before .before .before .judge .ensures) (c .before .before .is-accepted .ensures) (c .before .if1 .left)
 
 returns-2 : tie.Need-returns-2 Inv-loop μ-loop
-returns-2 c = ends _ _ (c .before .loop .pins) (c .before .loop .next) (c .before .loop .number) (c .before .loop .inv) (c .loop-test .left)
+returns-2 c = let L = c .before .loop in ends _ _ (L .pins) (L .next) (L .number) (L .inv) (c .loop-test .left)
 
 pub read-records-spec : {M : Type 1} → statement M
 read-records-spec =

@@ -1,4 +1,4 @@
--- `pinmap::write_map` meets its contract. Assumes nothing.
+-- `pinmap::write_map` meets its contract: with too little room nothing is written, else the map. Assumes nothing.
 use borrow.Author.Needs.{needs}
 use native.Mathlib.Omega.{arith}
 use mathlib.Core.Path.{_∙_}

@@ -1,7 +1,7 @@
--- `pinmap::write_pin` meets its contract. Assumes nothing.
+-- `pinmap::write_pin` meets its contract, by the pin's two cases. Assumes nothing.
 use borrow.Author.Needs.{needs}
 use native.Mathlib.Omega.{arith}
-use mathlib.Core.Path.{_≡_, refl, _∙_, ap}
+use mathlib.Core.Path.{refl}
 use Prim.Native.Nat.{_+_, _≤_}
 use lib.ListN.{length}
 use Rattle.pinmap.specs.Record.{recordSize, recordBytes}

@@ -1,12 +1,11 @@
--- `pinmap::write_record` meets its contract. Assumes nothing.
+-- `pinmap::write_record` meets its contract: four stores and two numbers fill the part. Assumes nothing.
 use borrow.Author.Needs.{needs}
 use native.Mathlib.Omega.{arith}
-use mathlib.Core.Path.{_≡_, _∙_, ap}
+use mathlib.Core.Path.{_∙_, ap}
 use lib.ListN.{length, length-set}
 use Rattle.grid.specs.Number.{putAt}
 use Rattle.grid.proofs.Signed.{held}
-use Rattle.pinmap.proofs.Written.{put-length}
-use Rattle.pinmap.proofs.Written.{record-stored}
+use Rattle.pinmap.proofs.Written.{put-length, record-stored}
 use Rattle.pinmap.proofs.write_record.Statement.{statement}
 use Rattle.pinmap.proofs.write_record.Tie as tie
 

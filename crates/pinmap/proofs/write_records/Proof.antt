@@ -1,4 +1,5 @@
--- `pinmap::write_records` meets its contract. Assumes nothing.
+-- `pinmap::write_records` meets its contract. The loop's invariant: storing the records of the pins from `i` on gives what storing the map gives.
+-- The measure is how many pins those are. Assumes nothing.
 use Prim.Native.Nat.{_-_, _<_, _≤_}
 use native.Mathlib.Omega.{arith}
 use lib.ListN.{length}

@@ -1,10 +1,8 @@
 -- `tree::clashes_any` meets its contract: what is left to look through gives the answer. Assumes nothing.
-use lib.Seq.{getD-take, length-take-le}
 use Rattle.tree.specs.Growth.{run}
-use Rattle.tree.specs.Boxes.{clash}
 use borrow.Author.Needs.{needs}
 use native.Mathlib.Omega.{arith}
-use mathlib.Core.Path.{_≡_, refl, sym, ap, _∙_}
+use mathlib.Core.Path.{_≡_, refl, _∙_}
 use Prim.Native.Nat.{_-_}
 use lib.ListN.{take, drop}
 use Rattle.tree.specs.Boxes.{clashAny}
@@ -34,9 +32,7 @@ returns : tie.Need-returns Inv-loop μ-loop
 returns c =
     let h = c .before .before .before .before in
     let a = h .before .args in
-    let m = length-take-le (a .count) (a .t2) (omega arith) in
-    let e = getD-take (a .count) (a .t2) (h .loop .at) (run 0 0) (omega arith) in
-    sym (any-found (a .feed) (a .run) (take (a .count) (a .t2)) (h .loop .at) (omega arith) (ap (clash (a .feed) (a .run)) e ∙ sym (c .before .do-clash .ensures) ∙ c .if1 .taken)) ∙ h .loop .inv
+    any-found (a .feed) (a .run) (a .t2) (a .count) (h .loop .at) (omega arith) (omega arith) (c .before .do-clash .ensures) (c .if1 .taken) ∙ h .loop .inv
 
 add-at : tie.Need-add-at Inv-loop μ-loop
 add-at c = search needs
@@ -48,16 +44,13 @@ loop-again : tie.Need-loop-again Inv-loop μ-loop
 loop-again c =
     let h = c .before .before .before .before in
     let a = h .before .args in
-    let m = length-take-le (a .count) (a .t2) (omega arith) in
-    let e = getD-take (a .count) (a .t2) (h .loop .at) (run 0 0) (omega arith) in
-    sym (any-turn (a .feed) (a .run) (take (a .count) (a .t2)) (h .loop .at) (omega arith) (ap (clash (a .feed) (a .run)) e ∙ sym (c .before .do-clash .ensures) ∙ c .if1 .left)) ∙ h .loop .inv
+    any-turn (a .feed) (a .run) (a .t2) (a .count) (h .loop .at) (omega arith) (omega arith) (c .before .do-clash .ensures) (c .if1 .left) ∙ h .loop .inv
 
 returns-2 : tie.Need-returns-2 Inv-loop μ-loop
 returns-2 c =
     let h = c .before in
     let a = h .before .args in
-    let m = length-take-le (a .count) (a .t2) (omega arith) in
-    sym (any-none (a .feed) (a .run) (take (a .count) (a .t2)) (h .loop .at) (omega arith)) ∙ h .loop .inv
+    any-none (a .feed) (a .run) (a .t2) (a .count) (h .loop .at) (omega arith) (omega arith) ∙ h .loop .inv
 
 pub clashes-any-spec : {M : Type 1} → statement M
 clashes-any-spec =

@@ -1,13 +1,10 @@
 -- `tree::do_boxes_meet` meets its contract: what is left to look through gives the answer. Assumes nothing.
 use borrow.Author.Needs.{needs}
 use native.Mathlib.Omega.{arith}
-use mathlib.Core.Path.{_≡_, refl, sym, ap, _∙_}
-use Prim.Native.Nat.{_-_, _+_}
+use mathlib.Core.Path.{_≡_, refl, _∙_}
+use Prim.Native.Nat.{_-_}
 use lib.ListN.{take, drop}
-use lib.Seq.{getD-take, length-take-le}
-use Rattle.tree.specs.declared.Run.{Run}
-use Rattle.tree.specs.Growth.{run}
-use Rattle.tree.specs.Boxes.{clashAny, boxesMeet}
+use Rattle.tree.specs.Boxes.{boxesMeet}
 use Rattle.tree.proofs.Loops.{meet-turn, meet-found, meet-none}
 use Rattle.tree.proofs.do_boxes_meet.Statement.{statement}
 use Rattle.tree.proofs.do_boxes_meet.Tie as tie
@@ -37,10 +34,7 @@ returns : tie.Need-returns Inv-loop μ-loop
 returns c =
     let h = c .before .before .before .before in
     let a = h .before .args in
-    let m = length-take-le (a .count) (a .t2) (omega arith) in
-    let l = take (a .count) (a .t2) in
-    let e = ap (λ (r : Run). clashAny (a .feed) r (drop (h .loop .at + 1) l)) (getD-take (a .count) (a .t2) (h .loop .at) (run 0 0) (omega arith)) in
-    sym (meet-found (a .feed) l (h .loop .at) (omega arith) (e ∙ sym (c .before .clashes-any .ensures) ∙ c .if1 .taken)) ∙ h .loop .inv
+    meet-found (a .feed) (a .t2) (a .count) (h .loop .at) (omega arith) (omega arith) (c .before .clashes-any .ensures) (c .if1 .taken) ∙ h .loop .inv
 
 add-at : tie.Need-add-at Inv-loop μ-loop
 add-at c = search needs
@@ -52,17 +46,13 @@ loop-again : tie.Need-loop-again Inv-loop μ-loop
 loop-again c =
     let h = c .before .before .before .before in
     let a = h .before .args in
-    let m = length-take-le (a .count) (a .t2) (omega arith) in
-    let l = take (a .count) (a .t2) in
-    let e = ap (λ (r : Run). clashAny (a .feed) r (drop (h .loop .at + 1) l)) (getD-take (a .count) (a .t2) (h .loop .at) (run 0 0) (omega arith)) in
-    sym (meet-turn (a .feed) l (h .loop .at) (omega arith) (e ∙ sym (c .before .clashes-any .ensures) ∙ c .if1 .left)) ∙ h .loop .inv
+    meet-turn (a .feed) (a .t2) (a .count) (h .loop .at) (omega arith) (omega arith) (c .before .clashes-any .ensures) (c .if1 .left) ∙ h .loop .inv
 
 returns-2 : tie.Need-returns-2 Inv-loop μ-loop
 returns-2 c =
     let h = c .before in
     let a = h .before .args in
-    let m = length-take-le (a .count) (a .t2) (omega arith) in
-    sym (meet-none (a .feed) (take (a .count) (a .t2)) (h .loop .at) (omega arith)) ∙ h .loop .inv
+    meet-none (a .feed) (a .t2) (a .count) (h .loop .at) (omega arith) (omega arith) ∙ h .loop .inv
 
 pub do-boxes-meet-spec : {M : Type 1} → statement M
 do-boxes-meet-spec =

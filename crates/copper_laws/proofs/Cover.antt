@@ -2,10 +2,10 @@
 -- Pins are numbered by when they were reached: 0 is the first, suc r the far pin of run r, `near r` the near pin of run r, `at i` the site of
 -- pin i. A shape is a Bool: false is lower, true is upper. Assumes nothing.
 use mathlib.Core.Bool.{Bool, true, false, cond, _&&_, _||_}
-use Prim.Native.Nat.{ℕ, zero, suc, _+_, _≤_, _<_, min, max}
+use Prim.Native.Nat.{ℕ, zero, suc, _+_, min, max}
 use lib.Dec.{eqb, ltb, leb}
 use Rattle.grid.proofs.Flat.{Site}
-use Rattle.copper.proofs.Sums.{oneIf, sumBelow}
+use Rattle.copper_laws.proofs.Sums.{oneIf, sumBelow}
 
 -- A unit step of the moved grid: from (x, y) to (x + 1, y), or from (x, y) to (x, y + 1).
 pub data Stride : Type 0 where
@@ -51,10 +51,3 @@ module _ (at : ℕ → Site) (near : ℕ → ℕ) where
   -- How many strides of the grid up to (m, m) the n runs cover.
   unfoldable pub gridLength : ℕ → ℕ → (ℕ → Bool) → ℕ
   gridLength m n s = over m (λ σ. oneIf (covered n s σ))
-
--- The site p lies in the box of a and b.
-pub record InBox (a b p : Site) : Type 0 where
-  pub left : min (a .x) (b .x) ≤ p .x
-  pub right : p .x ≤ max (a .x) (b .x)
-  pub down : min (a .y) (b .y) ≤ p .y
-  pub up : p .y ≤ max (a .y) (b .y)

@@ -7,14 +7,15 @@ use Prim.Native.Nat.{ℕ, zero, suc, _+_, _≤_, _<_}
 use native.Mathlib.Omega.{arith}
 use lib.Dec.{eqb}
 use borrow.Author.Tests.{eq-eqb, eqb-true, eqb-false}
+use Rattle.tree.proofs.FourPins.{InBox}
 use Rattle.grid.proofs.Flat.{Site, span}
 use Rattle.copper.specs.declared.Arms.{Arms}
 use Rattle.copper.specs.Arms.{noArms, longest, spread}
-use Rattle.copper.proofs.Sums.{oneIf, sumBelow, sum-same, sum-none, sum-only, sum-pair}
-use Rattle.copper.proofs.Tests.{never-both, and-left, and-right, and-both, or-which, or-left, or-right, fails-if, same-test}
-use Rattle.copper.proofs.Least.{entered, shown}
-use Rattle.copper.proofs.Cover.{Stride, covers, straight, some, over, coversOf, covered, gridLength, InBox}
-use Rattle.copper.proofs.Sharing.{
+use Rattle.copper_laws.proofs.Sums.{oneIf, sumBelow, sum-same, sum-none, sum-only, sum-pair}
+use Rattle.copper_laws.proofs.Tests.{never-both, and-left, and-right, and-both, or-which, or-left, or-right, fails-if, same-test}
+use Rattle.copper_laws.proofs.Least.{entered, shown}
+use Rattle.copper_laws.proofs.Cover.{Stride, covers, straight, some, over, coversOf, covered, gridLength}
+use Rattle.copper_laws.proofs.Sharing.{
   On,
   on-of,
   on-covers,
@@ -42,7 +43,7 @@ use Rattle.copper.proofs.Sharing.{
   straight-tip-is,
   straight-back,
 }
-use Rattle.copper.proofs.Star.{
+use Rattle.copper_laws.proofs.Star.{
   armTo,
   star,
   star-arm-is,
@@ -76,7 +77,7 @@ unfolding some
 some-holds zero f r l h = absurd (omega arith)
 some-holds (suc n) f r l h = go (eqb r n) refl (some-holds n f r)
   where
-    go : (t : Bool) → eqb r n ≡ t → (r < n → f r ≡ true → some n f ≡ true) → ((f n) || (some n f)) ≡ true
+    go : (t : Bool) → eqb r n ≡ t → (r < n → f r ≡ true → some n f ≡ true) → (f n || some n f) ≡ true
     go true e ih = or-left (f n) (some n f) (ap f (sym (eqb-true r n e)) ∙ h)
     go false e ih = let ne : r ≡ n → ⊥ = eqb-false r n e in or-right (f n) (some n f) (ih (omega (arith, ne)) h)
 
@@ -264,46 +265,6 @@ module _ (at : ℕ → Site) (near : ℕ → ℕ) where
         let d = laid .distant r q (c .i) (c .j) (c .k) l m (c .one) (c .two) (c .apart) in
         straights (at (c .i)) (at (c .j)) (at (c .k)) (d .0) (d .1) (straight-on r (c .i) (c .j) σ e (c .one) h) (straight-on q (c .i) (c .k) σ f (c .two) k)
 
-    -- A straight run joins p and q and covers the stride.
-    pub data Line (p q : ℕ) (σ : Stride) : Type 0 where
-      line : (r : ℕ) → r < n → isStraightRun r ≡ true → Joins near r p q → coversOf at near r (s r) σ ≡ true → Line p q σ
-
-    two-ends : {r p q : ℕ} {σ : Stride} → Arm r p σ → Arm r q σ → (p ≡ q → ⊥) → Joins near r p q
-    two-ends (leaves a h) (leaves b k) ne = absurd (ne (a ∙ sym b))
-    two-ends (leaves a h) (enters b k) ne = out a b
-    two-ends (enters a h) (leaves b k) ne = back a b
-    two-ends (enters a h) (enters b k) ne = absurd (ne (a ∙ sym b))
-
-    turned : {r p q : ℕ} → Joins near r p q → Joins near r q p
-    turned (out a b) = back b a
-    turned (back a b) = out b a
-
-    -- Legs that leave different pins share no stride, but for the two of a straight run.
-    pub arms-apart : (r q p p' : ℕ) (σ : Stride) → r < n → q < n → Arm r p σ → Arm q p' σ → (p ≡ p' → ⊥) → Line p p' σ
-    arms-apart r q p p' σ l k h h' ne = go (eqb r q) refl
-      where
-        same : r ≡ q → (t : Bool) → isStraightRun r ≡ t → Line p p' σ
-        same e true f = line r l f (two-ends h (subst (λ (z : ℕ). Arm z p' σ) (sym e) h') ne) (arm-covers h)
-        same e false f = absurd (ne (single f h (subst (λ (z : ℕ). Arm z p' σ) (sym e) h')))
-
-        other : (r ≡ q → ⊥) → (x y : Bool) → isStraightRun r ≡ x → isStraightRun q ≡ y → Line p p' σ
-        other d true true f g = absurd (one-straight r q σ l k d f g (arm-covers h) (arm-covers h'))
-        other d true false f g =
-            let b = both-at r q σ l k d (arm-covers h) (arm-covers h') in
-            let e = single g (b .2) h' in
-            line r l f (two-ends h (subst (λ (z : ℕ). Arm r z σ) e (b .1)) ne) (arm-covers h)
-        other d false true f g =
-            let b = both-at r q σ l k d (arm-covers h) (arm-covers h') in
-            let e = single f (b .1) h in
-            line q k g (turned (two-ends h' (subst (λ (z : ℕ). Arm q z σ) e (b .2)) (λ z. ne (sym z)))) (arm-covers h')
-        other d false false f g =
-            let b = both-at r q σ l k d (arm-covers h) (arm-covers h') in
-            absurd (ne (single f h (b .1) ∙ single g (b .2) h'))
-
-        go : (t : Bool) → eqb r q ≡ t → Line p p' σ
-        go true e = same (eqb-true r q e) (isStraightRun r) refl
-        go false e = other (eqb-false r q e) (isStraightRun r) (isStraightRun q) refl refl
-
     -- The longest arms of a pin cover a stride where some leg that leaves it does.
     pin-start : (i : ℕ) (σ : Stride) → i < suc n → star (at i) (startArms i (entered s i)) σ ≡ true → (r : ℕ) × (r < n) × Arm r i σ
     unfolding startArms
@@ -399,7 +360,7 @@ module _ (at : ℕ → Site) (near : ℕ → ℕ) where
 
     -- Run r is straight and covers the stride.
     unfoldable pub straightOn : Stride → ℕ → Bool
-    straightOn σ r = ((isStraightRun r) && (coversOf at near r (s r) σ))
+    straightOn σ r = (isStraightRun r && coversOf at near r (s r) σ)
 
     -- On a stride that a straight run covers only its two ends have arms.
     ends-only : (r : ℕ) (σ : Stride) → r < n → isStraightRun r ≡ true → Covering r σ → (i : ℕ) → i < suc n → (i ≡ near r → ⊥) → (i ≡ suc r → ⊥) → pinsOn σ i ≡ true → ⊥
@@ -546,7 +507,7 @@ module _ (at : ℕ → Site) (near : ℕ → ℕ) where
           b : Site
           b = at (suc r)
 
-          go : (t : Bool) → isStraightRun r ≡ t → over m (λ σ. oneIf (t && (coversOf at near r (s r) σ))) ≡ cond t (span a b) 0
+          go : (t : Bool) → isStraightRun r ≡ t → over m (λ σ. oneIf (t && coversOf at near r (s r) σ)) ≡ cond t (span a b) 0
           go true e =
               over-same m (λ σ. oneIf (coversOf at near r (s r) σ)) (λ σ. oneIf (star a (armTo a b) σ)) (λ σ. ap oneIf (straight-covers r σ e))
               ∙ star-count m a (armTo a b) (inside-arm m a b (near-in r l) (inside (suc r) (omega arith)))

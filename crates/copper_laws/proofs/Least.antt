@@ -12,7 +12,7 @@ use native.Mathlib.Omega.{arith}
 use lib.Dec.{eqb}
 use lib.Pow.{pow-pos}
 use borrow.Author.Tests.{eq-eqb, ne-eqb, eqb-true, eqb-false}
-use Rattle.copper.proofs.Sums.{oneIf, sumBelow, sum-same, sum-but-one}
+use Rattle.copper_laws.proofs.Sums.{oneIf, sumBelow, sum-same, sum-but-one}
 
 -- The lesser cost of the shapes that a run may have: a straight run has the lower one only.
 abbrev pub lesser : Bool → ℕ → ℕ → ℕ
@@ -333,3 +333,26 @@ module _ (A : Type 0) (start : ℕ → Bool → A) (add : A → ℕ → Bool →
   -- .. so it finds the best.
   pub least-best : (k i next : ℕ) (a : A) → leastTo (onward k i next) a (2 ^ bentCount (onward k i next) - 1) ≡ best k i next a
   least-best k i next a = least-nested (onward k i next) a ∙ nested-best k i next a
+
+-- Where two ways of showing and bending agree on the runs before n, they find the same.
+module _ (A : Type 0) (start start' : ℕ → Bool → A) (add add' : A → ℕ → Bool → A) (finish : A → ℕ) (near : ℕ → ℕ) (bent bent' : ℕ → Bool) (own : ℕ → Bool → ℕ)
+    (n : ℕ) (same-start : (r : ℕ) → r < n → (u : Bool) → start (suc r) u ≡ start' (suc r) u) (same-add : (a : A) (r : ℕ) → r < n → (u : Bool) → add a r u ≡ add' a r u)
+    (same-bent : (r : ℕ) → r < n → bent r ≡ bent' r) where
+  pub best-same : (k i next : ℕ) (a : A) → k + next ≤ n → best A start add finish near bent own k i next a ≡ best A start' add' finish near bent' own k i next a
+  unfolding best
+  best-same zero i next a l = refl
+  best-same (suc k) i next a l =
+      let m : next < n = omega arith in
+      let after : k + suc next ≤ n = omega arith in
+      let one : (u : Bool)
+      → own next u + best A start add finish near bent own k (suc next) (suc next) (start (suc next) u)
+      + best A start add finish near bent own k i (suc next) (add a next u)
+      ≡ own next u + best A start' add' finish near bent' own k (suc next) (suc next) (start' (suc next) u)
+      + best A start' add' finish near bent' own k i (suc next) (add' a next u) =
+      λ u.
+      ap₂ (λ (v w : ℕ). own next u + v + w)
+      (best-same k (suc next) (suc next) (start (suc next) u) after
+      ∙ ap (best A start' add' finish near bent' own k (suc next) (suc next)) (same-start next m u))
+      (best-same k i (suc next) (add a next u) after ∙ ap (best A start' add' finish near bent' own k i (suc next)) (same-add a next m u))
+      in
+      rw (same-bent next m, one false, one true, best-same k i (suc next) a after)

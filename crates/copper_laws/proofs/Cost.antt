@@ -1,25 +1,25 @@
 -- The length as a cost that is asked pin by pin: a pin shows its four longest arms and what the straight run that reached it has paid, and
 -- its cost is the difference. Assumes of the tree what `Laid` says.
 use mathlib.Core.Path.{_≡_, refl, sym, ap, ap₂, _∙_}
-use mathlib.Core.Bool.{Bool, true, false, not, cond, _||_}
+use mathlib.Core.Bool.{Bool, true, false, cond}
 use mathlib.Core.Logic.{_⊎_, inl, inr}
-use Prim.Native.Nat.{ℕ, zero, suc, _+_, _-_, _*_, _≤_, _<_, max}
+use Prim.Native.Nat.{ℕ, zero, suc, _+_, _-_, _*_, _≤_, _<_}
 use native.Mathlib.Nat.{suc-mul, mul-le-mul-right}
 use native.Mathlib.Omega.{arith}
 use lib.Dec.{eqb}
 use Rattle.grid.proofs.Flat.{order, Site, span, span-swap}
 use Rattle.copper.specs.declared.Arms.{Arms}
 use Rattle.copper.specs.declared.Tally.{Tally}
 use Rattle.copper.specs.Arms.{longest, spread, owed}
-use Rattle.copper.proofs.Sums.{sumBelow, sum-same, sum-less, sum-times}
-use Rattle.copper.proofs.Least.{entered, shown, total, best, May}
-use Rattle.copper.proofs.Cover.{gridLength}
-use Rattle.copper.proofs.Sharing.{near-tip, far-tip, far-straight, straight-true}
-use Rattle.copper.proofs.Star.{armTo, spread-arm, Within}
-use Rattle.copper.proofs.Laid.{Laid, isStraightRun, startArms, addArms, isBent, armsAt, straightLength, grid-length}
+use Rattle.copper_laws.proofs.Sums.{sumBelow, sum-same, sum-less, sum-times}
+use Rattle.copper_laws.proofs.Least.{entered, shown, total, best}
+use Rattle.copper_laws.proofs.Cover.{straight, gridLength}
+use Rattle.copper_laws.proofs.Sharing.{near-tip, far-tip, far-straight, straight-true}
+use Rattle.copper_laws.proofs.Star.{armTo, spread-arm, Within}
+use Rattle.copper_laws.proofs.Laid.{Laid, startArms, addArms, isBent, armsAt, straightLength, grid-length}
 
 -- Longer arms reach no less.
-spread-longest : (a b : Arms) → spread a ≤ spread (longest a b)
+pub spread-longest : (a b : Arms) → spread a ≤ spread (longest a b)
 unfolding spread longest
 spread-longest a b = omega arith
 
@@ -31,6 +31,18 @@ lexical a c b d B l k h = go (order a c) (order c a)
     go (inr p) q = absurd (omega (arith, mul-le-mul-right {m = suc c} {n = a} B p, suc-mul c B))
     go (inl p) (inr q) = inl q
     go (inl p) (inl q) = let e : a ≡ c = omega arith in inr (e, omega (arith, ap (λ (z : ℕ). z * B) e))
+
+-- The leg that leaves the far end of a straight run is the run, so it reaches as far as the run is long.
+pub paid-within : (u : Bool) (a b : Site) → cond (straight a b) (span a b) 0 ≤ spread (armTo b (far-tip u a b))
+paid-within u a b = go (straight a b) refl
+  where
+    turned : (a .x ≡ b .x) ⊎ (a .y ≡ b .y) → (b .x ≡ a .x) ⊎ (b .y ≡ a .y)
+    turned (inl e) = inl (sym e)
+    turned (inr e) = inr (sym e)
+
+    go : (t : Bool) → straight a b ≡ t → cond t (span a b) 0 ≤ spread (armTo b (far-tip u a b))
+    go true e = rw (far-straight u a b e) (omega (arith, spread-arm b a (turned (straight-true a b e)), span-swap a b))
+    go false e = omega arith
 
 -- Runs that cost nothing for themselves.
 abbrev pub free : ℕ → Bool → ℕ
@@ -91,44 +103,17 @@ module _ (at : ℕ → Site) (near : ℕ → ℕ) where
       go true h = omega (arith, spread-longest (armsAt at near m s i) A)
       go false h = h
 
-  shares-turned : (a b : Site) → (a .x ≡ b .x) ⊎ (a .y ≡ b .y) → (b .x ≡ a .x) ⊎ (b .y ≡ a .y)
-  shares-turned a b (inl e) = inl (sym e)
-  shares-turned a b (inr e) = inr (sym e)
-
   -- .. which reach at least as far as what it has paid.
   paid-start : (i : ℕ) (s : ℕ → Bool) → paidAt i ≤ spread (startArms at near i (entered s i))
   unfolding paidAt startArms straightLength
   paid-start zero s = omega arith
-  paid-start (suc r) s = go (isStraightRun at near r) refl
-    where
-      a : Site
-      a = at (near r)
-
-      b : Site
-      b = at (suc r)
-
-      go : (t : Bool) → isStraightRun at near r ≡ t → cond t (span a b) 0 ≤ spread (armTo b (far-tip (s r) a b))
-      go true e = rw (far-straight (s r) a b e) (omega (arith, spread-arm b a (shares-turned a b (straight-true a b e)), span-swap a b))
-      go false e = omega arith
+  paid-start (suc r) s = paid-within (s r) (at (near r)) (at (suc r))
 
   -- All that is paid is the length of the straight runs.
   paid-sum : (n : ℕ) → sumBelow (suc n) paidAt ≡ sumBelow n (straightLength at near)
   unfolding sumBelow paidAt
   paid-sum zero = refl
   paid-sum (suc n) = ap (λ (z : ℕ). straightLength at near n + z) (paid-sum n)
-
-  -- The shapes with each straight run made lower: the length is the same.
-  unfoldable pub tame : (ℕ → Bool) → ℕ → Bool
-  tame s r = cond (isStraightRun at near r) false (s r)
-
-  -- Then every run has a shape that it may have.
-  pub tame-may : (s : ℕ → Bool) (r : ℕ) → May (isBent at near r) (tame s r)
-  unfolding tame
-  tame-may s r = go (isStraightRun at near r)
-    where
-      go : (t : Bool) → not t ≡ false → cond t false (s r) ≡ false
-      go true e = refl
-      go false e = absurd (let z : _≡_ {A = ℕ} 0 1 = cc in omega arith)
 
   module _ (n : ℕ) (laid : Laid at near n) (m : ℕ) (inside : (i : ℕ) → i < suc n → Within m (at i)) where
     -- The cost is the length, times B, with what the runs cost for themselves.

@@ -5,14 +5,14 @@ use mathlib.Core.Logic.{_⊎_, inl, inr}
 use Prim.Native.Nat.{ℕ, zero, suc, _+_, _-_, _≤_, _<_, min, max}
 use native.Mathlib.Omega.{arith}
 use lib.Dec.{eqb, ltb, leb}
-use borrow.Author.Tests.{eq-eqb, ne-eqb, eqb-true, eqb-false, ltb-true, ltb-false, lt-ltb, leb-true, leb-false, le-leb}
+use borrow.Author.Tests.{eq-eqb, ne-eqb, eqb-true, ltb-true, ltb-false, lt-ltb, leb-true, leb-false, le-leb}
 use Rattle.grid.proofs.Flat.{order, Site, gap, span}
 use Rattle.copper.specs.declared.Arms.{Arms}
 use Rattle.copper.specs.Arms.{noArms, longest, spread}
-use Rattle.copper.proofs.Sums.{oneIf, sumBelow, sum-same, sum-but-one, sum-add, sum-none, sum-only}
-use Rattle.copper.proofs.Tests.{never-both, and-left, and-right, and-both, or-which, or-left, or-right, same-test}
-use Rattle.copper.proofs.Cover.{Stride, along, rise, covers, over}
-use Rattle.copper.proofs.Sharing.{On, in-row, in-column, on-of, on-covers}
+use Rattle.copper_laws.proofs.Sums.{oneIf, sumBelow, sum-same, sum-add, sum-none, sum-only}
+use Rattle.copper_laws.proofs.Tests.{never-both, and-left, and-right, and-both, or-which, or-left, or-right, same-test}
+use Rattle.copper_laws.proofs.Cover.{Stride, along, rise, covers, over}
+use Rattle.copper_laws.proofs.Sharing.{On, in-row, in-column, on-of, on-covers}
 
 -- The leg from p to t reaches in one direction only.
 unfoldable pub armTo : Site → Site → Arms
@@ -26,22 +26,22 @@ armTo p t =
 
 -- What the arms that leave p cover: a stretch of its row and a stretch of its column.
 unfoldable pub star : Site → Arms → Stride → Bool
-star p a (along x y) = ((eqb y (p .y)) && ((leb (p .x) (x + a .west)) && (ltb x (p .x + a .east))))
-star p a (rise x y) = ((eqb x (p .x)) && ((leb (p .y) (y + a .south)) && (ltb y (p .y + a .north))))
+star p a (along x y) = (eqb y (p .y) && (leb (p .x) (x + a .west) && ltb x (p .x + a .east)))
+star p a (rise x y) = (eqb x (p .x) && (leb (p .y) (y + a .south) && ltb y (p .y + a .north)))
 
 -- What it says that the arms cover a stride.
 data Star (p : Site) (a : Arms) : Stride → Type 0 where
   row-star : {x y : ℕ} → y ≡ p .y → p .x ≤ x + a .west → x < p .x + a .east → Star p a (along x y)
   column-star : {x y : ℕ} → x ≡ p .x → p .y ≤ y + a .south → y < p .y + a .north → Star p a (rise x y)
 
-three-of : (p q a b c d : ℕ) → ((eqb p q) && ((leb a b) && (ltb c d))) ≡ true → (p ≡ q) × (a ≤ b) × (c < d)
+three-of : (p q a b c d : ℕ) → (eqb p q && (leb a b && ltb c d)) ≡ true → (p ≡ q) × (a ≤ b) × (c < d)
 three-of p q a b c d e =
-    let e1 = and-right (eqb p q) ((leb a b) && (ltb c d)) e in
-    (eqb-true p q (and-left (eqb p q) ((leb a b) && (ltb c d)) e), leb-true a b (and-left (leb a b) (ltb c d) e1), ltb-true c d (and-right (leb a b) (ltb c d) e1))
+    let e1 = and-right (eqb p q) (leb a b && ltb c d) e in
+    (eqb-true p q (and-left (eqb p q) (leb a b && ltb c d) e), leb-true a b (and-left (leb a b) (ltb c d) e1), ltb-true c d (and-right (leb a b) (ltb c d) e1))
 
-three-hold : (p q a b c d : ℕ) → p ≡ q → a ≤ b → c < d → ((eqb p q) && ((leb a b) && (ltb c d))) ≡ true
+three-hold : (p q a b c d : ℕ) → p ≡ q → a ≤ b → c < d → (eqb p q && (leb a b && ltb c d)) ≡ true
 three-hold p q a b c d e f g =
-    and-both (eqb p q) ((leb a b) && (ltb c d)) (eq-eqb p q e) (and-both (leb a b) (ltb c d) (le-leb a b f) (lt-ltb c d g))
+    and-both (eqb p q) (leb a b && ltb c d) (eq-eqb p q e) (and-both (leb a b) (ltb c d) (le-leb a b f) (lt-ltb c d g))
 
 star-of : (p : Site) (a : Arms) (s : Stride) → star p a s ≡ true → Star p a s
 unfolding star
@@ -121,11 +121,11 @@ module _ (p : Site) (a b : Arms) where
   longest-right (column-star {x = x} {y = y} e f g) = column-star {x = x} {y = y} e (omega arith) (omega arith)
 
   -- The longest of two arms cover what the one or the other covers.
-  pub star-longest : (s : Stride) → star p (longest a b) s ≡ ((star p a s) || (star p b s))
-  star-longest s = same-test (star p (longest a b) s) ((star p a s) || (star p b s)) (λ e. go (longest-or (star-of p (longest a b) s e)))
+  pub star-longest : (s : Stride) → star p (longest a b) s ≡ (star p a s || star p b s)
+  star-longest s = same-test (star p (longest a b) s) (star p a s || star p b s) (λ e. go (longest-or (star-of p (longest a b) s e)))
       (λ e. back (or-which (star p a s) (star p b s) e))
     where
-      go : Star p a s ⊎ Star p b s → ((star p a s) || (star p b s)) ≡ true
+      go : Star p a s ⊎ Star p b s → (star p a s || star p b s) ≡ true
       go (inl z) = or-left (star p a s) (star p b s) (star-holds p a z)
       go (inr z) = or-right (star p a s) (star p b s) (star-holds p b z)
 
@@ -142,27 +142,27 @@ star-none p s e = go (star-of p noArms s e)
     go (column-star e f g) = omega arith
 
 -- How long a stretch is.
-stretch : (m p w e : ℕ) → sumBelow m (λ x. oneIf ((leb p (x + w)) && (ltb x (p + e)))) ≡ min m (p + e) - (p - w)
+stretch : (m p w e : ℕ) → sumBelow m (λ x. oneIf (leb p (x + w) && ltb x (p + e))) ≡ min m (p + e) - (p - w)
 unfolding sumBelow
 stretch zero p w e = omega arith
 stretch (suc m) p w e = go (leb p (m + w)) (ltb m (p + e)) refl refl (stretch m p w e)
   where
-    go : (s t : Bool) → leb p (m + w) ≡ s → ltb m (p + e) ≡ t → sumBelow m (λ x. oneIf ((leb p (x + w)) && (ltb x (p + e)))) ≡ min m (p + e) - (p - w)
-        → oneIf (s && t) + sumBelow m (λ x. oneIf ((leb p (x + w)) && (ltb x (p + e)))) ≡ min (suc m) (p + e) - (p - w)
+    go : (s t : Bool) → leb p (m + w) ≡ s → ltb m (p + e) ≡ t → sumBelow m (λ x. oneIf (leb p (x + w) && ltb x (p + e))) ≡ min m (p + e) - (p - w)
+        → oneIf (s && t) + sumBelow m (λ x. oneIf (leb p (x + w) && ltb x (p + e))) ≡ min (suc m) (p + e) - (p - w)
     go true true a b ih = omega (arith, leb-true p (m + w) a, ltb-true m (p + e) b)
     go true false a b ih = omega (arith, ltb-false m (p + e) b)
     go false t a b ih = omega (arith, leb-false p (m + w) a)
 
 -- A count over one row of the grid, and over one column.
-one-row : (m q : ℕ) (c : ℕ → Bool) → q < m → sumBelow m (λ x. sumBelow m (λ y. oneIf ((eqb y q) && (c x)))) ≡ sumBelow m (λ x. oneIf (c x))
+one-row : (m q : ℕ) (c : ℕ → Bool) → q < m → sumBelow m (λ x. sumBelow m (λ y. oneIf (eqb y q && c x))) ≡ sumBelow m (λ x. oneIf (c x))
 one-row m q c l =
-    sum-same m (λ x. sumBelow m (λ y. oneIf ((eqb y q) && (c x)))) (λ x. oneIf (c x))
-    (λ x k. sum-only m q (λ y. oneIf ((eqb y q) && (c x))) l (λ i j n. rw (ne-eqb i q n)) ∙ rw (eq-eqb q q refl))
+    sum-same m (λ x. sumBelow m (λ y. oneIf (eqb y q && c x))) (λ x. oneIf (c x))
+    (λ x k. sum-only m q (λ y. oneIf (eqb y q && c x)) l (λ i j n. rw (ne-eqb i q n)) ∙ rw (eq-eqb q q refl))
 
-one-col : (m q : ℕ) (c : ℕ → Bool) → q < m → sumBelow m (λ x. sumBelow m (λ y. oneIf ((eqb x q) && (c y)))) ≡ sumBelow m (λ y. oneIf (c y))
+one-col : (m q : ℕ) (c : ℕ → Bool) → q < m → sumBelow m (λ x. sumBelow m (λ y. oneIf (eqb x q && c y))) ≡ sumBelow m (λ y. oneIf (c y))
 one-col m q c l =
-    sum-only m q (λ x. sumBelow m (λ y. oneIf ((eqb x q) && (c y)))) l
-    (λ i j n. sum-none m (λ y. oneIf ((eqb i q) && (c y))) (λ y k. rw (ne-eqb i q n)))
+    sum-only m q (λ x. sumBelow m (λ y. oneIf (eqb x q && c y))) l
+    (λ i j n. sum-none m (λ y. oneIf (eqb i q && c y)) (λ y k. rw (ne-eqb i q n)))
     ∙ rw (eq-eqb q q refl)
 
 -- Sums over the grid, as sums below a bound.
@@ -229,14 +229,14 @@ inside-longest m p a b h k =
 pub star-count : (m : ℕ) (p : Site) (a : Arms) → Inside m p a → over m (λ s. oneIf (star p a s)) ≡ spread a
 unfolding over star spread
 star-count m p a h =
-    let R : ℕ → Bool = λ x. ((leb (p .x) (x + a .west)) && (ltb x (p .x + a .east))) in
-    let C : ℕ → Bool = λ y. ((leb (p .y) (y + a .south)) && (ltb y (p .y + a .north))) in
+    let R : ℕ → Bool = λ x. (leb (p .x) (x + a .west) && ltb x (p .x + a .east)) in
+    let C : ℕ → Bool = λ y. (leb (p .y) (y + a .south) && ltb y (p .y + a .north)) in
     let e1 =
-    sum-same m (λ x. sumBelow m (λ y. oneIf ((eqb y (p .y)) && (R x)) + oneIf ((eqb x (p .x)) && (C y))))
-    (λ x. sumBelow m (λ y. oneIf ((eqb y (p .y)) && (R x))) + sumBelow m (λ y. oneIf ((eqb x (p .x)) && (C y))))
-    (λ x k. sum-add m (λ y. oneIf ((eqb y (p .y)) && (R x))) (λ y. oneIf ((eqb x (p .x)) && (C y))))
+    sum-same m (λ x. sumBelow m (λ y. oneIf (eqb y (p .y) && R x) + oneIf (eqb x (p .x) && C y)))
+    (λ x. sumBelow m (λ y. oneIf (eqb y (p .y) && R x)) + sumBelow m (λ y. oneIf (eqb x (p .x) && C y)))
+    (λ x k. sum-add m (λ y. oneIf (eqb y (p .y) && R x)) (λ y. oneIf (eqb x (p .x) && C y)))
     in
-    let e2 = sum-add m (λ x. sumBelow m (λ y. oneIf ((eqb y (p .y)) && (R x)))) (λ x. sumBelow m (λ y. oneIf ((eqb x (p .x)) && (C y)))) in
+    let e2 = sum-add m (λ x. sumBelow m (λ y. oneIf (eqb y (p .y) && R x))) (λ x. sumBelow m (λ y. oneIf (eqb x (p .x) && C y))) in
     let e3 = one-row m (p .y) R (omega (arith, h .above)) ∙ stretch m (p .x) (a .west) (a .east) in
     let e4 = one-col m (p .x) C (omega (arith, h .right)) ∙ stretch m (p .y) (a .south) (a .north) in
     let n1 : min m (p .x + a .east) - (p .x - a .west) ≡ a .east + a .west = omega (arith, h .right, h .left) in

@@ -3,34 +3,31 @@
 -- `at i` the place of pin i; s gives each run its shape, false for lower and true for upper.
 -- Assumes that the places are held by i32 and that the tree is laid as `Laid` says.
 use mathlib.Core.Path.{_≡_, refl, sym, ap, ap₂, _∙_}
-use mathlib.Core.Bool.{Bool, true, false, cond, _||_}
-use mathlib.Core.List.{List, [], _∷_, _++_}
-use mathlib.Core.Logic.{_⊎_, inl, inr}
-use Prim.Native.Nat.{ℕ, zero, suc, _+_, _*_, _≤_, _<_, min, max}
+use mathlib.Core.Bool.{Bool, true, false, not, cond, _||_}
+use mathlib.Core.List.{List, [], _++_, append-assoc, append-nil}
+use mathlib.Core.Logic.{_⊎_}
+use Prim.Native.Nat.{ℕ, zero, suc, _+_, _*_, _≤_, _<_}
 use native.Mathlib.Omega.{arith}
-use lib.Signed.{leZ}
-use lib.Dec.{eqb, leb}
-use borrow.Author.Tests.{leb-true, leb-false}
-use Rattle.refusal.specs.Tests.{either, choose}
+use Rattle.refusal.specs.Tests.{choose}
 use Rattle.grid.specs.declared.Place.{Place}
-use Rattle.grid.specs.Place.{sameNumber}
-use Rattle.grid.proofs.Signed.{off, I32, off-max, leZ-off}
+use Rattle.grid.proofs.Signed.{off-max}
 use Rattle.grid.proofs.Flat.{Site, site, Held}
 use Rattle.copper.specs.declared.Shape.{Shape}
 use Rattle.copper.specs.declared.Shape.the-variants.{Straight, Lower, Upper}
 use Rattle.copper.specs.declared.Leg.{Leg}
 use Rattle.copper.specs.declared.Tally.{Tally}
-use Rattle.copper.specs.Shapes.{isStraight, crossing, lowerCorner, upperCorner, cornerOf, shapeOf, legsOf}
+use Rattle.copper.specs.Shapes.{isStraight, lowerCorner, upperCorner, shapeOf, legsOf}
 use Rattle.copper.specs.Length.{lengthOf, legsOfRuns}
 use Rattle.copper.specs.Arms.{spread, owed}
-use Rattle.copper.proofs.Sums.{oneIf, sumBelow, sum-none}
-use Rattle.copper.proofs.Least.{May, best-least, best-reached}
-use Rattle.copper.proofs.Cover.{Stride, covers, straight, bend, runCovers, some, over, coversOf, covered, gridLength}
-use Rattle.copper.proofs.Star.{over-same, Within}
-use Rattle.copper.proofs.Laid.{Laid, isStraightRun, isBent, armsAt, straightLength, grid-length}
-use Rattle.copper.proofs.Cost.{lexical, free, startTally, addTally, costOf, leastCost, tame, tame-may, cost-is}
-use Rattle.copper.proofs.Moved.{straight-site, lower-site, upper-site, lower-held, upper-held}
-use Rattle.copper.proofs.Measured.{HeldLeg, HeldLegs, no-legs, more-legs, held-join, anyLeg, any-join, length-counted}
+use Rattle.copper_laws.proofs.Sums.{oneIf, sumBelow, sum-none}
+use Rattle.copper_laws.proofs.Least.{May, best-least, best-reached}
+use Rattle.copper_laws.proofs.Cover.{Stride, covers, straight, bend, runCovers, some, coversOf, covered, gridLength}
+use Rattle.copper_laws.proofs.Star.{over-same, Within}
+use Rattle.copper_laws.proofs.Laid.{Laid, isBent, armsAt, straightLength, grid-length}
+use Rattle.copper_laws.proofs.Cost.{lexical, free, startTally, addTally, costOf, leastCost, cost-is}
+use Rattle.copper_laws.proofs.Tallies.{bentAt, leastOf, least-site, may-site, may-place}
+use Rattle.copper_laws.proofs.Moved.{straight-site, lower-site, upper-site, lower-held, upper-held}
+use Rattle.copper_laws.proofs.Measured.{HeldLeg, HeldLegs, no-legs, more-legs, held-join, anyLeg, any-join, length-counted}
 
 -- The run from a to b.
 module _ (a b : Place) (p : Held a) (q : Held b) where
@@ -74,7 +71,26 @@ module _ (m : ℕ) (big : 4294967296 ≤ m) where
       let c = upper-held a b p q in
       more-legs (held-leg a (upperCorner a b) p c) (more-legs (held-leg (upperCorner a b) b c q) no-legs)
 
+-- The legs of runs 0 to n - 1, run after run.
+unfoldable pub joinBelow : (ℕ → List Leg) → ℕ → List Leg
+joinBelow legs zero = []
+joinBelow legs (suc n) = joinBelow legs n ++ legs n
+
+-- They begin with those of the first run.
+pub join-first : (legs : ℕ → List Leg) (n : ℕ) → joinBelow legs (suc n) ≡ legs 0 ++ joinBelow (λ r. legs (suc r)) n
+unfolding joinBelow
+join-first legs zero = sym (append-nil (legs 0))
+join-first legs (suc n) =
+    ap (λ (l : List Leg). l ++ legs (suc n)) (join-first legs n) ∙ append-assoc (legs 0) (joinBelow (λ r. legs (suc r)) n) (legs (suc n))
+
 module _ (at : ℕ → Place) (near : ℕ → ℕ) where
+  -- The legs of the runs, one run after the other.
+  pub runs-joined : (s : ℕ → Bool) (n : ℕ)
+      → legsOfRuns at near s n ≡ joinBelow (λ r. legsOf (shapeOf (s r) (at (near r)) (at (suc r))) (at (near r)) (at (suc r))) n
+  unfolding legsOfRuns joinBelow
+  runs-joined s zero = refl
+  runs-joined s (suc n) = ap (λ (l : List Leg). l ++ legsOf (shapeOf (s n) (at (near n)) (at (suc n))) (at (near n)) (at (suc n))) (runs-joined s n)
+
   -- The pins' sites.
   abbrev pub sites : ℕ → Site
   sites i = site (at i)
@@ -159,49 +175,57 @@ module _ (at : ℕ → Place) (near : ℕ → ℕ) where
     cost-length = cost-length-by 4294967296 (omega arith)
 
     -- What is found pin by pin is at most what any choice of shapes costs ..
-    pub least-cost : (B : ℕ) (own : ℕ → Bool → ℕ) (s : ℕ → Bool) → ((r : ℕ) → r < n → May (isBent sites near r) (s r))
-        → leastCost sites near B own n ≤ sumBelow n (λ r. own r (s r)) + lengthOf (legsOfRuns at near s n) * B
+    pub least-cost : (B : ℕ) (own : ℕ → Bool → ℕ) (s : ℕ → Bool) → ((r : ℕ) → r < n → May (bentAt at near r) (s r))
+        → leastOf at near B own n ≤ sumBelow n (λ r. own r (s r)) + lengthOf (legsOfRuns at near s n) * B
     unfolding leastCost costOf
     least-cost B own s may =
         omega (
           arith,
-          best-least Tally (startTally sites near) (addTally sites near) (λ a. owed a * B) near (isBent sites near) own n (laid .grown) s may,
+          best-least Tally (startTally sites near) (addTally sites near) (λ a. owed a * B) near (isBent sites near) own n (laid .grown) s
+              (λ r l. may-site at near n held (laid .grown) r l (s r) (may r l)),
+          least-site at near n held (laid .grown) B own,
           cost-length B own s,
         )
 
     -- .. and some choice costs just that.
     pub cost-reached : (B : ℕ) (own : ℕ → Bool → ℕ)
-        → (s : ℕ → Bool) × ((r : ℕ) → r < n → May (isBent sites near r) (s r))
-        × (leastCost sites near B own n ≡ sumBelow n (λ r. own r (s r)) + lengthOf (legsOfRuns at near s n) * B)
+        → (s : ℕ → Bool) × ((r : ℕ) → r < n → May (bentAt at near r) (s r))
+        × (leastOf at near B own n ≡ sumBelow n (λ r. own r (s r)) + lengthOf (legsOfRuns at near s n) * B)
     unfolding leastCost costOf
     cost-reached B own =
-        let z = best-reached Tally (startTally sites near) (addTally sites near) (λ a. owed a * B) near (isBent sites near) own n (laid .grown) in
-        (z .0, z .1, z .2 ∙ cost-length B own (z .0))
+        let z = best-reached Tally (startTally sites near) (addTally sites near) (λ a. owed a * B) near (isBent sites near) own n (laid .grown) in (
+          z .0,
+          λ r l. may-place at near n held (laid .grown) r l (z .0 r) (z .1 r l),
+          least-site at near n held (laid .grown) B own ∙ z .2 ∙ cost-length B own (z .0),
+        )
 
-    tame-legs : (s : ℕ → Bool) → legsOfRuns at near (tame sites near s) n ≡ legsOfRuns at near s n
+    -- The shapes with each straight run made lower have the same legs.
+    tame : (ℕ → Bool) → ℕ → Bool
+    tame s r = cond (bentAt at near r) (s r) false
+
+    tame-may : (s : ℕ → Bool) (r : ℕ) → May (bentAt at near r) (tame s r)
     unfolding tame
-    tame-legs s =
-        straight-shape n (tame sites near s) s
-        (λ r l e.
-        ap (λ (t : Bool). cond t false (s r))
-        (sym (straight-site (at (near r)) (at (suc r)) (held (near r) (omega (arith, laid .grown r l))) (held (suc r) (omega arith))) ∙ e))
+    tame-may s r e = ap (λ (t : Bool). cond t (s r) false) e
+
+    tame-legs : (s : ℕ → Bool) → legsOfRuns at near (tame s) n ≡ legsOfRuns at near s n
+    unfolding tame
+    tame-legs s = straight-shape n (tame s) s (λ r l e. ap (λ (t : Bool). cond (not t) (s r) false) e)
 
     -- The least length of all choices of shapes: none is shorter ..
-    pub least-length : (s : ℕ → Bool) → leastCost sites near 1 free n ≤ lengthOf (legsOfRuns at near s n)
+    pub least-length : (s : ℕ → Bool) → leastOf at near 1 free n ≤ lengthOf (legsOfRuns at near s n)
     least-length s =
-        omega
-        (arith, least-cost 1 free (tame sites near s) (λ r l. tame-may sites near s r), ap lengthOf (tame-legs s), sum-none n (λ r. 0) (λ r l. refl))
+        omega (arith, least-cost 1 free (tame s) (λ r l. tame-may s r), ap lengthOf (tame-legs s), sum-none n (λ r. 0) (λ r l. refl))
 
     -- .. and some choice has it.
-    pub length-reached : (s : ℕ → Bool) × (leastCost sites near 1 free n ≡ lengthOf (legsOfRuns at near s n))
+    pub length-reached : (s : ℕ → Bool) × (leastOf at near 1 free n ≡ lengthOf (legsOfRuns at near s n))
     length-reached = let z = cost-reached 1 free in (z .0, omega (arith, z .2, sum-none n (λ r. 0) (λ r l. refl)))
 
     -- The first of the shortest: where a mask of the shapes, below B, is what the runs cost for themselves, the shapes found are of least
     -- length, and among those of least mask.
     pub first-shortest : (B : ℕ) (own : ℕ → Bool → ℕ) → ((s : ℕ → Bool) → sumBelow n (λ r. own r (s r)) < B)
-        → (s : ℕ → Bool) × ((r : ℕ) → r < n → May (isBent sites near r) (s r))
-        × (leastCost sites near B own n ≡ sumBelow n (λ r. own r (s r)) + lengthOf (legsOfRuns at near s n) * B)
-        × ((t : ℕ → Bool) → ((r : ℕ) → r < n → May (isBent sites near r) (t r))
+        → (s : ℕ → Bool) × ((r : ℕ) → r < n → May (bentAt at near r) (s r))
+        × (leastOf at near B own n ≡ sumBelow n (λ r. own r (s r)) + lengthOf (legsOfRuns at near s n) * B)
+        × ((t : ℕ → Bool) → ((r : ℕ) → r < n → May (bentAt at near r) (t r))
         → (lengthOf (legsOfRuns at near s n) < lengthOf (legsOfRuns at near t n))
         ⊎ ((lengthOf (legsOfRuns at near s n) ≡ lengthOf (legsOfRuns at near t n))
         × (sumBelow n (λ r. own r (s r)) ≤ sumBelow n (λ r. own r (t r)))))

@@ -1,22 +1,22 @@
 -- The words of the definitions, moved by 2 ^ 31: whether a run is straight, and where its corners are. Assumes that places are held by i32.
-use mathlib.Core.Path.{_≡_, refl, sym, ap, ap₂, _∙_}
+use mathlib.Core.Path.{_≡_, refl, ap, ap₂, _∙_}
 use mathlib.Core.Bool.{Bool, true, false, cond, _||_}
-use Prim.Native.Nat.{ℕ, _≤_, _<_, min, max}
+use Prim.Native.Nat.{ℕ, min, max}
 use native.Mathlib.Omega.{arith}
 use lib.Signed.{leZ}
 use lib.Dec.{leb}
 use borrow.Author.Tests.{leb-true, leb-false}
-use Rattle.refusal.specs.Tests.{either, choose}
+use Rattle.refusal.specs.Tests.{choose}
 use Rattle.grid.specs.declared.Place.{Place}
 use Rattle.grid.specs.Place.{sameNumber}
 use Rattle.grid.proofs.Signed.{off, leZ-off}
 use Rattle.grid.proofs.Flat.{Site, site, Held}
 use Rattle.copper.specs.declared.Shape.the-variants.{Straight, Lower, Upper}
 use Rattle.copper.specs.Shapes.{isStraight, crossing, lowerCorner, upperCorner, cornerOf, shapeOf}
-use Rattle.copper.proofs.Cover.{straight, bend}
-use Rattle.copper.proofs.Sharing.{near-tip, far-tip, straight-false}
-use Rattle.copper.proofs.Counted.{either-is}
-use Rattle.copper.proofs.Measured.{same-x, same-y}
+use Rattle.copper_laws.proofs.Cover.{straight, bend}
+use Rattle.copper_laws.proofs.Sharing.{near-tip, far-tip, straight-false}
+use Rattle.copper_laws.proofs.Counted.{either-is}
+use Rattle.copper_laws.proofs.Measured.{same-x, same-y}
 
 -- Two heights that differ are in one order only.
 ordered : (s t : Bool) (h k v w : ℕ) → (h ≡ k → ⊥) → leb h k ≡ s → leb k h ≡ t → cond t v w ≡ cond s w v

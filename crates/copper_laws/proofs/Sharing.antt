@@ -1,35 +1,36 @@
 -- Legs of runs that leave one pin: which of them can cover the same stride. The neighbours of a pin are assumed to be at least as far from
 -- each other as from the pin; nothing else is.
-use mathlib.Core.Path.{_≡_, refl, sym, ap, _∙_}
+use mathlib.Core.Path.{_≡_, refl, sym, _∙_}
 use mathlib.Core.Bool.{Bool, true, false, cond, _&&_, _||_}
 use mathlib.Core.Logic.{_⊎_, inl, inr}
-use Prim.Native.Nat.{ℕ, zero, suc, _+_, _-_, _≤_, _<_, min, max}
+use Prim.Native.Nat.{ℕ, _-_, _≤_, _<_, min, max}
 use native.Mathlib.Omega.{arith}
 use lib.Dec.{eqb, ltb, leb}
 use borrow.Author.Tests.{eq-eqb, eqb-true, eqb-false, ltb-true, lt-ltb, leb-true, leb-false, le-leb}
+use Rattle.tree.proofs.FourPins.{InBox}
 use Rattle.grid.proofs.Flat.{order, gap, gap-up, gap-down, Site, span}
-use Rattle.copper.proofs.Tests.{never-both, and-left, and-right, and-both, or-which, or-left, or-right, or-neither}
-use Rattle.copper.proofs.Cover.{Stride, along, rise, covers, straight, bend, runCovers, InBox}
+use Rattle.copper_laws.proofs.Tests.{and-left, and-right, and-both, or-which, or-left, or-right, or-neither}
+use Rattle.copper_laws.proofs.Cover.{Stride, along, rise, covers, straight, bend, runCovers}
 
 -- What it says that a leg covers a stride.
 pub data On (a b : Site) : Stride → Type 0 where
   in-row : {x y : ℕ} → y ≡ a .y → y ≡ b .y → min (a .x) (b .x) ≤ x → x < max (a .x) (b .x) → On a b (along x y)
   in-column : {x y : ℕ} → x ≡ a .x → x ≡ b .x → min (a .y) (b .y) ≤ y → y < max (a .y) (b .y) → On a b (rise x y)
 
-four-of : (p q k v lo hi : ℕ) → ((eqb p q) && ((eqb p k) && ((leb lo v) && (ltb v hi)))) ≡ true → (p ≡ q) × (p ≡ k) × (lo ≤ v) × (v < hi)
+four-of : (p q k v lo hi : ℕ) → (eqb p q && (eqb p k && (leb lo v && ltb v hi))) ≡ true → (p ≡ q) × (p ≡ k) × (lo ≤ v) × (v < hi)
 four-of p q k v lo hi e =
-    let e1 = and-right (eqb p q) ((eqb p k) && ((leb lo v) && (ltb v hi))) e in
-    let e2 = and-right (eqb p k) ((leb lo v) && (ltb v hi)) e1 in (
-      eqb-true p q (and-left (eqb p q) ((eqb p k) && ((leb lo v) && (ltb v hi))) e),
-      eqb-true p k (and-left (eqb p k) ((leb lo v) && (ltb v hi)) e1),
+    let e1 = and-right (eqb p q) (eqb p k && (leb lo v && ltb v hi)) e in
+    let e2 = and-right (eqb p k) (leb lo v && ltb v hi) e1 in (
+      eqb-true p q (and-left (eqb p q) (eqb p k && (leb lo v && ltb v hi)) e),
+      eqb-true p k (and-left (eqb p k) (leb lo v && ltb v hi) e1),
       leb-true lo v (and-left (leb lo v) (ltb v hi) e2),
       ltb-true v hi (and-right (leb lo v) (ltb v hi) e2),
     )
 
-four-hold : (p q k v lo hi : ℕ) → p ≡ q → p ≡ k → lo ≤ v → v < hi → ((eqb p q) && ((eqb p k) && ((leb lo v) && (ltb v hi)))) ≡ true
+four-hold : (p q k v lo hi : ℕ) → p ≡ q → p ≡ k → lo ≤ v → v < hi → (eqb p q && (eqb p k && (leb lo v && ltb v hi))) ≡ true
 four-hold p q k v lo hi e f l h =
-    and-both (eqb p q) ((eqb p k) && ((leb lo v) && (ltb v hi))) (eq-eqb p q e)
-    (and-both (eqb p k) ((leb lo v) && (ltb v hi)) (eq-eqb p k f) (and-both (leb lo v) (ltb v hi) (le-leb lo v l) (lt-ltb v hi h)))
+    and-both (eqb p q) (eqb p k && (leb lo v && ltb v hi)) (eq-eqb p q e)
+    (and-both (eqb p k) (leb lo v && ltb v hi) (eq-eqb p k f) (and-both (leb lo v) (ltb v hi) (le-leb lo v l) (lt-ltb v hi h)))
 
 -- The test holds where the leg covers the stride.
 pub on-of : (a b : Site) (s : Stride) → covers a b s ≡ true → On a b s
@@ -46,11 +47,6 @@ on-covers a b (in-column {x = x} {y = y} e f l h) = four-hold x (a .x) (b .x) y 
 pub on-turned : (a b : Site) {s : Stride} → On a b s → On b a s
 on-turned a b (in-row {x = x} {y = y} e f l h) = in-row {x = x} {y = y} f e (omega arith) (omega arith)
 on-turned a b (in-column {x = x} {y = y} e f l h) = in-column {x = x} {y = y} f e (omega arith) (omega arith)
-
--- An empty leg covers nothing.
-pub on-none : (a : Site) {s : Stride} → On a a s → ⊥
-on-none a (in-row e f l h) = omega arith
-on-none a (in-column e f l h) = omega arith
 
 -- The first leg from i towards j ends at t, and is not empty.
 pub data Tip (i j t : Site) : Type 0 where
@@ -75,7 +71,7 @@ before : (a b v : ℕ) → v < a → min a b ≤ v → v < max a b → b ≤ v
 before a b v o l h = omega arith
 
 -- Where b and c lie on one side of a, one of them is nearer to the other than to a.
-pub side-clash : (a b c v : ℕ) → min a b ≤ v → v < max a b → min a c ≤ v → v < max a c → gap a b ≤ gap b c → gap a c ≤ gap b c → ⊥
+side-clash : (a b c v : ℕ) → min a b ≤ v → v < max a b → min a c ≤ v → v < max a c → gap a b ≤ gap b c → gap a c ≤ gap b c → ⊥
 side-clash a b c v l h l' h' d d' = go (order a v) (order b c)
   where
     go : (a ≤ v) ⊎ (v < a) → (b ≤ c) ⊎ (c < b) → ⊥
@@ -309,19 +305,19 @@ module _ (u : Bool) (a b : Site) where
 
   box-leg : (c : Site) → ((c .x ≡ b .x) × (c .y ≡ a .y)) ⊎ ((c .x ≡ a .x) × (c .y ≡ b .y)) → {s : Stride} → On a c s ⊎ On c b s → InBox a b (origin s)
   unfolding origin
-  box-leg c (inl z) (inl (in-row e f l h)) = record { left = rw (z .0) at l; right = omega arith; down = omega arith; up = omega arith }
+  box-leg c (inl z) (inl (in-row e f l h)) = record { left = rw (z .0) at l; right = omega arith; bottom = omega arith; top = omega arith }
   box-leg c (inl z) (inl (in-column e f l h)) = absurd (omega arith)
   box-leg c (inl z) (inr (in-row e f l h)) = absurd (omega arith)
-  box-leg c (inl z) (inr (in-column e f l h)) = record { left = omega arith; right = omega arith; down = rw (z .1) at l; up = omega arith }
+  box-leg c (inl z) (inr (in-column e f l h)) = record { left = omega arith; right = omega arith; bottom = rw (z .1) at l; top = omega arith }
   box-leg c (inr z) (inl (in-row e f l h)) = absurd (omega arith)
-  box-leg c (inr z) (inl (in-column e f l h)) = record { left = omega arith; right = omega arith; down = rw (z .1) at l; up = omega arith }
-  box-leg c (inr z) (inr (in-row e f l h)) = record { left = rw (z .0) at l; right = omega arith; down = omega arith; up = omega arith }
+  box-leg c (inr z) (inl (in-column e f l h)) = record { left = omega arith; right = omega arith; bottom = rw (z .1) at l; top = omega arith }
+  box-leg c (inr z) (inr (in-row e f l h)) = record { left = rw (z .0) at l; right = omega arith; bottom = omega arith; top = omega arith }
   box-leg c (inr z) (inr (in-column e f l h)) = absurd (omega arith)
 
   box-straight : {s : Stride} → On a b s → InBox a b (origin s)
   unfolding origin
-  box-straight (in-row e f l h) = record { left = l; right = omega arith; down = omega arith; up = omega arith }
-  box-straight (in-column e f l h) = record { left = omega arith; right = omega arith; down = l; up = omega arith }
+  box-straight (in-row e f l h) = record { left = l; right = omega arith; bottom = omega arith; top = omega arith }
+  box-straight (in-column e f l h) = record { left = omega arith; right = omega arith; bottom = l; top = omega arith }
 
   -- A stride that a run covers starts in the box of the run.
   pub in-box : (s : Stride) → runCovers u a b s ≡ true → InBox a b (origin s)

@@ -1,27 +1,27 @@
 -- The length of a list of legs is the sum over the grid of 1 for each stride that one of the legs covers.
 -- Assumes that the ends of the legs are held by i32 and, moved by 2 ^ 31, are on the grid.
 use mathlib.Core.Path.{_≡_, refl, sym, ap, ap₂, _∙_}
-use mathlib.Core.Bool.{Bool, true, false, cond, _&&_, _||_}
+use mathlib.Core.Bool.{Bool, true, false, _&&_, _||_}
 use mathlib.Core.List.{List, [], _∷_, _++_}
 use mathlib.Core.Logic.{_⊎_, inl, inr}
 use Prim.Native.Nat.{ℕ, zero, suc, _+_, _≤_, _<_, min, max}
 use native.Mathlib.Omega.{arith}
 use lib.IntN.{ℤ, pos, _+ℤ_}
 use lib.Dec.{eqb, leb, ltb}
-use borrow.Author.Tests.{eq-eqb, ne-eqb, eqb-true, eqb-false, leb-true, leb-false, le-leb, lt-leb, ltb-true, ltb-false, lt-ltb, le-ltb}
-use Rattle.refusal.specs.Tests.{both, either, choose}
+use borrow.Author.Tests.{eqb-true, eqb-false, leb-true, le-leb, ltb-true, lt-ltb}
+use Rattle.refusal.specs.Tests.{both, choose}
 use Rattle.grid.specs.declared.Place.{Place}
 use Rattle.grid.specs.Place.{difference, sameNumber}
-use Rattle.grid.proofs.Signed.{off, I32}
+use Rattle.grid.proofs.Signed.{off}
 use Rattle.grid.proofs.Flat.{Site, site, Held}
 use Rattle.copper.specs.declared.Leg.{Leg}
 use Rattle.copper.specs.Length.{Step, across, up, sameStep, stepsAcross, stepsUp, smaller, stepsOf, stepsOfAll, among, lengthOf}
-use Rattle.copper.proofs.Numbers.{Low, low-held, back, next-off, same-back, same-off, smaller-off, smaller-low, reach-off}
-use Rattle.copper.proofs.Sums.{oneIf}
-use Rattle.copper.proofs.Tests.{never-both, and-left, and-right, and-both, or-which, or-left, or-right, fails-if, same-test}
-use Rattle.copper.proofs.Cover.{Stride, along, rise, covers, over}
-use Rattle.copper.proofs.Star.{over-same, Within}
-use Rattle.copper.proofs.Counted.{both-is, either-is, strideOf, stepAt, OnGrid, Each, none, more, each-join, counted}
+use Rattle.copper_laws.proofs.Numbers.{Low, low-held, back, next-off, same-back, same-off, smaller-off, smaller-low, reach-off}
+use Rattle.copper_laws.proofs.Sums.{oneIf}
+use Rattle.copper_laws.proofs.Tests.{and-left, and-right, and-both, or-which, fails-if, same-test}
+use Rattle.copper_laws.proofs.Cover.{Stride, along, rise, covers, over}
+use Rattle.copper_laws.proofs.Star.{over-same, Within}
+use Rattle.copper_laws.proofs.Counted.{both-is, either-is, strideOf, stepAt, Each, none, more, each-join, counted}
 
 -- a is one of the n numbers from lo on.
 unfoldable from : ℕ → ℕ → ℕ → Bool

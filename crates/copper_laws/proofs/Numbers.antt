@@ -1,17 +1,17 @@
 -- Whole numbers moved to ℕ and back: `off z` is z + 2 ^ 31, and `back` takes it away again. Assumes that a number is not below -2 ^ 31.
 use mathlib.Core.Path.{_≡_, refl, sym, ap, _∙_}
 use mathlib.Core.Bool.{Bool, true, false, cond}
-use Prim.Native.Nat.{ℕ, zero, suc, _+_, _-_, _≤_, _<_, min, max}
+use Prim.Native.Nat.{ℕ, zero, suc, _+_, _-_, _<_, min, max}
 use native.Mathlib.Omega.{arith}
 use lib.IntN.{ℤ, pos, negsuc, natAbs, subℕ, _+ℤ_, _-ℤ_, -ℤ-+ℤ-cancel, +ℤ-idl, +ℤ-invr}
-use lib.Signed.{leZ, nonNeg}
-use lib.Dec.{T, eqb, leb, ltb}
-use borrow.Author.Tests.{leb-true, leb-false, le-leb, ltb-true, ltb-false, lt-ltb, le-ltb, eq-eqb, eqb-true}
+use lib.Signed.{leZ}
+use lib.Dec.{eqb, leb, ltb}
+use borrow.Author.Tests.{leb-true, leb-false, ltb-true, ltb-false, lt-ltb, le-ltb, eq-eqb, eqb-true}
 use Rattle.refusal.specs.Tests.{choose}
 use Rattle.grid.specs.Place.{difference, sameNumber}
-use Rattle.grid.proofs.Signed.{off, I32, off-max, leZ-off, difference-off}
+use Rattle.grid.proofs.Signed.{off, I32, leZ-off, difference-off}
 use Rattle.copper.specs.Length.{smaller}
-use Rattle.copper.proofs.Tests.{never-both, same-test}
+use Rattle.copper_laws.proofs.Tests.{same-test}
 
 -- How far a number is below -1.
 abbrev pub depth : ℤ → ℕ
@@ -100,29 +100,3 @@ smaller-low a b p q = low-choose (leZ a b) a b (low-held a p) (low-held b q)
 -- From the smaller by the difference to the larger.
 pub reach-off : (a b : ℤ) → I32 a → I32 b → off (smaller a b) + difference a b ≡ max (off a) (off b)
 reach-off a b p q = omega (arith, smaller-off a b p q, difference-off a b p q)
-
--- What the code's difference of two numbers asks.
-less-cond : (t : Bool) (m n : ℕ) → ltb m n ≡ t → n ≤ m → T (nonNeg (cond t (negsuc (n - suc m)) (pos (m - n))))
-less-cond true m n e h = absurd (omega (arith, ltb-true m n e))
-less-cond false m n e h = tt
-
--- A number less one that is not larger is not negative.
-pub ahead-sign : (a b : ℤ) → leZ a b ≡ true → T (nonNeg (b -ℤ a))
-ahead-sign (pos zero) (pos b) e = tt
-ahead-sign (pos (suc a)) (pos b) e = less-cond (ltb b (suc a)) b (suc a) refl (leb-true (suc a) b e)
-ahead-sign (pos a) (negsuc b) e = absurd (never-both e refl)
-ahead-sign (negsuc a) (pos b) e = tt
-ahead-sign (negsuc a) (negsuc b) e = less-cond (ltb (suc a) (suc b)) (suc a) (suc b) refl (omega (arith, leb-true b a e))
-
--- Two numbers that an i32 holds are less than 2 ^ 32 apart, and as far apart both ways.
-pub difference-below : (a b : ℤ) → I32 a → I32 b → difference a b < 4294967296
-difference-below a b p q = omega (arith, difference-off a b p q, off-max a p, off-max b q)
-
-pub difference-swap : (a b : ℤ) → I32 a → I32 b → difference a b ≡ difference b a
-difference-swap a b p q = omega (arith, difference-off a b p q, difference-off b a q p)
-
--- The other way round where it is not at most.
-pub other-way : (a b : ℤ) → I32 a → I32 b → leZ a b ≡ false → leZ b a ≡ true
-other-way a b p q e =
-    leZ-off b a q p
-    ∙ le-leb (off b) (off a) (let l = leb-false (off a) (off b) (sym (leZ-off a b p q) ∙ e) in omega arith)

@@ -3,20 +3,19 @@
 use mathlib.Core.Path.{_≡_, refl, sym, ap, ap₂, _∙_}
 use mathlib.Core.Bool.{Bool, true, false, _&&_, _||_}
 use mathlib.Core.List.{List, [], _∷_, _++_}
-use Prim.Native.Nat.{ℕ, zero, suc, _+_, _≤_, _<_}
+use Prim.Native.Nat.{ℕ, suc, _+_, _<_}
 use native.Mathlib.Omega.{arith}
-use lib.IntN.{ℤ, pos, _+ℤ_}
 use lib.Dec.{eqb}
 use borrow.Author.Tests.{eq-eqb, ne-eqb, eqb-true}
 use Rattle.refusal.specs.Tests.{both, either, choose}
 use Rattle.grid.specs.Place.{sameNumber}
 use Rattle.grid.proofs.Signed.{off}
-use Rattle.copper.specs.Length.{Step, across, up, sameStep, stepsAcross, stepsUp, among, different}
-use Rattle.copper.proofs.Numbers.{Low, back, back-off, next-off, same-back}
-use Rattle.copper.proofs.Sums.{oneIf, sumBelow, sum-same, sum-none, sum-only}
-use Rattle.copper.proofs.Tests.{never-both, and-left, and-right}
-use Rattle.copper.proofs.Cover.{Stride, along, rise, over}
-use Rattle.copper.proofs.Star.{over-same, over-add}
+use Rattle.copper.specs.Length.{Step, across, up, sameStep, among, different}
+use Rattle.copper_laws.proofs.Numbers.{Low, back, back-off, same-back}
+use Rattle.copper_laws.proofs.Sums.{oneIf, sumBelow, sum-same, sum-none, sum-only}
+use Rattle.copper_laws.proofs.Tests.{never-both, and-left, and-right}
+use Rattle.copper_laws.proofs.Cover.{Stride, along, rise, over}
+use Rattle.copper_laws.proofs.Star.{over-same, over-add}
 
 -- A step moved, and moved back.
 unfoldable pub strideOf : Step → Stride

@@ -1,0 +1,132 @@
+-- The map of a drawing that keeps the rules is read to that drawing: pin after pin, the pins below having been read. From the laws of records
+-- and of drawings. Assumes nothing.
+use mathlib.Core.Path.{_≡_, refl, sym, ap, _∙_}
+use mathlib.Core.Bool.{true, false}
+use mathlib.Core.Logic.{⊎-elim}
+use mathlib.Core.List.{List, [], _∷_, _++_}
+use Prim.Native.Nat.{ℕ, zero, suc, _+_, _/_, _<_, _≤_}
+use native.Mathlib.Omega.{arith}
+use lib.ListN.{length, getD, take, drop, set, replicate, length-append, length-set}
+use lib.Seq.{getD-set-same, getD-set-other, set-getD, ext-getD, take-at, drop-at}
+use Rattle.refusal.specs.Tests.{either, choose}
+use Rattle.refusal.specs.Refusals.{accepted}
+use Rattle.refusal.proofs.Tests.{both-left}
+use Rattle.grid.specs.Place.{inside}
+use Rattle.grid.proofs.Flat.{order}
+use Rattle.drawing.specs.declared.Held.{Held}
+use Rattle.drawing.specs.declared.Stand.{Stand}
+use Rattle.drawing.specs.declared.Stand.the-variants.{Absent, There}
+use Rattle.drawing.specs.declared.Pin.{Pin}
+use Rattle.drawing.specs.Pins.{pins, absent, there, within, settled, allApart, lawful, meets, meetsAny, crowded}
+use Rattle.drawing.proofs.Rules.{lawful-parts, lawful-settled, meets-turned, apart-pair}
+use Rattle.pinmap.specs.Record.{recordSize, recordBytes}
+use Rattle.pinmap.specs.Map.{noPins, readAs, withRecord, readFrom, mapFrom}
+use Rattle.pinmap.proofs.Faults.{Faultless, no-fault}
+use Rattle.pinmap.proofs.Written.{record-length, absent-bytes, there-bytes, map-next, map-end}
+use Rattle.pinmap.proofs.Records.{record-read}
+
+-- The pins below i are those of the drawing, the others are absent.
+pub record Upto (l : List Pin) (i : ℕ) (earlier : List Pin) : Type 0 where
+  pub full : length earlier ≡ pins
+  pub below : (j : ℕ) → j < i → getD earlier j absent ≡ getD l j absent
+  pub above : (j : ℕ) → i ≤ j → getD earlier j absent ≡ absent
+
+pub upto-none : (l : List Pin) → Upto l 0 noPins
+unfolding noPins
+upto-none l = record { full = refl; below = λ j h. absurd (omega arith); above = λ j h. replicated pins j }
+  where
+    replicated : (n j : ℕ) → getD (replicate n absent) j absent ≡ absent
+    replicated zero j = refl
+    replicated (suc n) zero = refl
+    replicated (suc n) (suc j) = replicated n j
+
+upto-all : (l : List Pin) (i : ℕ) (earlier : List Pin) → length l ≡ pins → pins ≤ i → Upto l i earlier → earlier ≡ l
+upto-all l i earlier n h u = ext-getD absent earlier l (u .full ∙ sym n) (λ j k. u .below j (omega (arith, u .full)))
+
+module _ (l : List Pin) (i : ℕ) (earlier : List Pin) (u : Upto l i earlier) where
+  -- Pin i is absent: nothing is to be done for it.
+  upto-skip : getD l i absent ≡ absent → Upto l (i + 1) earlier
+  upto-skip q =
+      record {
+        full = u .full;
+        below = λ j h. ⊎-elim (λ (k : i ≤ j). same j (omega arith)) (λ (k : j < i). u .below j k) (order i j);
+        above = λ j h. u .above j (omega arith);
+      }
+    where
+      same : (j : ℕ) → j ≡ i → getD earlier j absent ≡ getD l j absent
+      same j e = rw e (u .above i (omega arith) ∙ sym q)
+
+  -- Pin i is there: it is put at its number.
+  upto-put : i < pins → Upto l (i + 1) (set earlier i (getD l i absent))
+  upto-put n =
+      record {
+        full = length-set earlier i (getD l i absent) ∙ u .full;
+        below = λ j h. ⊎-elim (λ (k : i ≤ j). same j (omega arith)) (λ (k : j < i). other j (λ e. omega arith) ∙ u .below j k) (order i j);
+        above = λ j h. other j (λ e. omega arith) ∙ u .above j (omega arith);
+      }
+    where
+      other : (j : ℕ) → (j ≡ i → ⊥) → getD (set earlier i (getD l i absent)) j absent ≡ getD earlier j absent
+      other j h = getD-set-other earlier i j (getD l i absent) absent h
+
+      same : (j : ℕ) → j ≡ i → getD (set earlier i (getD l i absent)) j absent ≡ getD l j absent
+      same j e = rw e (getD-set-same earlier i (getD l i absent) absent (omega (arith, u .full)))
+
+  -- The place of pin i is not taken by the pins below.
+  none-met : (q : Pin) (m : List Pin) → ((j : ℕ) → meets q (getD m j absent) ≡ false) → meetsAny q m ≡ false
+  unfolding meetsAny either
+  none-met q [] f = refl
+  none-met q (r ∷ m) f = rw (f 0) (none-met q m (λ j. f (suc j)))
+
+  place-free : allApart l ≡ true → (held : Held) → getD l i absent ≡ there held → crowded earlier i (held .place) ≡ false
+  unfolding crowded meets
+  place-free a held q =
+      let e : set earlier i absent ≡ earlier = ap (set earlier i) (sym (u .above i (omega arith))) ∙ set-getD earlier i absent in
+      rw e
+      (none-met (there held) earlier
+      (λ j. ⊎-elim (λ (k : i ≤ j). rw (u .above j k)) (λ (k : j < i). rw (u .below j k) (meets-turned (there held) (getD l j absent) ∙ ap (meets (getD l j absent)) (sym q) ∙ apart-pair l j i a k)) (order i j)))
+
+place-inside : (l : List Pin) (i : ℕ) (held : Held) → lawful l ≡ true → getD l i absent ≡ there held → inside (held .place) ≡ true
+unfolding settled within
+place-inside l i held e q = rw q at (both-left (within (getD l i absent)) _ (lawful-settled l i e))
+
+-- A record without a fault at the front is read, and then what follows it.
+read-one : (left job number next pin : ℕ) (earlier : List Pin) (held : Held) (rest : List ℕ) → job < 65536 → inside (held .place) ≡ true
+    → Faultless job next earlier (record { job = job; pin = pin; blank = 0; place = held .place })
+    → readFrom (suc left) (recordBytes job pin held ++ rest) job number next earlier ≡ readFrom left rest job (number + 1) (pin + 1) (set earlier pin (there held))
+unfolding readFrom withRecord accepted choose
+read-one left job number next pin earlier held rest j e f =
+    let t : take recordSize (recordBytes job pin held ++ rest) ≡ recordBytes job pin held = take-at (recordBytes job pin held) rest recordSize (record-length job pin held) in
+    let d : drop recordSize (recordBytes job pin held ++ rest) ≡ rest = drop-at (recordBytes job pin held) rest recordSize (record-length job pin held) in
+    rw (t, d, record-read job pin held j e, no-fault job number next earlier (record { job = job; pin = pin; blank = 0; place = held .place }) f)
+
+module _ (job : ℕ) (l : List Pin) (j : job < 65536) (e : lawful l ≡ true) where
+  -- The map from pin i on is read to the drawing's pins, the pins below having been read.
+  abbrev pub OpenFrom : ℕ → Type 0
+  OpenFrom i =
+      (number next : ℕ) (earlier : List Pin) → next ≤ i → Upto l i earlier
+      → readFrom (length (mapFrom job i (drop i l)) / recordSize) (mapFrom job i (drop i l)) job number next earlier ≡ readAs l
+
+  open-next : (i : ℕ) → i < pins → OpenFrom (i + 1) → (t : Stand) → getD l i absent ≡ record { stand = t } → OpenFrom i
+  open-next i n rec Absent q number next earlier h u =
+      let m : mapFrom job i (drop i l) ≡ mapFrom job (i + 1) (drop (i + 1) l) =
+      map-next job l i (omega (arith, lawful-parts l e .long)) ∙ ap (λ (b : List ℕ). b ++ mapFrom job (i + 1) (drop (i + 1) l)) (absent-bytes job i (getD l i absent) (ap (λ (p : Pin). p .stand) q)) in
+      rw m (rec number next earlier (omega arith) (upto-skip l i earlier u q))
+  open-next i n rec (There held) q number next earlier h u =
+      let rest : List ℕ = mapFrom job (i + 1) (drop (i + 1) l) in
+      let m : mapFrom job i (drop i l) ≡ recordBytes job i held ++ rest =
+      map-next job l i (omega (arith, lawful-parts l e .long)) ∙ ap (λ (b : List ℕ). b ++ rest) (there-bytes job i (getD l i absent) (ap (λ (p : Pin). p .stand) q)) in
+      let c : length (recordBytes job i held ++ rest) / recordSize ≡ suc (length rest / recordSize) =
+      omega (arith, length-append (recordBytes job i held) rest, record-length job i held) in
+      let p : inside (held .place) ≡ true = place-inside l i held e q in
+      let f : Faultless job next earlier (record { job = job; pin = i; blank = 0; place = held .place }) =
+      record { own-job = refl; pin-low = n; blank = refl; on-board = p; above = h; free = place-free l i earlier u (lawful-parts l e .apart) held q } in
+      rw (m, c)
+      (read-one (length rest / recordSize) job number next i earlier held rest j p f
+      ∙ rec (number + 1) (i + 1) (set earlier i (there held)) (omega arith) (rw q at (upto-put l i earlier u n)))
+
+  pub open-from : (k i : ℕ) → i + k ≡ pins → OpenFrom i
+  unfolding readFrom
+  open-from zero i n number next earlier h u =
+      rw (map-end job l i (omega (arith, lawful-parts l e .long))) (ap readAs (upto-all l i earlier (lawful-parts l e .long) (omega arith) u))
+  open-from (suc k) i n number next earlier h u =
+      open-next i (omega arith) (open-from k (i + 1) (omega arith)) (getD l i absent .stand) refl number next earlier h u

@@ -1,0 +1,159 @@
+-- Written and read, both ways. The map of a drawing that keeps the rules opens under its job with the same pins; a map that opens is written with
+-- the same bytes, and its pins keep the rules. From the laws of records, read forwards and back. Assumes nothing.
+use mathlib.Core.Path.{_≡_, refl, sym, ap, _∙_}
+use mathlib.Core.Bool.{Bool, true, false}
+use mathlib.Core.List.{List, [], _∷_, _++_}
+use Prim.Native.Nat.{ℕ, zero, suc, _+_, _/_, _%_, _<_, _≤_}
+use native.Mathlib.Omega.{arith}
+use lib.ListN.{length, take, drop}
+use lib.Seq.{take-append-seam}
+use Rattle.refusal.specs.declared.Verdict.{Verdict}
+use Rattle.refusal.specs.declared.Verdict.the-variants.{Accepted, MapLength, RoomTooSmall}
+use Rattle.refusal.specs.Tests.{both, either, choose}
+use Rattle.refusal.specs.Refusals.{accepted}
+use Rattle.refusal.proofs.Tests.{both-left, both-right}
+use Rattle.drawing.specs.declared.Stand.{Stand}
+use Rattle.drawing.specs.declared.Stand.the-variants.{Absent, There}
+use Rattle.drawing.specs.declared.Pin.{Pin}
+use Rattle.drawing.specs.Pins.{pins, withinIn, within, allWithin, allApart, lawful, meetsAny, meets}
+use Rattle.drawing.proofs.Rules.{lawful-parts}
+use Rattle.pinmap.specs.declared.Reading.{Reading}
+use Rattle.pinmap.specs.declared.Writing.{Writing}
+use Rattle.pinmap.specs.Record.{recordSize, recordOf, judged, bytesIn, pinBytes}
+use Rattle.pinmap.specs.Map.{mostBytes, noPins, refusedBy, readAs, readFrom, wrongLength, readMap, mapFrom, mapOf, written, noRoom, writeMap, bufferAfter}
+use Rattle.pinmap.proofs.Lengths.{right-length, length-right, looked-at}
+use Rattle.pinmap.proofs.Written.{map-size}
+use Rattle.pinmap.proofs.Records.{Bytes, bytes-append, record-bytes}
+use Rattle.pinmap.proofs.Opening.{upto-none, open-from}
+use Rattle.pinmap.proofs.Back.{Kept, Back, back-from}
+
+-- ---- the map of a drawing
+
+-- A drawing's map has at most 384 bytes, and a whole number of records.
+pub map-short : (job : ℕ) (l : List Pin) → length l ≡ pins → length (mapOf job l) ≤ mostBytes
+unfolding mapOf
+map-short job l n = omega (arith, map-size job 0 l .0)
+
+pub map-whole : (job : ℕ) (l : List Pin) → length (mapOf job l) % recordSize ≡ 0
+unfolding mapOf
+map-whole job l = map-size job 0 l .1
+
+-- A drawing's map opens under its job with the same pins.
+pub map-opens : (job : ℕ) (l : List Pin) → job < 65536 → lawful l ≡ true → readMap (mapOf job l) job ≡ readAs l
+unfolding mapOf
+map-opens job l j e =
+    sym (looked-at (mapFrom job 0 l) job (right-length (mapFrom job 0 l) (map-short job l (lawful-parts l e .long)) (map-whole job l)))
+    ∙ open-from job l j e pins 0 refl 0 0 noPins (omega arith) (upto-none l)
+
+pin-bytes : (job pin : ℕ) (q : Pin) → job < 65536 → pin < 256 → within q ≡ true → Bytes (pinBytes job pin q)
+unfolding pinBytes within
+pin-bytes job pin q j p e = by-stand (q .stand) e
+  where
+    by-stand : (t : Stand) → withinIn t ≡ true → Bytes (bytesIn job pin t)
+    by-stand Absent e = λ i. omega arith
+    by-stand (There held) e = record-bytes job pin held j p e
+
+bytes-from : (job i : ℕ) (l : List Pin) → job < 65536 → i + length l ≤ 256 → allWithin l ≡ true → Bytes (mapFrom job i l)
+unfolding mapFrom allWithin
+bytes-from job i [] j n e = λ k. omega arith
+bytes-from job i (q ∷ l) j n e =
+    bytes-append (pinBytes job i q) (mapFrom job (i + 1) l) (pin-bytes job i q j (omega arith) (both-left _ _ e)) (bytes-from job (i + 1) l j (omega arith) (both-right _ _ e))
+
+-- A drawing's map is made of bytes.
+pub map-bytes : (job : ℕ) (l : List Pin) → job < 65536 → lawful l ≡ true → Bytes (mapOf job l)
+unfolding mapOf
+map-bytes job l j e = bytes-from job 0 l j (omega (arith, lawful-parts l e .long)) (lawful-parts l e .board)
+
+-- ---- a map that opens
+
+-- A drawing without pins keeps the rules.
+pub no-pins-lawful : lawful noPins ≡ true
+unfolding noPins lawful both allWithin within allApart meetsAny meets either
+no-pins-lawful = refl
+
+-- A map that opens has a right length, and its records are read.
+back-length : (job : ℕ) (map : List ℕ) (t : Bool) (x : Reading) → (t ≡ false → accepted (x .verdict) ≡ true → Back job map noPins x)
+    → accepted (choose t (refusedBy MapLength) x .verdict) ≡ true → Back job map noPins (choose t (refusedBy MapLength) x)
+unfolding choose accepted
+back-length job map true x f a = let z : _≡_ {A = ℕ} 0 1 = cc in absurd (omega arith)
+back-length job map false x f a = f refl a
+
+kept-none : Kept 0 noPins
+kept-none = record { rules = no-pins-lawful; clear = λ k h. upto-none noPins .above k (omega arith) }
+
+back-read : (job : ℕ) (map : List ℕ) → accepted (readMap map job .verdict) ≡ true → Back job map noPins (readMap map job)
+unfolding readMap
+back-read job map a =
+    back-length job map (wrongLength map) (readFrom (length map / recordSize) map job 0 0 noPins)
+    (λ e. back-from job (length map / recordSize) map 0 0 noPins (omega (arith, length-right map e .1)) kept-none) a
+
+none-written : (job : ℕ) → mapOf job noPins ≡ []
+unfolding mapOf mapFrom pinBytes noPins
+none-written job = refl
+
+-- A map that opens is written with the same bytes.
+pub same-bytes : (job : ℕ) (map : List ℕ) → Bytes map → accepted (readMap map job .verdict) ≡ true → mapOf job (readMap map job .pins) ≡ map
+same-bytes job map b a = back-read job map a .bytes b ∙ ap (λ (m : List ℕ). m ++ map) (none-written job)
+
+-- Its pins keep the rules of a drawing.
+pub opened-lawful : (job : ℕ) (map : List ℕ) → accepted (readMap map job .verdict) ≡ true → lawful (readMap map job .pins) ≡ true
+opened-lawful job map a = back-read job map a .rules
+
+-- ---- a map in a buffer
+
+-- Where a writing is accepted, the bytes written are the map.
+buffer-by : (m buffer : List ℕ) (t : Bool) → let w : Writing = choose t (record { verdict = RoomTooSmall; bytes = 0 }) (record { verdict = Accepted; bytes = length m }) in
+    accepted (w .verdict) ≡ true → take (w .bytes) (choose t buffer (written m buffer)) ≡ m
+unfolding choose accepted written
+buffer-by m buffer true a = let z : _≡_ {A = ℕ} 0 1 = cc in absurd (omega arith)
+buffer-by m buffer false a = take-append-seam m (drop (length m) buffer)
+
+pub bytes-written : (job : ℕ) (l : List Pin) (buffer : List ℕ) → accepted (writeMap l job buffer .verdict) ≡ true
+    → take (writeMap l job buffer .bytes) (bufferAfter l job buffer) ≡ mapOf job l
+unfolding writeMap bufferAfter
+bytes-written job l buffer a = buffer-by (mapOf job l) buffer (noRoom l job buffer) a
+
+-- The bytes that were written open under their job with the same pins.
+pub written-opens : (job : ℕ) (l : List Pin) (buffer : List ℕ) → job < 65536 → lawful l ≡ true → accepted (writeMap l job buffer .verdict) ≡ true
+    → readMap (take (writeMap l job buffer .bytes) (bufferAfter l job buffer)) job ≡ readAs l
+written-opens job l buffer j e a = ap (λ (m : List ℕ). readMap m job) (bytes-written job l buffer a) ∙ map-opens job l j e
+
+-- A map that opens and is written again gives its bytes.
+pub opened-written : (job : ℕ) (map buffer : List ℕ) → Bytes map → accepted (readMap map job .verdict) ≡ true
+    → accepted (writeMap (readMap map job .pins) job buffer .verdict) ≡ true
+    → take (writeMap (readMap map job .pins) job buffer .bytes) (bufferAfter (readMap map job .pins) job buffer) ≡ map
+opened-written job map buffer b a c = bytes-written job (readMap map job .pins) buffer c ∙ same-bytes job map b a
+
+-- ---- a map that does not open
+
+-- It gives no pins.
+refused-by : (t : Bool) (v : Verdict) (x : Reading) → accepted v ≡ t → (accepted (x .verdict) ≡ false → x .pins ≡ noPins)
+    → accepted (choose t x (refusedBy v) .verdict) ≡ false → choose t x (refusedBy v) .pins ≡ noPins
+unfolding choose
+refused-by true v x e f a = f a
+refused-by false v x e f a = refl
+
+refused-from : (left : ℕ) (map : List ℕ) (job number next : ℕ) (earlier : List Pin) → accepted (readFrom left map job number next earlier .verdict) ≡ false
+    → readFrom left map job number next earlier .pins ≡ noPins
+unfolding readFrom accepted
+refused-from zero map job number next earlier a = let z : _≡_ {A = ℕ} 0 1 = cc in absurd (omega arith)
+refused-from (suc left) map job number next earlier a =
+    refused-by _ (judged job number next earlier (recordOf (take recordSize map))) _ refl (refused-from left (drop recordSize map) job (number + 1) _ _) a
+
+refused-length : (t : Bool) (x : Reading) → (accepted (x .verdict) ≡ false → x .pins ≡ noPins)
+    → accepted (choose t (refusedBy MapLength) x .verdict) ≡ false → choose t (refusedBy MapLength) x .pins ≡ noPins
+unfolding choose
+refused-length true x f a = refl
+refused-length false x f a = f a
+
+pub refused-none : (job : ℕ) (map : List ℕ) → accepted (readMap map job .verdict) ≡ false → readMap map job .pins ≡ noPins
+unfolding readMap
+refused-none job map a = refused-length (wrongLength map) _ (refused-from (length map / recordSize) map job 0 0 noPins) a
+
+-- Whatever the map, the pins that are handed back keep the rules.
+pub read-lawful : (job : ℕ) (map : List ℕ) → lawful (readMap map job .pins) ≡ true
+read-lawful job map = by-verdict (accepted (readMap map job .verdict)) refl
+  where
+    by-verdict : (t : Bool) → accepted (readMap map job .verdict) ≡ t → lawful (readMap map job .pins) ≡ true
+    by-verdict true e = opened-lawful job map e
+    by-verdict false e = rw (refused-none job map e) no-pins-lawful

@@ -1,0 +1,227 @@
+-- THE BOXES OF TWO RUNS WITHOUT A COMMON PIN SHARE NO POINT, so 18 is never given. Each of the two runs comes before a pair that crosses over to the other
+-- run, on its own side of it; four such pins are apart. From pins that stand on the board.
+use mathlib.Core.Path.{_≡_, refl, sym, ap, _∙_}
+use mathlib.Core.Bool.{Bool, true, false}
+use mathlib.Core.List.{List, [], _∷_, reverseAux}
+use mathlib.Core.Logic.{_⊎_, inl, inr}
+use Prim.Native.Nat.{ℕ, _<_}
+use native.Mathlib.Omega.{arith}
+use native.Mathlib.Nat.{min-comm, max-comm}
+use lib.Dec.{eqb}
+use lib.ListN.{length}
+use borrow.Author.Tests.{eqb-false}
+use Rattle.refusal.specs.Tests.{both, either}
+use Rattle.refusal.specs.declared.Verdict.the-variants.{Accepted}
+use Rattle.refusal.proofs.Tests.{both-no, both-yes, either-right, choose-no}
+use Rattle.grid.specs.declared.Spot.{Spot}
+use Rattle.grid.proofs.Flat.{Site}
+use Rattle.tree.specs.declared.Run.{Run}
+use Rattle.tree.specs.Growth.{placeOf, spotAt, allInside, pinsOf, runsOf}
+use Rattle.tree.specs.Boxes.{fails, boxesShare, isEnd, common, clash, clashAny, boxesMeet}
+use Rattle.tree.specs.Trees.{treeWith, none, treeOf}
+use Rattle.tree.proofs.Deciding.{decide, either-false, fails-yes, fails-of}
+use Rattle.tree.proofs.Membership.{Among, first, later}
+use Rattle.tree.proofs.Numbering.{siteAt, keyAt, keyed, stands, fits}
+use Rattle.tree.proofs.Branches.{
+  Reached,
+  fresh,
+  HasRun,
+  here,
+  further,
+  hangs,
+  hangs-none,
+  hangs-old,
+  Branching,
+  branch,
+  Grown,
+  branching,
+  reached-there,
+  far-reached,
+  near-reached,
+  differ,
+  cut,
+  far-hangs,
+  near-stays,
+  run-hangs,
+}
+use Rattle.tree.proofs.Listing.{runs-grown, pins-low}
+use Rattle.tree.proofs.Spanning.{has-run, in-turned, none-among, no-runs}
+use Rattle.tree.proofs.FourPins.{Before, key-before, InBox, no-point}
+use Rattle.tree.proofs.Boxes.{Shared, shared-point}
+
+-- Of two runs not each hangs from the other.
+not-both : {There : ℕ → Type 0} {o : ℕ} {rs : List Run} → Branching There o rs → (s t s' t' : ℕ) → HasRun s t rs → HasRun s' t' rs → (t ≡ t' → ⊥)
+    → hangs rs t t' ≡ true → hangs rs t' t ≡ false
+not-both (branch {r = r} {rs = rs} j w) s t s' t' (here e f) (here e' f') ne b = absurd (ne (f ∙ sym f'))
+not-both {o = o} (branch {r = r} {rs = rs} j w) s t s' t' (here e f) (further h') ne b =
+    absurd (differ b (hangs-none r rs t t' (fresh o t' (r .far) (far-reached o s' t' h') (j .unmet)) f) refl)
+not-both {o = o} (branch {r = r} {rs = rs} j w) s t s' t' (further h) (here e' f') ne b =
+    hangs-none r rs t' t (fresh o t (r .far) (far-reached o s t h) (j .unmet)) f'
+not-both {o = o} (branch {r = r} {rs = rs} j w) s t s' t' (further h) (further h') ne b =
+    let ft = fresh o t (r .far) (far-reached o s t h) (j .unmet) in
+    let ft' = fresh o t' (r .far) (far-reached o s' t' h') (j .unmet) in
+    hangs-old r rs t' t ft ft' ∙ not-both w s t s' t' h h' ne (sym (hangs-old r rs t t' ft' ft) ∙ b)
+
+-- A box is that of its corners in either order.
+box-turn : {a b p : Site} → InBox a b p → InBox b a p
+box-turn {a} {b} h =
+    record {
+      left = rw (min-comm (b .x) (a .x)) (h .left);
+      right = rw (max-comm (b .x) (a .x)) (h .right);
+      bottom = rw (min-comm (b .y) (a .y)) (h .bottom);
+      top = rw (max-comm (b .y) (a .y)) (h .top);
+    }
+
+module _ (feed : List Spot) (full : length feed ≡ 32) (ok : allInside feed ≡ true) (f : ℕ) (left : List ℕ) (e : pinsOf feed ≡ f ∷ left)
+    {rs : List Run} (g : Grown (keyAt feed) (λ (a : ℕ). Among a (f ∷ left)) f rs) where
+  w : Branching (λ (a : ℕ). Among a (f ∷ left)) f rs
+  w = branching g
+
+  low : (a : ℕ) → Reached f a rs → a < 32
+  low a h = pins-low feed full ok f left e a (reached-there (first refl) w a h)
+
+  -- A run comes before any other pair across it.
+  strict : (s t a b : ℕ) → HasRun s t rs → Reached f a rs → Reached f b rs → (hangs rs t a ≡ hangs rs t b → ⊥)
+      → ((s ≡ a) × (t ≡ b) → ⊥) → ((s ≡ b) × (t ≡ a) → ⊥) → keyAt feed s t < keyAt feed a b
+  strict s t a b h ia ib ne n m =
+      let le = cut (keyAt feed) (keyed feed ok .swap) g s t a b h ia ib ne in
+      let df : keyAt feed s t ≡ keyAt feed a b → ⊥ =
+      λ q. other (keyed feed ok .told s t a b (low s (near-reached s t w h)) (low t (far-reached f s t h)) (low a ia) (low b ib) q) in
+      omega arith
+    where
+      other : ((s ≡ a) × (t ≡ b)) ⊎ ((s ≡ b) × (t ≡ a)) → ⊥
+      other (inl q) = n q
+      other (inr q) = m q
+
+  before : (p q r s : ℕ) → Reached f p rs → Reached f q rs → Reached f r rs → Reached f s rs → keyAt feed p q < keyAt feed r s
+      → Before (siteAt feed p) p (siteAt feed q) q (siteAt feed r) r (siteAt feed s) s
+  unfolding keyAt
+  before p q r s ip iq ir is h =
+      key-before (siteAt feed p) p (siteAt feed q) q (siteAt feed r) r (siteAt feed s) s
+      (fits feed ok p (low p ip)) (fits feed ok q (low q iq)) (fits feed ok r (low r ir)) (fits feed ok s (low s is)) h
+
+  -- The second run hangs from the first.
+  hanging : (s t s' t' : ℕ) → HasRun s t rs → HasRun s' t' rs → (s ≡ s' → ⊥) → (s ≡ t' → ⊥) → (t ≡ s' → ⊥) → (t ≡ t' → ⊥)
+      → hangs rs t t' ≡ true → Shared (siteAt feed s) (siteAt feed t) (siteAt feed s') (siteAt feed t') → ⊥
+  hanging s t s' t' h h' n1 n2 n3 n4 b m =
+      let is = near-reached s t w h in
+      let it = far-reached f s t h in
+      let is' = near-reached s' t' w h' in
+      let it' = far-reached f s' t' h' in
+      let k2 =
+      strict s' t' t t' h' it it' (λ z. differ (far-hangs w s' t' h') (not-both w s t s' t' h h' n4 b) (sym z))
+      (λ z. n3 (sym (z .0))) (λ z. n4 (sym (z .1))) in
+      let k1 =
+      strict s t s' s h is' is (λ z. differ (sym (run-hangs w s t s' t' h h' n4) ∙ b) (near-stays w s t h) z)
+      (λ z. n1 (z .0)) (λ z. n3 (z .1)) in
+      no-point (siteAt feed t) t (siteAt feed s) s (siteAt feed s') s' (siteAt feed t') t'
+      (before s' t' t t' is' it' it it' k2)
+      (before t s s' s it is is' is (omega (arith, k1, keyed feed ok .swap s t)))
+      (m .point) (box-turn (m .in-first)) (m .in-second)
+
+  -- Neither hangs from the other.
+  beside : (s t s' t' : ℕ) → HasRun s t rs → HasRun s' t' rs → (s ≡ s' → ⊥) → (s ≡ t' → ⊥) → (t ≡ s' → ⊥) → (t ≡ t' → ⊥)
+      → hangs rs t t' ≡ false → hangs rs t' t ≡ false → Shared (siteAt feed s) (siteAt feed t) (siteAt feed s') (siteAt feed t') → ⊥
+  beside s t s' t' h h' n1 n2 n3 n4 b b' m =
+      let is = near-reached s t w h in
+      let it = far-reached f s t h in
+      let is' = near-reached s' t' w h' in
+      let it' = far-reached f s' t' h' in
+      let k2 =
+      strict s' t' s t' h' is it'
+      (λ z. differ (far-hangs w s' t' h') (sym (run-hangs w s' t' s t h' h (λ q. n4 (sym q))) ∙ b') (sym z))
+      (λ z. n1 (sym (z .0))) (λ z. n2 (sym (z .1))) in
+      let k1 =
+      strict s t s' t h is' it (λ z. differ (far-hangs w s t h) (sym (run-hangs w s t s' t' h h' n4) ∙ b) (sym z))
+      (λ z. n1 (z .0)) (λ z. n3 (z .1)) in
+      no-point (siteAt feed s) s (siteAt feed t) t (siteAt feed s') s' (siteAt feed t') t'
+      (before s' t' s t' is' it' is it' k2) (before s t s' t is it is' it k1)
+      (m .point) (m .in-first) (m .in-second)
+
+  separate : (s t s' t' : ℕ) → HasRun s t rs → HasRun s' t' rs → (s ≡ s' → ⊥) → (s ≡ t' → ⊥) → (t ≡ s' → ⊥) → (t ≡ t' → ⊥)
+      → Shared (siteAt feed s) (siteAt feed t) (siteAt feed s') (siteAt feed t') → ⊥
+  separate s t s' t' h h' n1 n2 n3 n4 m = go (decide (hangs rs t t')) (decide (hangs rs t' t))
+    where
+      swapped : Shared (siteAt feed s') (siteAt feed t') (siteAt feed s) (siteAt feed t)
+      swapped = record { point = m .point; in-first = m .in-second; in-second = m .in-first }
+
+      go : (hangs rs t t' ≡ true) ⊎ (hangs rs t t' ≡ false) → (hangs rs t' t ≡ true) ⊎ (hangs rs t' t ≡ false) → ⊥
+      go (inl p) q = hanging s t s' t' h h' n1 n2 n3 n4 p m
+      go (inr p) (inl q) = hanging s' t' s t h' h (λ z. n1 (sym z)) (λ z. n3 (sym z)) (λ z. n2 (sym z)) (λ z. n4 (sym z)) q swapped
+      go (inr p) (inr q) = beside s t s' t' h h' n1 n2 n3 n4 p q m
+
+-- ---- the theorem
+-- A test of boxes that holds is one too many.
+share-no : {t : Bool} → (t ≡ true → ⊥) → t ≡ false
+share-no {t} n = go (decide t)
+  where
+    go : (t ≡ true) ⊎ (t ≡ false) → t ≡ false
+    go (inl e) = absurd (n e)
+    go (inr e) = e
+
+-- Runs without a common pin have four different ends.
+record FourEnds (r s : Run) : Type 0 where
+  near-near : r .near ≡ s .near → ⊥
+  near-far : r .near ≡ s .far → ⊥
+  far-near : r .far ≡ s .near → ⊥
+  far-far : r .far ≡ s .far → ⊥
+
+four-ends : (r s : Run) → common r s ≡ false → FourEnds r s
+unfolding common isEnd
+four-ends r s e =
+    let p = either-false (either (eqb (r .near) (s .near)) (eqb (r .near) (s .far))) (either (eqb (r .far) (s .near)) (eqb (r .far) (s .far))) e in
+    let q = either-false (eqb (r .near) (s .near)) (eqb (r .near) (s .far)) (p .0) in
+    let t = either-false (eqb (r .far) (s .near)) (eqb (r .far) (s .far)) (p .1) in
+    record {
+      near-near = eqb-false (r .near) (s .near) (q .0);
+      near-far = eqb-false (r .near) (s .far) (q .1);
+      far-near = eqb-false (r .far) (s .near) (t .0);
+      far-far = eqb-false (r .far) (s .far) (t .1);
+    }
+
+module _ (feed : List Spot) (full : length feed ≡ 32) (ok : allInside feed ≡ true) where
+  -- THE BOXES OF TWO RUNS WITHOUT A COMMON PIN SHARE NO POINT.
+  pub boxes-apart : (r s : Run) → Among r (runsOf feed) → Among s (runsOf feed) → common r s ≡ false
+      → boxesShare (placeOf (spotAt feed (r .near))) (placeOf (spotAt feed (r .far))) (placeOf (spotAt feed (s .near))) (placeOf (spotAt feed (s .far))) ≡ false
+  boxes-apart r s hr hs c = share-no (λ b. go (pinsOf feed) refl b)
+    where
+      run-of : {q : Run} → Among q (runsOf feed) → HasRun (q .near) (q .far) (reverseAux (runsOf feed) [])
+      run-of h = has-run (in-turned (runsOf feed) (inl h))
+
+      go : (l : List ℕ) → pinsOf feed ≡ l
+          → boxesShare (placeOf (spotAt feed (r .near))) (placeOf (spotAt feed (r .far))) (placeOf (spotAt feed (s .near))) (placeOf (spotAt feed (s .far))) ≡ true → ⊥
+      go [] e b = none-among (no-runs feed e) hr
+      go (f ∷ left) e b =
+          let z = four-ends r s c in
+          separate feed full ok f left e (runs-grown feed full ok f left e) (r .near) (r .far) (s .near) (s .far) (run-of hr) (run-of hs)
+          (z .near-near) (z .near-far) (z .far-near) (z .far-far)
+          (shared-point (placeOf (spotAt feed (r .near))) (placeOf (spotAt feed (r .far))) (placeOf (spotAt feed (s .near))) (placeOf (spotAt feed (s .far)))
+          (stands feed ok (r .near) .held) (stands feed ok (r .far) .held) (stands feed ok (s .near) .held) (stands feed ok (s .far) .held) b)
+
+  clash-none : (r s : Run) → Among r (runsOf feed) → Among s (runsOf feed) → clash feed r s ≡ false
+  unfolding clash
+  clash-none r s hr hs = go (decide (common r s))
+    where
+      go : (common r s ≡ true) ⊎ (common r s ≡ false)
+          → both (fails (common r s)) (boxesShare (placeOf (spotAt feed (r .near))) (placeOf (spotAt feed (r .far))) (placeOf (spotAt feed (s .near))) (placeOf (spotAt feed (s .far)))) ≡ false
+      go (inl c) = both-no _ (fails-of c)
+      go (inr c) = both-yes _ (fails-yes c) ∙ boxes-apart r s hr hs c
+
+  any-none : (r : Run) → Among r (runsOf feed) → (l : List Run) → ((s : Run) → Among s l → Among s (runsOf feed)) → clashAny feed r l ≡ false
+  unfolding clashAny
+  any-none r hr [] h = refl
+  any-none r hr (s ∷ l) h = either-right (clashAny feed r l) (clash-none r s hr (h s (first refl))) ∙ any-none r hr l (λ q m. h q (later m))
+
+  meet-none : (l : List Run) → ((s : Run) → Among s l → Among s (runsOf feed)) → boxesMeet feed l ≡ false
+  unfolding boxesMeet
+  meet-none [] h = refl
+  meet-none (s ∷ l) h =
+      either-right (boxesMeet feed l) (any-none s (h s (first refl)) l (λ q m. h q (later m))) ∙ meet-none l (λ q m. h q (later m))
+
+  -- 18 IS NEVER GIVEN: where there are pins, the answer is their runs.
+  pub never-meet : boxesMeet feed (runsOf feed) ≡ false
+  never-meet = meet-none (runsOf feed) (λ s m. m)
+
+  pub always-runs : (f : ℕ) (left : List ℕ) → pinsOf feed ≡ f ∷ left → treeOf feed ≡ treeWith Accepted (runsOf feed)
+  unfolding treeOf
+  always-runs f left e = choose-no _ _ (ap none e) ∙ choose-no _ _ never-meet

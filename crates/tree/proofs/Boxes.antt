@@ -1,0 +1,162 @@
+-- Two boxes share a point just where the test says so; and what a passed search for 18 says of the runs, by their positions.
+-- From places whose numbers an i32 holds.
+use mathlib.Core.Path.{_≡_, sym, _∙_}
+use mathlib.Core.Bool.{Bool, true, false}
+use mathlib.Core.List.{List, [], _∷_}
+use mathlib.Core.Logic.{_⊎_, inl, inr}
+use Prim.Native.Nat.{ℕ, zero, suc, _<_, _≤_, min, max}
+use native.Mathlib.Omega.{arith}
+use lib.IntN.{ℤ}
+use lib.Signed.{ltZ}
+use lib.ListN.{length, getD}
+use borrow.Author.Tests.{ltb-true, ltb-false}
+use Rattle.refusal.specs.Tests.{both}
+use Rattle.refusal.proofs.Tests.{both-left, both-right, both-of}
+use Rattle.grid.specs.declared.Place.{Place}
+use Rattle.grid.specs.declared.Spot.{Spot}
+use Rattle.grid.proofs.Signed.{off, I32, ltZ-off}
+use Rattle.grid.proofs.Flat.{Site, site, Held}
+use Rattle.tree.specs.declared.Run.{Run}
+use Rattle.tree.specs.Growth.{placeOf, spotAt, run}
+use Rattle.tree.specs.Boxes.{fails, belowBoth, under, overlap, boxesShare, common, clash, clashAny, boxesMeet}
+use Rattle.tree.proofs.Deciding.{decide, both-false, either-false, fails-yes, fails-no, fails-false}
+use Rattle.tree.proofs.FourPins.{InBox}
+
+-- ---- boxes share a point just where the test says so
+-- Both of two numbers are less than both of two others: in ℕ.
+under-yes : (a b c d : ℤ) → I32 a → I32 b → I32 c → I32 d → under a b c d ≡ true → max (off a) (off b) < min (off c) (off d)
+unfolding under belowBoth
+under-yes a b c d ha hb hc hd e =
+    let p = both-left (both (ltZ a c) (ltZ a d)) (both (ltZ b c) (ltZ b d)) e in
+    let q = both-right (both (ltZ a c) (ltZ a d)) (both (ltZ b c) (ltZ b d)) e in
+    let ac = ltb-true (off a) (off c) (sym (ltZ-off a c ha hc) ∙ both-left (ltZ a c) (ltZ a d) p) in
+    let ad = ltb-true (off a) (off d) (sym (ltZ-off a d ha hd) ∙ both-right (ltZ a c) (ltZ a d) p) in
+    let bc = ltb-true (off b) (off c) (sym (ltZ-off b c hb hc) ∙ both-left (ltZ b c) (ltZ b d) q) in
+    let bd = ltb-true (off b) (off d) (sym (ltZ-off b d hb hd) ∙ both-right (ltZ b c) (ltZ b d) q) in
+    omega arith
+
+not-less : (a b : ℤ) → I32 a → I32 b → ltZ a b ≡ false → off b ≤ off a
+not-less a b ha hb e = ltb-false (off a) (off b) (sym (ltZ-off a b ha hb) ∙ e)
+
+under-no : (a b c d : ℤ) → I32 a → I32 b → I32 c → I32 d → under a b c d ≡ false → min (off c) (off d) ≤ max (off a) (off b)
+unfolding under belowBoth
+under-no a b c d ha hb hc hd e = go (both-false (both (ltZ a c) (ltZ a d)) (both (ltZ b c) (ltZ b d)) e)
+  where
+    a-not : (ltZ a c ≡ false) ⊎ (ltZ a d ≡ false) → min (off c) (off d) ≤ max (off a) (off b)
+    a-not (inl f) = omega (arith, not-less a c ha hc f)
+    a-not (inr f) = omega (arith, not-less a d ha hd f)
+
+    b-not : (ltZ b c ≡ false) ⊎ (ltZ b d ≡ false) → min (off c) (off d) ≤ max (off a) (off b)
+    b-not (inl f) = omega (arith, not-less b c hb hc f)
+    b-not (inr f) = omega (arith, not-less b d hb hd f)
+
+    go : (both (ltZ a c) (ltZ a d) ≡ false) ⊎ (both (ltZ b c) (ltZ b d) ≡ false) → min (off c) (off d) ≤ max (off a) (off b)
+    go (inl f) = a-not (both-false (ltZ a c) (ltZ a d) f)
+    go (inr f) = b-not (both-false (ltZ b c) (ltZ b d) f)
+
+-- A number in both stretches.
+record Common (a b c d n : ℕ) : Type 0 where
+  low : min a b ≤ n
+  high : n ≤ max a b
+  low' : min c d ≤ n
+  high' : n ≤ max c d
+
+-- The larger of two is at most what both are.
+most : (x y z : ℕ) → x ≤ z → y ≤ z → max x y ≤ z
+most x y z u v = omega arith
+
+least-most : (a b : ℕ) → min a b ≤ max a b
+least-most a b = omega arith
+
+larger-low : (a b c d : ℕ) → min c d ≤ max a b → min a b ≤ max c d → Common a b c d (max (min a b) (min c d))
+larger-low a b c d h k =
+    record {
+      low = omega arith;
+      high = most (min a b) (min c d) (max a b) (least-most a b) h;
+      low' = omega arith;
+      high' = most (min a b) (min c d) (max c d) k (least-most c d);
+    }
+
+module _ (a b c d : ℤ) (ha : I32 a) (hb : I32 b) (hc : I32 c) (hd : I32 d) where
+  overlap-yes : overlap a b c d ≡ true → Common (off a) (off b) (off c) (off d) (max (min (off a) (off b)) (min (off c) (off d)))
+  unfolding overlap
+  overlap-yes e =
+      larger-low (off a) (off b) (off c) (off d)
+      (under-no a b c d ha hb hc hd (fails-no (under a b c d) (both-left (fails (under a b c d)) (fails (under c d a b)) e)))
+      (under-no c d a b hc hd ha hb (fails-no (under c d a b) (both-right (fails (under a b c d)) (fails (under c d a b)) e)))
+
+  overlap-no : (n : ℕ) → Common (off a) (off b) (off c) (off d) n → overlap a b c d ≡ false → ⊥
+  unfolding overlap
+  overlap-no n h e = go (both-false (fails (under a b c d)) (fails (under c d a b)) e)
+    where
+      apart : (l m r s : ℕ) → l < r → r ≤ n → n ≤ l → ⊥
+      apart l m r s p q t = omega arith
+
+      go : (fails (under a b c d) ≡ false) ⊎ (fails (under c d a b) ≡ false) → ⊥
+      go (inl f) =
+          apart (max (off a) (off b)) 0 (min (off c) (off d)) 0 (under-yes a b c d ha hb hc hd (fails-false (under a b c d) f)) (h .low') (h .high)
+      go (inr f) =
+          apart (max (off c) (off d)) 0 (min (off a) (off b)) 0 (under-yes c d a b hc hd ha hb (fails-false (under c d a b) f)) (h .low) (h .high')
+
+-- A point in both boxes.
+pub record Shared (a b c d : Site) : Type 0 where
+  pub point : Site
+  pub in-first : InBox a b point
+  pub in-second : InBox c d point
+
+module _ (a b c d : Place) (ha : Held a) (hb : Held b) (hc : Held c) (hd : Held d) where
+  -- THE TEST FINDS A POINT in both boxes,
+  pub shared-point : boxesShare a b c d ≡ true → Shared (site a) (site b) (site c) (site d)
+  unfolding boxesShare
+  shared-point e =
+      let x = overlap-yes (a .x) (b .x) (c .x) (d .x) (ha .x) (hb .x) (hc .x) (hd .x) (both-left _ (overlap (a .y) (b .y) (c .y) (d .y)) e) in
+      let y = overlap-yes (a .y) (b .y) (c .y) (d .y) (ha .y) (hb .y) (hc .y) (hd .y) (both-right (overlap (a .x) (b .x) (c .x) (d .x)) _ e) in
+      record {
+        point =
+            record {
+              x = max (min (off (a .x)) (off (b .x))) (min (off (c .x)) (off (d .x)));
+              y = max (min (off (a .y)) (off (b .y))) (min (off (c .y)) (off (d .y)));
+            };
+        in-first = record { left = x .low; right = x .high; bottom = y .low; top = y .high };
+        in-second = record { left = x .low'; right = x .high'; bottom = y .low'; top = y .high' };
+      }
+
+  -- and where there is one it says so.
+  pub point-shared : Shared (site a) (site b) (site c) (site d) → boxesShare a b c d ≡ true
+  unfolding boxesShare
+  point-shared s = both-of (yes' (decide (overlap (a .x) (b .x) (c .x) (d .x))) across) (yes' (decide (overlap (a .y) (b .y) (c .y) (d .y))) upward)
+    where
+      yes' : {t : Bool} → (t ≡ true) ⊎ (t ≡ false) → (t ≡ false → ⊥) → t ≡ true
+      yes' (inl e) n = e
+      yes' (inr e) n = absurd (n e)
+
+      across : overlap (a .x) (b .x) (c .x) (d .x) ≡ false → ⊥
+      across =
+          overlap-no (a .x) (b .x) (c .x) (d .x) (ha .x) (hb .x) (hc .x) (hd .x) (s .point .x)
+          (record { low = s .in-first .left; high = s .in-first .right; low' = s .in-second .left; high' = s .in-second .right })
+
+      upward : overlap (a .y) (b .y) (c .y) (d .y) ≡ false → ⊥
+      upward =
+          overlap-no (a .y) (b .y) (c .y) (d .y) (ha .y) (hb .y) (hc .y) (hd .y) (s .point .y)
+          (record { low = s .in-first .bottom; high = s .in-first .top; low' = s .in-second .bottom; high' = s .in-second .top })
+
+-- ---- what an accepted tree says of its boxes
+pub clash-apart : (feed : List Spot) (r s : Run) → clash feed r s ≡ false → common r s ≡ false
+    → boxesShare (placeOf (spotAt feed (r .near))) (placeOf (spotAt feed (r .far))) (placeOf (spotAt feed (s .near))) (placeOf (spotAt feed (s .far))) ≡ false
+unfolding clash both
+clash-apart feed r s e f = rw (fails-yes f) at e
+
+any-clear : (feed : List Spot) (r : Run) (l : List Run) → clashAny feed r l ≡ false → (j : ℕ) → j < length l → clash feed r (getD l j (run 0 0)) ≡ false
+unfolding clashAny
+any-clear feed r [] e j h = absurd (omega arith)
+any-clear feed r (s ∷ l) e zero h = either-false (clash feed r s) (clashAny feed r l) e .0
+any-clear feed r (s ∷ l) e (suc j) h = any-clear feed r l (either-false (clash feed r s) (clashAny feed r l) e .1) j (omega arith)
+
+-- NO TWO RUNS CLASH where the boxes do not meet, by their positions.
+pub no-clash : (feed : List Spot) (l : List Run) → boxesMeet feed l ≡ false → (i j : ℕ) → i < j → j < length l
+    → clash feed (getD l i (run 0 0)) (getD l j (run 0 0)) ≡ false
+unfolding boxesMeet
+no-clash feed [] e i j h k = absurd (omega arith)
+no-clash feed (r ∷ l) e i zero h k = absurd (omega arith)
+no-clash feed (r ∷ l) e zero (suc j) h k = any-clear feed r l (either-false (clashAny feed r l) (boxesMeet feed l) e .0) j (omega arith)
+no-clash feed (r ∷ l) e (suc i) (suc j) h k = no-clash feed l (either-false (clashAny feed r l) (boxesMeet feed l) e .1) i j (omega arith) (omega arith)
