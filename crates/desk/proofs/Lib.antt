@@ -1,0 +1,7 @@
+-- The laws of the desk that other crates cite.
+pub mod Sound
+pub mod Answers
+mod Jobs
+mod Tests
+mod Steps
+mod Writing
