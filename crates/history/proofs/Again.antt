@@ -1,0 +1,130 @@
+-- Undo and redo answer each other: after an accepted undo redo is accepted and gives the very desk before, and the other way round.
+-- From the parts of `sound` and the laws of edits; assumes nothing.
+use mathlib.Core.Path.{_≡_, ap, _∙_}
+use mathlib.Core.Bool.{true, false, not}
+use mathlib.Core.List.{List}
+use Prim.Native.Nat.{ℕ, _+_, _-_, _<_, _≤_}
+use native.Mathlib.Omega.{arith}
+use borrow.Author.Tests.{not-false, ne-eqb, lt-leb}
+use lib.ListN.{length, getD, set}
+use lib.Seq.{getD-set-same, set-set, set-getD}
+use Rattle.refusal.specs.Tests.{choose}
+use Rattle.refusal.specs.Refusals.{accepted, turn}
+use Rattle.refusal.specs.declared.Verdict.the-variants.{Accepted}
+use Rattle.refusal.proofs.Tests.{choose-yes}
+use Rattle.drawing.specs.declared.Pin.{Pin}
+use Rattle.drawing.specs.declared.Edit.{Edit}
+use Rattle.drawing.specs.Edits.{made, unmade, makeable, takeable}
+use Rattle.drawing.proofs.Making.{made-unmade, unmade-made}
+use Rattle.journal.specs.Journal.{seats, noEdit}
+use Rattle.journal.proofs.Turns.{turn-first}
+use Rattle.desk.specs.declared.Seat.{Seat}
+use Rattle.desk.specs.declared.Desk.{Desk}
+use Rattle.desk.specs.Calls.{Call, undoing, redoing}
+use Rattle.desk.specs.Refusals.{Look, turnedUndoing, turnedRedoing, verdictOf}
+use Rattle.desk.specs.Desk.{noSeat, seatOf, editsOf, withSeat, withPins, sound, lookAt, effect, answerOf, step}
+use Rattle.desk.proofs.Sound.{eight-seats, standing-within, standing-takeable, taken-back-replayable, latest-first, next-first}
+use Rattle.history.proofs.Passed.{undoes, redoes}
+use Rattle.history.proofs.Sounding.{sound-step}
+
+-- Undo and redo are accepted where no row applies.
+undo-accepted : (l : Look) → l .broken ≡ false → l .seat < seats → l .«open» ≡ true → (l .standing ≡ 0 → ⊥) → turnedUndoing l ≡ Accepted
+unfolding turnedUndoing turn choose
+undo-accepted l a b c n = rw (a, lt-leb seats (l .seat) b, c, ne-eqb _ _ n)
+
+redo-accepted : (l : Look) → l .broken ≡ false → l .seat < seats → l .«open» ≡ true → (l .takenBack ≡ 0 → ⊥) → turnedRedoing l ≡ Accepted
+unfolding turnedRedoing turn choose
+redo-accepted l a b c n = rw (a, lt-leb seats (l .seat) b, c, ne-eqb _ _ n)
+
+-- A step that is accepted.
+step-is : (d : Desk) (c : Call) → answerOf d c ≡ Accepted → step d c ≡ record { desk = effect d c; verdict = Accepted }
+unfolding step accepted choose
+step-is d c e = rw e
+
+desk-is : (d : Desk) (c : Call) → accepted (step d c .verdict) ≡ true → step d c .desk ≡ effect d c
+unfolding step
+desk-is d c z = choose-yes _ _ z
+
+-- A seat changed and changed back.
+seat-back : (q : Seat) (l : List Pin) (n : ℕ) → l ≡ q .pins → n ≡ q .standing → withPins q l n ≡ q
+seat-back q l n e f = λ i. record { «open» = q .«open»; job = q .job; pins = e i; standing = f i }
+
+desk-back : (d : Desk) (s : ℕ) (r q : Seat) → q ≡ seatOf d s → withSeat (withSeat d s r) s q ≡ d
+desk-back d s r q e =
+    let p : set (set (d .seats) s r) s q ≡ d .seats = rw (set-set, e, set-getD) in
+    λ i. record { seats = p i; journal = d .journal; used = d .used }
+
+module _ (d : Desk) (s : ℕ) (h : sound d ≡ true) (k : s < seats) (o : seatOf d s .«open» ≡ true) where
+  abbrev latest : Edit
+  latest = getD (editsOf d s) (seatOf d s .standing - 1) noEdit
+
+  abbrev nextOne : Edit
+  nextOne = getD (editsOf d s) (seatOf d s .standing) noEdit
+
+  latest-takeable : (seatOf d s .standing ≡ 0 → ⊥) → takeable (seatOf d s .pins) latest ≡ true
+  latest-takeable n = turn-first takeable unmade (seatOf d s .pins) _ _ (rw (latest-first d h s k o n) at (standing-takeable d h s k o))
+
+  next-makeable : seatOf d s .standing < length (editsOf d s) → makeable (seatOf d s .pins) nextOne ≡ true
+  next-makeable b = turn-first makeable made (seatOf d s .pins) _ _ (rw (next-first d h s k o b) at (taken-back-replayable d h s k o))
+
+  low : s < length (d .seats)
+  low = omega (arith, eight-seats d h)
+
+  module _ (r : Seat) (g : sound (withSeat d s r) ≡ true) where
+    here : seatOf (withSeat d s r) s ≡ r
+    here = getD-set-same (d .seats) s r noSeat low
+
+    redo-here : r .«open» ≡ true → (length (editsOf d s) - r .standing ≡ 0 → ⊥)
+        → withPins r (made (r .pins) (getD (editsOf d s) (r .standing) noEdit)) (r .standing + 1) ≡ seatOf d s
+        → step (withSeat d s r) (redoing s) ≡ record { desk = d; verdict = Accepted }
+    unfolding answerOf verdictOf effect
+    redo-here p n e =
+        step-is (withSeat d s r) (redoing s)
+        (redo-accepted (lookAt (withSeat d s r) s) (ap not g) k (rw here p) (rw here n))
+        ∙ ap (λ (x : Desk). record { desk = x; verdict = Accepted }) (rw here (desk-back d s r _ e))
+
+    undo-here : r .«open» ≡ true → (r .standing ≡ 0 → ⊥)
+        → withPins r (unmade (r .pins) (getD (editsOf d s) (r .standing - 1) noEdit)) (r .standing - 1) ≡ seatOf d s
+        → step (withSeat d s r) (undoing s) ≡ record { desk = d; verdict = Accepted }
+    unfolding answerOf verdictOf effect
+    undo-here p n e =
+        step-is (withSeat d s r) (undoing s)
+        (undo-accepted (lookAt (withSeat d s r) s) (ap not g) k (rw here p) (rw here n))
+        ∙ ap (λ (x : Desk). record { desk = x; verdict = Accepted }) (rw here (desk-back d s r _ e))
+
+  redo-undone : (seatOf d s .standing ≡ 0 → ⊥) → sound (effect d (undoing s)) ≡ true
+      → step (effect d (undoing s)) (redoing s) ≡ record { desk = d; verdict = Accepted }
+  unfolding effect
+  redo-undone n g =
+      let w : seatOf d s .standing ≤ length (editsOf d s) = standing-within d h s k o in
+      redo-here (withPins (seatOf d s) (unmade (seatOf d s .pins) latest) (seatOf d s .standing - 1)) g o (λ e. omega arith)
+      (seat-back (seatOf d s) _ _ (made-unmade (seatOf d s .pins) latest (latest-takeable n)) (omega arith))
+
+  undo-redone : seatOf d s .standing < length (editsOf d s) → sound (effect d (redoing s)) ≡ true
+      → step (effect d (redoing s)) (undoing s) ≡ record { desk = d; verdict = Accepted }
+  unfolding effect
+  undo-redone b g =
+      let w : seatOf d s .standing + 1 - 1 ≡ seatOf d s .standing = omega arith in
+      undo-here (withPins (seatOf d s) (made (seatOf d s .pins) nextOne) (seatOf d s .standing + 1)) g o (λ e. omega arith)
+      (seat-back (seatOf d s) _ _ (rw w (unmade-made (seatOf d s .pins) nextOne (next-makeable b))) w)
+
+-- After an accepted undo, redo is accepted and gives the very desk before: the same drawing, the same journal.
+pub redo-after-undo : (d : Desk) (s : ℕ) → accepted (step d (undoing s) .verdict) ≡ true
+    → step (step d (undoing s) .desk) (redoing s) ≡ record { desk = d; verdict = Accepted }
+unfolding step answerOf verdictOf
+redo-after-undo d s z =
+    let m = undoes (lookAt d s) z in
+    let h : sound d ≡ true = not-false _ (m .0 .unbroken) in
+    let e : step d (undoing s) .desk ≡ effect d (undoing s) = desk-is d (undoing s) z in
+    rw e (redo-undone d s h (m .0 .low) (m .0 .shown) (m .1) (rw e at (sound-step d h (undoing s))))
+
+-- After an accepted redo, undo is accepted and gives the very desk before.
+pub undo-after-redo : (d : Desk) (s : ℕ) → accepted (step d (redoing s) .verdict) ≡ true
+    → step (step d (redoing s) .desk) (undoing s) ≡ record { desk = d; verdict = Accepted }
+unfolding step answerOf verdictOf
+undo-after-redo d s z =
+    let m = redoes (lookAt d s) z in
+    let h : sound d ≡ true = not-false _ (m .0 .unbroken) in
+    let n : length (editsOf d s) - seatOf d s .standing ≡ 0 → ⊥ = m .1 in
+    let e : step d (redoing s) .desk ≡ effect d (redoing s) = desk-is d (redoing s) z in
+    rw e (undo-redone d s h (m .0 .low) (m .0 .shown) (omega arith) (rw e at (sound-step d h (redoing s))))

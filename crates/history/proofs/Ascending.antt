@@ -1,0 +1,95 @@
+-- Rows of refusals that stand in ascending rank: each refusal exactly, also where two have one number and carry different records.
+-- From the definition of rows; assumes nothing.
+use mathlib.Core.Path.{_≡_, refl, ap, sym}
+use mathlib.Core.Bool.{Bool, true, false}
+use mathlib.Core.List.{List, [], _∷_}
+use Prim.Native.Nat.{ℕ, zero, suc, _+_, _*_, _<_, _≤_}
+use native.Mathlib.Omega.{arith}
+use lib.Dec.{eqb}
+use lib.ListN.{length}
+use Rattle.refusal.specs.Tests.{choose}
+use Rattle.refusal.specs.Refusals.{toldOf, turn}
+use Rattle.refusal.specs.declared.Verdict.{Verdict}
+use Rattle.refusal.specs.declared.Verdict.the-variants.{Accepted}
+use Rattle.refusal.specs.declared.Carried.{Carried}
+use Rattle.refusal.specs.declared.Carried.the-variants.{Nothing, Record}
+use Rattle.refusal.proofs.Rows.{Row, firstOf, Given, NoneHolds, refusalAt, Exactly, given-is, none-is}
+
+abbrev carriedIn : Carried → ℕ
+carriedIn Nothing = 0
+carriedIn (Record r) = 4 * r
+
+-- The rank of a refusal: accepted first, then 28, then by record and number.
+unfoldable pub rank : Verdict → ℕ
+rank v = choose (eqb (toldOf v .number) 28) 1 (2 * toldOf v .number) + carriedIn (toldOf v .carried)
+
+-- The rows stand in ascending rank, all above n.
+unfoldable pub Ascending : ℕ → List Row → Type 0
+Ascending n [] = Unit {0}
+Ascending n (r ∷ rows) = (n < rank (r .refusal)) × Ascending (rank (r .refusal)) rows
+
+later-ranks : (n m : ℕ) (rows : List Row) → n ≤ m → Ascending m rows → Ascending n rows
+unfolding Ascending
+later-ranks n m [] h a = tt
+later-ranks n m (r ∷ rows) h a = (omega (arith, a .0), a .1)
+
+-- A verdict whose rank is not above n is none of the rows' refusals,
+below-at : (n : ℕ) (rows : List Row) (i : ℕ) → Ascending n rows → i < length rows → n < rank (refusalAt rows i)
+unfolding Ascending refusalAt
+below-at n [] i a h = absurd (omega arith)
+below-at n (r ∷ rows) zero a h = a .0
+below-at n (r ∷ rows) (suc i) a h = omega (arith, a .0, below-at (rank (r .refusal)) rows i (a .1) (omega arith))
+
+-- nor the answer, unless it is accepted.
+below-first : (v : Verdict) (rows : List Row) → 0 < rank v → rank Accepted ≡ 0 → Ascending (rank v) rows → v ≡ firstOf rows Accepted → ⊥
+unfolding Ascending firstOf turn choose
+below-first v [] z y a e = omega (arith, ap rank e)
+below-first v (r ∷ rows) z y a e =
+    by (r .condition) e (below-first v rows z y (later-ranks (rank v) (rank (r .refusal)) rows (omega (arith, a .0)) (a .1)))
+  where
+    by : (b : Bool) → v ≡ choose b (r .refusal) (firstOf rows Accepted) → (v ≡ firstOf rows Accepted → ⊥) → ⊥
+    by true f k = omega (arith, a .0, ap rank f)
+    by false f k = k f
+
+-- The two ways of one row, by its condition.
+to-first : (b : Bool) (v next : Verdict) → (v ≡ next → ⊥) → choose b v next ≡ v → b ≡ true
+unfolding choose
+to-first true v next n e = refl
+to-first false v next n e = absurd (n (sym e))
+
+to-later : (b : Bool) (v next w : Verdict) → (v ≡ w → ⊥) → choose b v next ≡ w → (b ≡ false) × (next ≡ w)
+unfolding choose
+to-later true v next w n e = absurd (n e)
+to-later false v next w n e = (refl, e)
+
+accepted-rank : rank Accepted ≡ 0
+unfolding rank choose
+accepted-rank = refl
+
+only-given : (rows : List Row) (n : ℕ) → Ascending n rows → (i : ℕ) → i < length rows → firstOf rows Accepted ≡ refusalAt rows i → Given rows i
+unfolding firstOf refusalAt Given turn Ascending
+only-given [] n a i h e = absurd (omega arith)
+only-given (r ∷ rows) n a zero h e =
+    to-first (r .condition) (r .refusal) (firstOf rows Accepted)
+    (below-first (r .refusal) rows (omega (arith, a .0)) accepted-rank (a .1)) e
+only-given (r ∷ rows) n a (suc i) h e =
+    let b : rank (r .refusal) < rank (refusalAt rows i) = below-at (rank (r .refusal)) rows i (a .1) (omega arith) in
+    let l = to-later (r .condition) (r .refusal) (firstOf rows Accepted) (refusalAt rows i)
+    (λ (f : r .refusal ≡ refusalAt rows i). omega (arith, ap rank f)) e in
+    (l .0, only-given rows (rank (r .refusal)) (a .1) i (omega arith) (l .1))
+
+only-none : (rows : List Row) (n : ℕ) → Ascending n rows → firstOf rows Accepted ≡ Accepted → NoneHolds rows
+unfolding firstOf NoneHolds turn Ascending
+only-none [] n a e = tt
+only-none (r ∷ rows) n a e =
+    let l = to-later (r .condition) (r .refusal) (firstOf rows Accepted) Accepted
+    (λ (f : r .refusal ≡ Accepted). omega (arith, ap rank f, accepted-rank, a .0)) e in
+    (l .0, only-none rows (rank (r .refusal)) (a .1) (l .1))
+
+-- Each refusal of ascending rows is given exactly where its condition holds and none before it does; accepted exactly where none holds.
+pub exactly-ascending : (rows : List Row) → Ascending 0 rows → Exactly rows Accepted (firstOf rows Accepted)
+exactly-ascending rows a =
+    record {
+      refused = λ i h. (only-given rows 0 a i h, given-is rows Accepted i);
+      passes = (only-none rows 0 a, none-is rows Accepted);
+    }

@@ -1,0 +1,84 @@
+-- DEMAND 3: after any calls from the empty desk the desk is sound and is what the history of the calls tells, seat by seat; and every call is
+-- answered as the history answers it. From Sane, Simulation and Steps; assumes nothing.
+use mathlib.Core.Path.{_≡_, refl}
+use mathlib.Core.Bool.{true}
+use mathlib.Core.List.{List, [], _∷_}
+use Prim.Native.Nat.{ℕ, _<_}
+use native.Mathlib.Omega.{arith}
+use lib.ListN.{length-replicate, getD-replicate}
+use Rattle.journal.specs.Journal.{seats, records, blank, own, seated}
+use Rattle.desk.specs.declared.Desk.{Desk}
+use Rattle.desk.specs.Calls.{Call}
+use Rattle.desk.specs.Desk.{closedSeat, noSeat, seatOf, editsOf, standingOf, takenBackOf, sound, step, emptyDesk}
+use Rattle.history.specs.History.{Told, shut, isOpen, jobIn, pinsIn, standingIn, takenBackIn, sum, toldOf, usedIn, tell, nothing, history, after, answers, answersIn}
+use Rattle.history.proofs.Sane.{Sane, sane-tell, sane-nothing, sane-history}
+use Rattle.history.proofs.Simulation.{At, Agrees, used-same, shown-open, shown-job, shown-pins, shown-standing, shown-takenBack}
+use Rattle.history.proofs.Steps.{agrees-sound, step-answer, step-agrees}
+
+-- The empty desk agrees with no history.
+agrees-empty : Agrees emptyDesk nothing
+unfolding emptyDesk own seated sum At
+agrees-empty =
+    record {
+      whole = length-replicate records blank;
+      room = omega arith;
+      holds =
+          record {
+            eight = length-replicate seats closedSeat;
+            named = refl;
+            told = length-replicate seats shut;
+            sized = refl;
+            at = λ s k. rw (getD-replicate seats s closedSeat noSeat k, getD-replicate seats s shut shut k) (refl, refl);
+          };
+    }
+
+pub agrees-after : (calls : List Call) (d : Desk) (h : List Told) → Agrees d h → Sane h → Agrees (after d calls) (history h calls)
+unfolding after history
+agrees-after [] d h g f = g
+agrees-after (c ∷ calls) d h g f = agrees-after calls (step d c .desk) (tell h c) (step-agrees d h g f c) (sane-tell h f c)
+
+pub answers-after : (calls : List Call) (d : Desk) (h : List Told) → Agrees d h → Sane h → answers d calls ≡ answersIn h calls
+unfolding answers answersIn
+answers-after [] d h g f = refl
+answers-after (c ∷ calls) d h g f =
+    rw (step-answer d h g f c, answers-after calls (step d c .desk) (tell h c) (step-agrees d h g f c) (sane-tell h f c))
+
+-- A seat is as told: open exactly when told open, then with the job and the pins told; its standing and taken-back edits are those told.
+pub record AsTold (d : Desk) (s : ℕ) (t : Told) : Type 0 where
+  pub «open» : seatOf d s .«open» ≡ isOpen t
+  pub job : isOpen t ≡ true → seatOf d s .job ≡ jobIn t
+  pub pins : isOpen t ≡ true → seatOf d s .pins ≡ pinsIn t
+  pub standing : standingOf d s ≡ standingIn t
+  pub takenBack : takenBackOf d s ≡ takenBackIn t
+
+-- A desk is as a history tells: sound, every seat as told, the used count the sum over the seats of standing and taken-back edits.
+pub record DeskAsTold (d : Desk) (h : List Told) : Type 0 where
+  pub unbroken : sound d ≡ true
+  pub used : d .used ≡ usedIn h
+  pub seat : (s : ℕ) → s < seats → AsTold d s (toldOf h s)
+
+pub seats-as-told : (d : Desk) (h : List Told) → Agrees d h → Sane h → DeskAsTold d h
+seats-as-told d h g f =
+    record {
+      unbroken = agrees-sound d h g f;
+      used = used-same d h g;
+      seat = λ s k.
+          let a : At (seatOf d s) (editsOf d s) (toldOf h s) = g .holds .at s k in
+          record {
+            «open» = shown-open _ _ _ a;
+            job = shown-job _ _ _ a;
+            pins = shown-pins _ _ _ a;
+            standing = shown-standing _ _ _ a;
+            takenBack = shown-takenBack _ _ _ a;
+          };
+    }
+
+-- After any calls from the empty desk, the desk is sound and as the history of the calls tells.
+pub desk-as-told : (calls : List Call) → DeskAsTold (after emptyDesk calls) (history nothing calls)
+desk-as-told calls =
+    seats-as-told (after emptyDesk calls) (history nothing calls) (agrees-after calls emptyDesk nothing agrees-empty sane-nothing)
+    (sane-history calls nothing sane-nothing)
+
+-- Every one of any calls from the empty desk is answered as the history answers it.
+pub answers-as-told : (calls : List Call) → answers emptyDesk calls ≡ answersIn nothing calls
+answers-as-told calls = answers-after calls emptyDesk nothing agrees-empty sane-nothing

@@ -1,0 +1,52 @@
+-- The jobs of the seats: no job is repeated after a seat was closed, or opened for a job that is open nowhere. Assumes nothing.
+use mathlib.Core.Path.{_≡_, refl, ap, sym, _∙_}
+use mathlib.Core.Bool.{Bool, true, false, not}
+use mathlib.Core.List.{List, [], _∷_}
+use Prim.Native.Nat.{ℕ, zero, suc}
+use borrow.Author.Tests.{not-true, eqb-true, eqb-false, ne-eqb}
+use lib.Dec.{eqb}
+use lib.ListN.{set}
+use Rattle.refusal.specs.Tests.{both, either}
+use Rattle.refusal.proofs.Tests.{both-left, both-right, both-of}
+use Rattle.desk.specs.Refusals.{sameJob, jobAmong}
+use Rattle.desk.specs.Desk.{jobsApart}
+use Rattle.history.proofs.Passed.{neither-left, neither-right}
+
+both-false : (b : Bool) → both b false ≡ false
+unfolding both
+both-false true = refl
+both-false false = refl
+
+turned-by : (i j : ℕ) (b : Bool) → eqb i j ≡ b → sameJob i j ≡ sameJob j i
+unfolding sameJob
+turned-by i j true h = rw (eqb-true i j h)
+turned-by i j false h = rw (h, ne-eqb j i (λ (e : j ≡ i). eqb-false i j h (sym e))) (both-false _ ∙ sym (both-false _))
+
+-- Being open for one job goes both ways.
+same-turned : (i j : ℕ) → sameJob i j ≡ sameJob j i
+same-turned i j = turned-by i j (eqb i j) refl
+
+neither-of : {a b : Bool} → a ≡ false → b ≡ false → either a b ≡ false
+unfolding either
+neither-of p q = rw (p, q)
+
+-- A closed seat shares its job with none.
+pub none-among : (l : List ℕ) → jobAmong 0 l ≡ false
+unfolding jobAmong sameJob both either
+none-among [] = refl
+none-among (i ∷ l) = none-among l
+
+among-set : (j k : ℕ) (l : List ℕ) (s : ℕ) → jobAmong j l ≡ false → sameJob j k ≡ false → jobAmong j (set l s k) ≡ false
+unfolding jobAmong
+among-set j k [] s h e = h
+among-set j k (i ∷ l) zero h e = neither-of e (neither-right (sameJob j i) _ h)
+among-set j k (i ∷ l) (suc s) h e = neither-of (neither-left _ _ h) (among-set j k l s (neither-right (sameJob j i) _ h) e)
+
+-- One seat has another job, open nowhere: still no job is repeated.
+pub apart-set : (k : ℕ) (l : List ℕ) (s : ℕ) → jobsApart l ≡ true → jobAmong k l ≡ false → jobsApart (set l s k) ≡ true
+unfolding jobsApart jobAmong
+apart-set k [] s h e = refl
+apart-set k (i ∷ l) zero h e = both-of (ap not (neither-right (sameJob k i) _ e)) (both-right _ _ h)
+apart-set k (i ∷ l) (suc s) h e =
+    both-of (ap not (among-set i k l s (not-true _ (both-left _ _ h)) (same-turned i k ∙ neither-left _ _ e)))
+    (apart-set k l s (both-right _ _ h) (neither-right (sameJob k i) _ e))

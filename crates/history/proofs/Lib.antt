@@ -1,0 +1,15 @@
+-- The theorems about any calls from an empty desk.
+mod Passed
+mod Jobs
+mod Stood
+mod Sane
+mod Simulation
+mod Steps
+pub mod Demand
+pub mod Untouched
+pub mod Sounding
+pub mod Again
+pub mod Ascending
+pub mod MapRows
+pub mod Refused
+pub mod Maps

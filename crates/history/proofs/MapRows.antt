@@ -1,0 +1,102 @@
+-- The rows of a pin map: 13, then record by record 14 before 15; reading a map is answered by the first that applies. From `readMap`; assumes nothing.
+use mathlib.Core.Path.{_≡_, refl, ap}
+use mathlib.Core.Bool.{Bool, true, false}
+use mathlib.Core.List.{List, [], _∷_}
+use Prim.Native.Nat.{ℕ, zero, suc, _+_, _*_, _/_, _<_}
+use native.Mathlib.Omega.{arith}
+use lib.ListN.{length, take, drop}
+use Rattle.refusal.specs.Tests.{either, choose}
+use Rattle.refusal.specs.Refusals.{accepted, turn}
+use Rattle.refusal.specs.declared.Verdict.{Verdict}
+use Rattle.refusal.specs.declared.Verdict.the-variants.{Accepted, MapLength, OtherJob, FaultyRecord}
+use Rattle.refusal.proofs.Rows.{Row, firstOf}
+use Rattle.drawing.specs.declared.Pin.{Pin}
+use Rattle.pinmap.specs.declared.Record.{Record}
+use Rattle.pinmap.specs.declared.Reading.{Reading}
+use Rattle.pinmap.specs.Record.{recordSize, recordOf, otherJob, pinAbove, notBlank, outside, notAbove, placeTaken, judged}
+use Rattle.pinmap.specs.Map.{noPins, refusedBy, withRecord, readFrom, wrongLength, readMap}
+use Rattle.history.proofs.Ascending.{rank, Ascending}
+
+-- One row: a refusal and its condition.
+abbrev pub given : Bool → Verdict → Row
+given b v = record { condition = b; refusal = v }
+
+-- A record's pin is above 31 or not above the one before, byte 3 is not zero, a place is outside, or a place is that of an earlier record.
+abbrev pub faulty : ℕ → List Pin → Record → Bool
+faulty next earlier r =
+    either (pinAbove r) (either (notBlank r) (either (outside r) (either (notAbove next r) (placeTaken earlier r))))
+
+-- Record by record, 14 before 15: so many are left, this is the number of the first of them, `next` comes after the pin before, and these are the
+-- pins of the records before it.
+unfoldable pub recordRows : ℕ → List ℕ → ℕ → ℕ → ℕ → List Pin → List Row
+recordRows zero map job number next earlier = []
+recordRows (suc left) map job number next earlier =
+    given (otherJob job (recordOf (take recordSize map))) (OtherJob number)
+    ∷ given (faulty next earlier (recordOf (take recordSize map))) (FaultyRecord number)
+    ∷ recordRows left (drop recordSize map) job (number + 1) (recordOf (take recordSize map) .pin + 1)
+    (withRecord earlier (recordOf (take recordSize map)))
+
+-- 13, then the first faulty record, 14 before 15.
+abbrev pub mapRows : List ℕ → ℕ → List Row
+mapRows map job = given (wrongLength map) MapLength ∷ recordRows (length map / recordSize) map job 0 0 noPins
+
+-- Rows with one refusal are one row.
+one-row : (a b : Bool) (v w : Verdict) → turn a v (turn b v w) ≡ turn (either a b) v w
+unfolding turn choose either
+one-row true b v w = refl
+one-row false b v w = refl
+
+-- A record that is judged, and what is said of the later ones where it has no fault.
+judged-then : (a b : Bool) (v w : Verdict) (x : Reading) → accepted v ≡ false → accepted w ≡ false
+    → choose (accepted (turn a v (turn b w Accepted))) x (refusedBy (turn a v (turn b w Accepted))) .verdict ≡ turn a v (turn b w (x .verdict))
+unfolding turn choose accepted
+judged-then true b v w x p q = rw p
+judged-then false true v w x p q = rw q
+judged-then false false v w x p q = refl
+
+judged-is : (job number next : ℕ) (earlier : List Pin) (r : Record)
+    → judged job number next earlier r ≡ turn (otherJob job r) (OtherJob number) (turn (faulty next earlier r) (FaultyRecord number) Accepted)
+unfolding judged
+judged-is job number next earlier r =
+    ap (turn (otherJob job r) (OtherJob number))
+    (rw (
+      one-row (notAbove next r) (placeTaken earlier r) (FaultyRecord number) Accepted,
+      one-row (outside r) _ (FaultyRecord number) Accepted,
+      one-row (notBlank r) _ (FaultyRecord number) Accepted,
+      one-row (pinAbove r) _ (FaultyRecord number) Accepted,
+    ))
+
+records-first : (left : ℕ) (map : List ℕ) (job number next : ℕ) (earlier : List Pin)
+    → firstOf (recordRows left map job number next earlier) Accepted ≡ readFrom left map job number next earlier .verdict
+unfolding recordRows readFrom firstOf accepted
+records-first zero map job number next earlier = refl
+records-first (suc left) map job number next earlier =
+    rw (
+      judged-is job number next earlier (recordOf (take recordSize map)),
+      judged-then (otherJob job (recordOf (take recordSize map))) (faulty next earlier (recordOf (take recordSize map))) (OtherJob number) (FaultyRecord number)
+          (readFrom left (drop recordSize map) job (number + 1) (recordOf (take recordSize map) .pin + 1) (withRecord earlier (recordOf (take recordSize map))))
+          refl refl,
+      records-first left (drop recordSize map) job (number + 1) (recordOf (take recordSize map) .pin + 1) (withRecord earlier (recordOf (take recordSize map))),
+    )
+
+length-first : (b : Bool) (x : Reading) (w : Verdict) → w ≡ x .verdict → turn b MapLength w ≡ choose b (refusedBy MapLength) x .verdict
+unfolding turn choose
+length-first true x w e = refl
+length-first false x w e = e
+
+-- Reading a map is answered by the first row that applies.
+pub map-first : (map : List ℕ) (job : ℕ) → firstOf (mapRows map job) Accepted ≡ readMap map job .verdict
+unfolding readMap firstOf
+map-first map job = length-first (wrongLength map) _ _ (records-first (length map / recordSize) map job 0 0 noPins)
+
+-- The rows stand in ascending rank.
+records-ascend : (left : ℕ) (map : List ℕ) (job number next : ℕ) (earlier : List Pin) (n : ℕ) → n < 28 + 4 * number
+    → Ascending n (recordRows left map job number next earlier)
+unfolding recordRows Ascending rank choose
+records-ascend zero map job number next earlier n h = tt
+records-ascend (suc left) map job number next earlier n h =
+    (h, (omega arith, records-ascend left (drop recordSize map) job (number + 1) _ _ _ (omega arith)))
+
+pub map-ascends : (map : List ℕ) (job n : ℕ) → n < 26 → Ascending n (mapRows map job)
+unfolding Ascending rank choose
+map-ascends map job n h = (h, records-ascend (length map / recordSize) map job 0 0 noPins 26 (omega arith))

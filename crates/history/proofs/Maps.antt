@@ -1,0 +1,156 @@
+-- Maps across desks: a map written from a seat opens under its job, at any seat of any desk that can take it, with the same pins; a map that was opened,
+-- written before any edit of its seat, gives the same bytes. From the round trip of pin maps, Refused and Untouched; assumes nothing.
+use mathlib.Core.Path.{_≡_, refl, ap, _∙_}
+use mathlib.Core.Bool.{Bool, true, not}
+use mathlib.Core.List.{List, [], _∷_, _++_}
+use Prim.Native.Nat.{ℕ, _<_}
+use native.Mathlib.Omega.{arith}
+use borrow.Author.Tests.{not-true, not-false, eqb-false, leb-false}
+use lib.Dec.{eqb}
+use lib.ListN.{length, take, drop}
+use lib.Seq.{getD-set-same, take-append-seam, drop-append-seam}
+use Rattle.refusal.specs.Tests.{choose}
+use Rattle.refusal.specs.Refusals.{accepted, turn}
+use Rattle.refusal.specs.declared.Verdict.the-variants.{Accepted}
+use Rattle.refusal.proofs.Tests.{choose-yes}
+use Rattle.refusal.proofs.Rows.{NoneHolds}
+use Rattle.drawing.specs.declared.Pin.{Pin}
+use Rattle.pinmap.specs.Map.{readAs, readMap, mapOf, written}
+use Rattle.pinmap.proofs.Records.{Bytes}
+use Rattle.pinmap.proofs.RoundTrip.{map-opens, same-bytes}
+use Rattle.journal.specs.Journal.{seats}
+use Rattle.desk.specs.declared.Seat.{Seat}
+use Rattle.desk.specs.declared.Desk.{Desk}
+use Rattle.desk.specs.declared.Answered.{Answered}
+use Rattle.desk.specs.Calls.{Call, seatIn, opening, closing, placing, moving, removing, undoing, redoing, writing}
+use Rattle.desk.specs.Refusals.{turnedOpening, verdictOf}
+use Rattle.desk.specs.Desk.{noSeat, seatOf, openSeat, withSeat, sound, lookAt, effect, answerOf, step, writtenOf, bufferOf}
+use Rattle.desk.proofs.Sound.{eight-seats, pins-lawful}
+use Rattle.history.specs.History.{after}
+use Rattle.history.proofs.Passed.{Opens, opens, writes}
+use Rattle.history.proofs.Untouched.{other-seats-untouched, writing-leaves-the-desk}
+use Rattle.history.proofs.Refused.{takingRows}
+
+-- The bytes that writing a seat wrote: so many of the lent buffer.
+abbrev pub bytesFrom : Desk → ℕ → List ℕ → List ℕ
+bytesFrom d s buffer = take (writtenOf d s buffer .bytes) (bufferOf d s buffer)
+
+module _ (d : Desk) (s : ℕ) (buffer : List ℕ) (z : accepted (writtenOf d s buffer .verdict) ≡ true) where
+  bytes-are : writtenOf d s buffer .bytes ≡ length (mapOf (seatOf d s .job) (seatOf d s .pins))
+  unfolding writtenOf
+  bytes-are = choose-yes _ _ z
+
+  buffer-is : bufferOf d s buffer ≡ mapOf (seatOf d s .job) (seatOf d s .pins) ++ drop (length (mapOf (seatOf d s .job) (seatOf d s .pins))) buffer
+  unfolding writtenOf bufferOf written
+  buffer-is = choose-yes _ _ z
+
+  -- An accepted writing writes the map of the seat,
+  pub writing-writes-the-map : bytesFrom d s buffer ≡ mapOf (seatOf d s .job) (seatOf d s .pins)
+  writing-writes-the-map = rw (bytes-are, buffer-is) (take-append-seam (mapOf (seatOf d s .job) (seatOf d s .pins)) _)
+
+  -- and leaves the bytes after it as they were.
+  pub writing-leaves-later-bytes : drop (writtenOf d s buffer .bytes) (bufferOf d s buffer) ≡ drop (writtenOf d s buffer .bytes) buffer
+  writing-leaves-later-bytes = rw (bytes-are, buffer-is) (drop-append-seam (mapOf (seatOf d s .job) (seatOf d s .pins)) _)
+
+-- ---- written, then opened
+
+-- A map whose reading is known opens where the desk can take it.
+opens-as : (e : Desk) (t job : ℕ) (map : List ℕ) (l : List Pin) → readMap map job ≡ readAs l → NoneHolds (takingRows (lookAt e t) job)
+    → step e (opening t job map) ≡ record { desk = withSeat e t (openSeat job l); verdict = Accepted }
+unfolding step answerOf verdictOf turnedOpening effect NoneHolds turn choose accepted
+opens-as e t job map l r n = rw (r, n .0, n .1 .0, n .1 .1 .0, n .1 .1 .1 .0, n .1 .1 .1 .1 .0)
+
+-- The desk can take it: it is sound, and the seat is one of the eight.
+taking-low : (e : Desk) (t job : ℕ) → NoneHolds (takingRows (lookAt e t) job) → t < length (e .seats)
+unfolding NoneHolds
+taking-low e t job n =
+    let h : sound e ≡ true = not-false _ (n .0) in
+    let k : t < seats = leb-false _ _ (n .1 .0) in
+    omega (arith, eight-seats e h)
+
+-- The map of an open seat of a sound desk opens under its job at any seat of any desk that can take it (28, 1, 3, 4 and 5 do not apply), with the same pins.
+pub map-of-a-seat-opens : (d e : Desk) (s t : ℕ) → sound d ≡ true → s < seats → seatOf d s .«open» ≡ true → seatOf d s .job < 65536
+    → NoneHolds (takingRows (lookAt e t) (seatOf d s .job))
+    → step e (opening t (seatOf d s .job) (mapOf (seatOf d s .job) (seatOf d s .pins)))
+    ≡ record { desk = withSeat e t (openSeat (seatOf d s .job) (seatOf d s .pins)); verdict = Accepted }
+map-of-a-seat-opens d e s t h k o j n =
+    opens-as e t (seatOf d s .job) (mapOf (seatOf d s .job) (seatOf d s .pins)) (seatOf d s .pins)
+    (map-opens (seatOf d s .job) (seatOf d s .pins) j (pins-lawful d h s k o)) n
+
+module _ (d e : Desk) (s t : ℕ) (buffer : List ℕ) (z : accepted (writtenOf d s buffer .verdict) ≡ true) (j : seatOf d s .job < 65536)
+    (n : NoneHolds (takingRows (lookAt e t) (seatOf d s .job))) where
+  -- The bytes that an accepted writing wrote open under the seat's job at any seat of any desk that can take it,
+  pub written-map-opens : step e (opening t (seatOf d s .job) (bytesFrom d s buffer))
+      ≡ record { desk = withSeat e t (openSeat (seatOf d s .job) (seatOf d s .pins)); verdict = Accepted }
+  unfolding writtenOf answerOf verdictOf
+  written-map-opens =
+      let w = writes (lookAt d s) (length buffer) z in
+      rw (writing-writes-the-map d s buffer z)
+      (map-of-a-seat-opens d e s t (not-false _ (w .0 .unbroken)) (w .0 .low) (w .0 .shown) j n)
+
+  -- with the same pins.
+  pub written-map-same-pins : seatOf (step e (opening t (seatOf d s .job) (bytesFrom d s buffer)) .desk) t .pins ≡ seatOf d s .pins
+  written-map-same-pins =
+      ap (λ (x : Answered). seatOf (x .desk) t .pins) written-map-opens
+      ∙ ap (λ (q : Seat). q .pins) (getD-set-same (e .seats) t (openSeat (seatOf d s .job) (seatOf d s .pins)) noSeat (taking-low e t (seatOf d s .job) n))
+
+-- ---- opened, then written
+
+-- The call edits nothing at the seat: it names another, or writes a map.
+abbrev pub noEditAt : ℕ → Call → Bool
+noEditAt s (opening t job map) = not (eqb s t)
+noEditAt s (closing t) = not (eqb s t)
+noEditAt s (placing t p at) = not (eqb s t)
+noEditAt s (moving t p at) = not (eqb s t)
+noEditAt s (removing t p) = not (eqb s t)
+noEditAt s (undoing t) = not (eqb s t)
+noEditAt s (redoing t) = not (eqb s t)
+noEditAt s (writing t room) = true
+
+-- None of the calls edits anything at the seat.
+unfoldable pub NoEdits : ℕ → List Call → Type 0
+NoEdits s [] = Unit {0}
+NoEdits s (c ∷ calls) = (noEditAt s c ≡ true) × NoEdits s calls
+
+seat-other : (d : Desk) (c : Call) (s : ℕ) → not (eqb s (seatIn c)) ≡ true → seatOf (step d c .desk) s ≡ seatOf d s
+seat-other d c s e = other-seats-untouched d c s (eqb-false s (seatIn c) (not-true _ e)) .seat
+
+seat-unedited : (d : Desk) (c : Call) (s : ℕ) → noEditAt s c ≡ true → seatOf (step d c .desk) s ≡ seatOf d s
+seat-unedited d (opening t job map) s e = seat-other d (opening t job map) s e
+seat-unedited d (closing t) s e = seat-other d (closing t) s e
+seat-unedited d (placing t p at) s e = seat-other d (placing t p at) s e
+seat-unedited d (moving t p at) s e = seat-other d (moving t p at) s e
+seat-unedited d (removing t p) s e = seat-other d (removing t p) s e
+seat-unedited d (undoing t) s e = seat-other d (undoing t) s e
+seat-unedited d (redoing t) s e = seat-other d (redoing t) s e
+seat-unedited d (writing t room) s e = ap (λ (x : Desk). seatOf x s) (writing-leaves-the-desk d t room)
+
+seat-after : (calls : List Call) (d : Desk) (s : ℕ) → NoEdits s calls → seatOf (after d calls) s ≡ seatOf d s
+unfolding NoEdits after
+seat-after [] d s e = refl
+seat-after (c ∷ calls) d s e = seat-after calls (step d c .desk) s (e .1) ∙ seat-unedited d c s (e .0)
+
+-- An accepted opening leaves the seat open for the job with the map's pins.
+pub opened-seat : (d : Desk) (s job : ℕ) (map : List ℕ) → accepted (step d (opening s job map) .verdict) ≡ true
+    → (seatOf (step d (opening s job map) .desk) s ≡ openSeat job (readMap map job .pins)) × (accepted (readMap map job .verdict) ≡ true)
+unfolding step answerOf verdictOf effect
+opened-seat d s job map z =
+    let o : Opens (lookAt d s) job map = opens (lookAt d s) job map z in
+    let h : sound d ≡ true = not-false _ (o .unbroken) in
+    let k : s < length (d .seats) = omega (arith, eight-seats d h, o .low) in (
+      ap (λ (x : Desk). seatOf x s) (choose-yes _ _ z) ∙ getD-set-same (d .seats) s (openSeat job (readMap map job .pins)) noSeat k,
+      o .read,
+    )
+
+-- A map that was opened, written before any edit of its seat, gives the same bytes: whatever calls at other seats, and whatever writings, came between.
+pub opened-map-written : (d : Desk) (s job : ℕ) (map buffer : List ℕ) (calls : List Call) → Bytes map
+    → accepted (step d (opening s job map) .verdict) ≡ true → NoEdits s calls
+    → accepted (writtenOf (after (step d (opening s job map) .desk) calls) s buffer .verdict) ≡ true
+    → bytesFrom (after (step d (opening s job map) .desk) calls) s buffer ≡ map
+opened-map-written d s job map buffer calls b z e w =
+    let o = opened-seat d s job map z in
+    let q : seatOf (after (step d (opening s job map) .desk) calls) s ≡ openSeat job (readMap map job .pins) =
+    seat-after calls (step d (opening s job map) .desk) s e ∙ o .0 in
+    writing-writes-the-map (after (step d (opening s job map) .desk) calls) s buffer w
+    ∙ ap (λ (x : Seat). mapOf (x .job) (x .pins)) q
+    ∙ same-bytes job map b (o .1)

@@ -1,0 +1,218 @@
+-- DEMAND 1: each refusal exactly under its condition, and after those before it: the rows of each call in document 01's order, on any desk.
+-- From the rows of `turned..` and the law of rows; assumes nothing.
+use mathlib.Core.Path.{_≡_, refl, ap, sym, _∙_}
+use mathlib.Core.Bool.{Bool, true, false, not, true≢false}
+use mathlib.Core.List.{List, [], _∷_, _++_}
+use mathlib.Core.Logic.{_⊎_, inl, inr, ⊎-elim, _↔_}
+use Prim.Native.Nat.{ℕ, suc, _<_}
+use native.Mathlib.Omega.{arith}
+use borrow.Author.Tests.{not-true}
+use lib.Dec.{eqb, leb, ltb}
+use lib.ListN.{length}
+use Rattle.refusal.specs.Tests.{both, either, choose}
+use Rattle.refusal.specs.Refusals.{accepted}
+use Rattle.refusal.specs.declared.Verdict.the-variants.{Accepted, SeatAbove, NotOpen, OpenAlready, JobZero, JobElsewhere, NoSuchPin, PinThere, Outside, PlaceTaken, NothingStands, NothingTakenBack, JournalFull, RoomTooSmall, DeskBroken}
+use Rattle.refusal.proofs.Rows.{Row, firstOf, Given, NoneHolds, refusalAt, unlike, distinct, Exactly, exactly}
+use Rattle.grid.specs.declared.Place.{Place}
+use Rattle.grid.specs.Place.{inside}
+use Rattle.drawing.specs.Pins.{pins, isThere, crowded}
+use Rattle.drawing.specs.Edits.{standsAt}
+use Rattle.pinmap.specs.Map.{mapOf}
+use Rattle.desk.specs.declared.Desk.{Desk}
+use Rattle.desk.specs.Calls.{Call, seatIn, opening, closing, placing, moving, removing, undoing, redoing, writing}
+use Rattle.desk.specs.Refusals.{Look, seatAbove, jobAmong, pinAt, notThere, full, turnedOpening, turnedClosing, turnedPlacing, turnedMoving, turnedRemoving, turnedUndoing, turnedRedoing, turnedWriting, verdictOf}
+use Rattle.desk.specs.Desk.{sound, lookAt, answerOf, step, emptyDesk}
+use Rattle.history.specs.History.{after}
+use Rattle.history.proofs.Ascending.{rank, Ascending, exactly-ascending}
+use Rattle.history.proofs.MapRows.{given, mapRows, map-first, map-ascends}
+use Rattle.history.proofs.Demand.{desk-as-told}
+
+-- The desk can take a job at a seat: 28, 1, 3, 4, 5.
+abbrev pub takingRows : Look → ℕ → List Row
+takingRows l job =
+    given (l .broken) DeskBroken
+    ∷ given (seatAbove l) SeatAbove
+    ∷ given (l .«open») OpenAlready
+    ∷ given (eqb job 0) JobZero
+    ∷ given (jobAmong job (l .jobs)) JobElsewhere
+    ∷ []
+
+-- Opening: 28, 1, 3, 4, 5, 13, then the first faulty record, 14 before 15.
+abbrev pub openingRows : Look → ℕ → List ℕ → List Row
+openingRows l job map = takingRows l job ++ mapRows map job
+
+-- Closing: 28, 1, 2.
+abbrev pub closingRows : Look → List Row
+closingRows l = given (l .broken) DeskBroken ∷ given (seatAbove l) SeatAbove ∷ given (not (l .«open»)) NotOpen ∷ []
+
+-- Placing: 28, 1, 2, 6, 7, 8, 9, 12.
+abbrev pub placingRows : Look → ℕ → Place → List Row
+placingRows l p at =
+    given (l .broken) DeskBroken
+    ∷ given (seatAbove l) SeatAbove
+    ∷ given (not (l .«open»)) NotOpen
+    ∷ given (leb pins p) NoSuchPin
+    ∷ given (isThere (pinAt l p)) PinThere
+    ∷ given (not (inside at)) Outside
+    ∷ given (crowded (l .pins) p at) PlaceTaken
+    ∷ given (full l) JournalFull
+    ∷ []
+
+-- Moving: 28, 1, 2, 6, 8, 9, 12.
+abbrev pub movingRows : Look → ℕ → Place → List Row
+movingRows l p at =
+    given (l .broken) DeskBroken
+    ∷ given (seatAbove l) SeatAbove
+    ∷ given (not (l .«open»)) NotOpen
+    ∷ given (notThere l p) NoSuchPin
+    ∷ given (not (inside at)) Outside
+    ∷ given (either (standsAt (pinAt l p) at) (crowded (l .pins) p at)) PlaceTaken
+    ∷ given (full l) JournalFull
+    ∷ []
+
+-- Removing: 28, 1, 2, 6, 12.
+abbrev pub removingRows : Look → ℕ → List Row
+removingRows l p =
+    given (l .broken) DeskBroken
+    ∷ given (seatAbove l) SeatAbove
+    ∷ given (not (l .«open»)) NotOpen
+    ∷ given (notThere l p) NoSuchPin
+    ∷ given (full l) JournalFull
+    ∷ []
+
+-- Undo: 28, 1, 2, 10.
+abbrev pub undoingRows : Look → List Row
+undoingRows l =
+    given (l .broken) DeskBroken
+    ∷ given (seatAbove l) SeatAbove
+    ∷ given (not (l .«open»)) NotOpen
+    ∷ given (eqb (l .standing) 0) NothingStands
+    ∷ []
+
+-- Redo: 28, 1, 2, 11.
+abbrev pub redoingRows : Look → List Row
+redoingRows l =
+    given (l .broken) DeskBroken
+    ∷ given (seatAbove l) SeatAbove
+    ∷ given (not (l .«open»)) NotOpen
+    ∷ given (eqb (l .takenBack) 0) NothingTakenBack
+    ∷ []
+
+-- Writing: 28, 1, 2, 19.
+abbrev pub writingRows : Look → ℕ → List Row
+writingRows l room =
+    given (l .broken) DeskBroken
+    ∷ given (seatAbove l) SeatAbove
+    ∷ given (not (l .«open»)) NotOpen
+    ∷ given (ltb room (length (mapOf (l .job) (l .pins)))) RoomTooSmall
+    ∷ []
+
+opening-ascends : (l : Look) (job : ℕ) (map : List ℕ) → Ascending 0 (openingRows l job map)
+unfolding Ascending rank choose
+opening-ascends l job map = (omega arith, (omega arith, (omega arith, (omega arith, (omega arith, map-ascends map job 10 (omega arith))))))
+
+-- Each of opening's refusals exactly under its condition, and after those before it.
+pub exactly-opening : (l : Look) (job : ℕ) (map : List ℕ) → Exactly (openingRows l job map) Accepted (turnedOpening l job map)
+unfolding turnedOpening firstOf
+exactly-opening l job map = rw (← map-first map job) (exactly-ascending (openingRows l job map) (opening-ascends l job map))
+
+-- Each of closing's refusals exactly under its condition.
+pub exactly-closing : (l : Look) → Exactly (closingRows l) Accepted (turnedClosing l)
+unfolding turnedClosing firstOf distinct unlike accepted both
+exactly-closing l = exactly (closingRows l) Accepted refl refl
+
+-- Each of placing's refusals exactly under its condition.
+pub exactly-placing : (l : Look) (p : ℕ) (at : Place) → Exactly (placingRows l p at) Accepted (turnedPlacing l p at)
+unfolding turnedPlacing firstOf distinct unlike accepted both
+exactly-placing l p at = exactly (placingRows l p at) Accepted refl refl
+
+-- Each of moving's refusals exactly under its condition.
+pub exactly-moving : (l : Look) (p : ℕ) (at : Place) → Exactly (movingRows l p at) Accepted (turnedMoving l p at)
+unfolding turnedMoving firstOf distinct unlike accepted both
+exactly-moving l p at = exactly (movingRows l p at) Accepted refl refl
+
+-- Each of removing's refusals exactly under its condition.
+pub exactly-removing : (l : Look) (p : ℕ) → Exactly (removingRows l p) Accepted (turnedRemoving l p)
+unfolding turnedRemoving firstOf distinct unlike accepted both
+exactly-removing l p = exactly (removingRows l p) Accepted refl refl
+
+-- Each of undo's refusals exactly under its condition.
+pub exactly-undoing : (l : Look) → Exactly (undoingRows l) Accepted (turnedUndoing l)
+unfolding turnedUndoing firstOf distinct unlike accepted both
+exactly-undoing l = exactly (undoingRows l) Accepted refl refl
+
+-- Each of redo's refusals exactly under its condition.
+pub exactly-redoing : (l : Look) → Exactly (redoingRows l) Accepted (turnedRedoing l)
+unfolding turnedRedoing firstOf distinct unlike accepted both
+exactly-redoing l = exactly (redoingRows l) Accepted refl refl
+
+-- Each of writing's refusals exactly under its condition.
+pub exactly-writing : (l : Look) (room : ℕ) → Exactly (writingRows l room) Accepted (turnedWriting l room)
+unfolding turnedWriting firstOf distinct unlike accepted both
+exactly-writing l room = exactly (writingRows l room) Accepted refl refl
+
+-- The rows of a call.
+abbrev pub rowsOf : Look → Call → List Row
+rowsOf l (opening s job map) = openingRows l job map
+rowsOf l (closing s) = closingRows l
+rowsOf l (placing s p at) = placingRows l p at
+rowsOf l (moving s p at) = movingRows l p at
+rowsOf l (removing s p) = removingRows l p
+rowsOf l (undoing s) = undoingRows l
+rowsOf l (redoing s) = redoingRows l
+rowsOf l (writing s room) = writingRows l room
+
+exactly-verdict : (l : Look) (c : Call) → Exactly (rowsOf l c) Accepted (verdictOf l c)
+unfolding verdictOf
+exactly-verdict l (opening s job map) = exactly-opening l job map
+exactly-verdict l (closing s) = exactly-closing l
+exactly-verdict l (placing s p at) = exactly-placing l p at
+exactly-verdict l (moving s p at) = exactly-moving l p at
+exactly-verdict l (removing s p) = exactly-removing l p
+exactly-verdict l (undoing s) = exactly-undoing l
+exactly-verdict l (redoing s) = exactly-redoing l
+exactly-verdict l (writing s room) = exactly-writing l room
+
+-- On any desk, each refusal of a call is given exactly where its condition holds and none before it does; where none holds, the call is accepted.
+pub each-refusal-exactly : (d : Desk) (c : Call) → Exactly (rowsOf (lookAt d (seatIn c)) c) Accepted (step d c .verdict)
+unfolding step answerOf
+each-refusal-exactly d c = exactly-verdict (lookAt d (seatIn c)) c
+
+-- Some row is given, or no condition holds.
+one-or-none : (rows : List Row) → ((i : ℕ) × (i < length rows) × Given rows i) ⊎ NoneHolds rows
+unfolding Given NoneHolds
+one-or-none [] = inr tt
+one-or-none (r ∷ rows) = by (r .condition) refl (one-or-none rows)
+  where
+    by : (b : Bool) → r .condition ≡ b → ((i : ℕ) × (i < length rows) × Given rows i) ⊎ NoneHolds rows
+        → ((i : ℕ) × (i < length (r ∷ rows)) × Given (r ∷ rows) i) ⊎ NoneHolds (r ∷ rows)
+    by true e k = inl (0, omega arith, e)
+    by false e k = ⊎-elim (λ g. inl (suc (g .0), omega (arith, g .1), (e, g .2))) (λ n. inr (e, n)) k
+
+-- No other refusal is given: the answer is the refusal of one of the call's rows, or accepted.
+pub no-other-refusal : (d : Desk) (c : Call)
+    → ((i : ℕ) × (i < length (rowsOf (lookAt d (seatIn c)) c)) × (step d c .verdict ≡ refusalAt (rowsOf (lookAt d (seatIn c)) c) i))
+    ⊎ (step d c .verdict ≡ Accepted)
+no-other-refusal d c =
+    let x : Exactly (rowsOf (lookAt d (seatIn c)) c) Accepted (step d c .verdict) = each-refusal-exactly d c in
+    ⊎-elim (λ g. inl (g .0, g .1, x .refused (g .0) (g .1) .1 (g .2))) (λ n. inr (x .passes .1 n)) (one-or-none (rowsOf (lookAt d (seatIn c)) c))
+
+-- 28 comes first: a broken desk is answered 28 by every call, and a sound one by none.
+broken-given : (d : Desk) (c : Call) → (step d c .verdict ≡ DeskBroken) ↔ (not (sound d) ≡ true)
+unfolding refusalAt Given
+broken-given d (opening s job map) = each-refusal-exactly d (opening s job map) .refused 0 (omega arith)
+broken-given d (closing s) = each-refusal-exactly d (closing s) .refused 0 (omega arith)
+broken-given d (placing s p at) = each-refusal-exactly d (placing s p at) .refused 0 (omega arith)
+broken-given d (moving s p at) = each-refusal-exactly d (moving s p at) .refused 0 (omega arith)
+broken-given d (removing s p) = each-refusal-exactly d (removing s p) .refused 0 (omega arith)
+broken-given d (undoing s) = each-refusal-exactly d (undoing s) .refused 0 (omega arith)
+broken-given d (redoing s) = each-refusal-exactly d (redoing s) .refused 0 (omega arith)
+broken-given d (writing s room) = each-refusal-exactly d (writing s room) .refused 0 (omega arith)
+
+pub broken-exactly : (d : Desk) (c : Call) → (step d c .verdict ≡ DeskBroken) ↔ (sound d ≡ false)
+broken-exactly d c = (λ e. not-true _ (broken-given d c .0 e), λ e. broken-given d c .1 (ap not e))
+
+-- After any calls from the empty desk no call is answered 28.
+pub never-broken : (calls : List Call) (c : Call) → step (after emptyDesk calls) c .verdict ≡ DeskBroken → ⊥
+never-broken calls c e =
+    true≢false (sym (desk-as-told calls .unbroken) ∙ broken-exactly (after emptyDesk calls) c .0 e)

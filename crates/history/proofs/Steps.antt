@@ -1,0 +1,292 @@
+-- A desk that agrees with a sane history is sound, answers each call as the history does, and agrees with it after the call.
+-- From Sane and Simulation; assumes nothing.
+use mathlib.Core.Path.{_≡_, refl, ap, sym, _∙_}
+use mathlib.Core.Bool.{Bool, true, false, not, true≢false, false≢true}
+use mathlib.Core.List.{List, [], _∷_, _++_, map, reverseAux-eq}
+use mathlib.Core.Logic.{⊎-elim}
+use Prim.Native.Nat.{ℕ, zero, suc, _+_, _-_, _<_, _≤_}
+use native.Mathlib.Omega.{arith}
+use borrow.Author.Tests.{eq-eqb, ne-eqb, le-leb, leb-false}
+use lib.ListN.{length, getD, set, take, List·getD-eq-default}
+use lib.Seq.{set-getD}
+use Rattle.refusal.specs.Tests.{choose}
+use Rattle.refusal.specs.Refusals.{accepted, turn}
+use Rattle.refusal.proofs.Tests.{both-of}
+use Rattle.grid.proofs.Flat.{order}
+use Rattle.drawing.specs.declared.Pin.{Pin}
+use Rattle.drawing.specs.declared.Edit.{Edit}
+use Rattle.drawing.specs.Edits.{made, unmade, placed, moved, removed}
+use Rattle.drawing.proofs.Making.{unmade-made}
+use Rattle.pinmap.specs.Map.{readMap}
+use Rattle.journal.specs.Journal.{seats, records, noEdit, kept, added}
+use Rattle.journal.proofs.Own.{own-kept, own-other, own-added, other-added, added-length, kept-length}
+use Rattle.journal.proofs.Seated.{seated-kept, seated-added}
+use Rattle.desk.specs.declared.Seat.{Seat}
+use Rattle.desk.specs.declared.Desk.{Desk}
+use Rattle.desk.specs.Calls.{Call, seatIn, opening, closing, placing, moving, removing, undoing, redoing, writing}
+use Rattle.desk.specs.Refusals.{Look, full, turnedOpening, turnedClosing, turnedPlacing, turnedMoving, turnedRemoving, turnedUndoing, turnedRedoing, turnedWriting, verdictOf}
+use Rattle.desk.specs.Desk.{closedSeat, noSeat, seatOf, live, editsOf, openSeat, withPins, soundOpen, soundClosed, soundSeat, soundTo, sound, lookAt, edited, effect, answerOf, step}
+use Rattle.history.specs.History.{Told, shut, opened, pinsBy, isOpen, pinsIn, standingIn, takenBackIn, editsIn, toldOf, usedIn, lookIn, anew, undone, redone, next, answerIn, tell}
+use Rattle.history.proofs.Passed.{Enters, opens, closes, places, moves, removes, undoes, redoes}
+use Rattle.history.proofs.Stood.{stood, stood-lawful, stood-takeable}
+use Rattle.history.proofs.Sane.{sane, Sane}
+use Rattle.history.proofs.Simulation.{At, Agrees, zip-at, standing-kept, shown-open, shown-job, shown-pins, shown-count, shown-standing, shown-takenBack, shown-length, agrees-seat, agrees-records, used-live, jobs-same, used-same}
+
+-- ---- one seat after each call
+
+at-opened : (q : Seat) (l : List Edit) (t : Told) (job : ℕ) (p : List Pin) → At q l t → isOpen t ≡ false → At (openSeat job p) l (opened job p [] [])
+unfolding At pinsBy
+at-opened q l shut job p a o = record { shown = refl; job = refl; pins = refl; count = refl; edits = a .1 }
+at-opened q l (opened i first standing takenBack) job p a o = absurd (true≢false o)
+
+edits-opened : (t : Told) → isOpen t ≡ false → 0 ≡ editsIn t
+edits-opened shut o = refl
+edits-opened (opened i first standing takenBack) o = cc
+
+at-anew : (e : Edit) (q : Seat) (l : List Edit) (t : Told) → At q l t → isOpen t ≡ true
+    → At (withPins q (made (q .pins) e) (q .standing + 1)) (take (q .standing) l ++ (e ∷ [])) (anew e t)
+unfolding At anew pinsBy
+at-anew e q l shut a o = absurd (false≢true o)
+at-anew e q l (opened job first standing takenBack) a o =
+    record {
+      shown = a .shown;
+      job = a .job;
+      pins = rw (a .pins);
+      count = omega (arith, a .count);
+      edits = rw (standing-kept q l standing takenBack _ _ a) (sym (reverseAux-eq standing (e ∷ [])));
+    }
+
+edits-anew : (e : Edit) (t : Told) → isOpen t ≡ true → editsIn (anew e t) + length (takenBackIn t) ≡ editsIn t + 1
+unfolding anew
+edits-anew e shut o = cc
+edits-anew e (opened job first standing takenBack) o = omega arith
+
+at-undone : (q : Seat) (l : List Edit) (t : Told) → At q l t → sane t → (length (standingIn t) ≡ 0 → ⊥)
+    → At (withPins q (unmade (q .pins) (getD l (q .standing - 1) noEdit)) (q .standing - 1)) l (undone t)
+unfolding At sane undone stood pinsBy
+at-undone q l shut a g n = absurd (n refl)
+at-undone q l (opened job first [] takenBack) a g n = absurd (n refl)
+at-undone q l (opened job first (e ∷ standing) takenBack) a g n =
+    let k : q .standing - 1 ≡ length standing = omega (arith, a .count) in
+    record {
+      shown = a .shown;
+      job = a .job;
+      pins = rw (zip-at l standing takenBack e (q .standing - 1) (a .edits) k, a .pins) (unmade-made (pinsBy first standing) e (g .stands .0));
+      count = k;
+      edits = a .edits;
+    }
+
+edits-undone : (t : Told) → editsIn (undone t) ≡ editsIn t
+unfolding undone
+edits-undone shut = refl
+edits-undone (opened job first [] takenBack) = refl
+edits-undone (opened job first (e ∷ standing) takenBack) = omega arith
+
+at-redone : (q : Seat) (l : List Edit) (t : Told) → At q l t → (length (takenBackIn t) ≡ 0 → ⊥)
+    → At (withPins q (made (q .pins) (getD l (q .standing) noEdit)) (q .standing + 1)) l (redone t)
+unfolding At redone pinsBy
+at-redone q l shut a n = absurd (n refl)
+at-redone q l (opened job first standing []) a n = absurd (n refl)
+at-redone q l (opened job first standing (e ∷ takenBack)) a n =
+    record {
+      shown = a .shown;
+      job = a .job;
+      pins = rw (zip-at l standing takenBack e (q .standing) (a .edits) (a .count), a .pins);
+      count = omega (arith, a .count);
+      edits = a .edits;
+    }
+
+edits-redone : (t : Told) → editsIn (redone t) ≡ editsIn t
+unfolding redone
+edits-redone shut = refl
+edits-redone (opened job first standing []) = refl
+edits-redone (opened job first standing (e ∷ takenBack)) = omega arith
+
+at-shut : (l : List Edit) → l ≡ [] → At closedSeat l shut
+unfolding At
+at-shut l e = (refl, e)
+
+-- ---- such a desk is sound
+
+module _ (d : Desk) (h : List Told) (g : Agrees d h) (f : Sane h) where
+  module _ (s : ℕ) (k : s < seats) where
+    here : At (seatOf d s) (editsOf d s) (toldOf h s)
+    here = g .holds .at s k
+
+  seat-by : (s : ℕ) (t : Told) → At (seatOf d s) (editsOf d s) t → sane t → soundSeat d s ≡ true
+  unfolding soundSeat soundOpen soundClosed sane choose
+  seat-by s shut a e =
+      rw (shown-open (seatOf d s) (editsOf d s) shut a) (eq-eqb _ _ (shown-length (seatOf d s) (editsOf d s) shut a))
+  seat-by s (opened job first standing takenBack) a e =
+      let t : Told = opened job first standing takenBack in
+      let n : seatOf d s .standing ≤ length (editsOf d s) =
+      omega (arith, shown-length (seatOf d s) (editsOf d s) t a, shown-count (seatOf d s) (editsOf d s) t a refl) in
+      rw (
+        shown-open (seatOf d s) (editsOf d s) t a,
+        shown-job (seatOf d s) (editsOf d s) t a refl,
+        shown-standing (seatOf d s) (editsOf d s) t a,
+        shown-takenBack (seatOf d s) (editsOf d s) t a,
+        shown-pins (seatOf d s) (editsOf d s) t a refl,
+      )
+      (both-of (ap not (ne-eqb _ _ (e .numbered)))
+      (both-of (le-leb _ _ n)
+      (both-of (stood-lawful first standing (e .start) (e .stands))
+      (both-of (stood-takeable first standing (e .start) (e .stands)) (e .redoes)))))
+
+  seats-sound : (n : ℕ) → n ≤ seats → soundTo n d ≡ true
+  unfolding soundTo
+  seats-sound zero k = refl
+  seats-sound (suc n) k = both-of (seats-sound n (omega arith)) (seat-by n (toldOf h n) (here n k) (f .each n))
+
+  pub agrees-sound : sound d ≡ true
+  unfolding sound
+  agrees-sound =
+      both-of (eq-eqb _ _ (g .holds .eight))
+      (both-of (eq-eqb _ _ (g .whole))
+      (both-of (le-leb _ _ (g .room))
+      (both-of (g .holds .named)
+      (both-of (rw (jobs-same d h g) (f .jobs)) (seats-sound seats (omega arith))))))
+
+-- ---- it answers as the history does
+
+-- At a closed seat nothing is looked at but the seat's number and the jobs.
+closed-verdict : (k m : Look) (c : Call) → k .broken ≡ false → m .broken ≡ false → k .seat ≡ m .seat → k .«open» ≡ false → m .«open» ≡ false
+    → k .jobs ≡ m .jobs → verdictOf k c ≡ verdictOf m c
+unfolding verdictOf turnedOpening turnedClosing turnedPlacing turnedMoving turnedRemoving turnedUndoing turnedRedoing turnedWriting turn choose
+closed-verdict k m (opening s job map) a b e o p j = rw (a, b, e, o, p, j)
+closed-verdict k m (closing s) a b e o p j = rw (a, b, e, o, p)
+closed-verdict k m (placing s q at) a b e o p j = rw (a, b, e, o, p)
+closed-verdict k m (moving s q at) a b e o p j = rw (a, b, e, o, p)
+closed-verdict k m (removing s q) a b e o p j = rw (a, b, e, o, p)
+closed-verdict k m (undoing s) a b e o p j = rw (a, b, e, o, p)
+closed-verdict k m (redoing s) a b e o p j = rw (a, b, e, o, p)
+closed-verdict k m (writing s room) a b e o p j = rw (a, b, e, o, p)
+
+module _ (d : Desk) (h : List Told) (g : Agrees d h) (f : Sane h) where
+  unbroken : not (sound d) ≡ false
+  unbroken = ap not (agrees-sound d h g f)
+
+  -- What a call looks at at an open seat.
+  pub look-same : (s : ℕ) → s < seats → isOpen (toldOf h s) ≡ true → lookAt d s ≡ lookIn h s
+  look-same s k o =
+      let a : At (seatOf d s) (editsOf d s) (toldOf h s) = g .holds .at s k in
+      let p = shown-open (seatOf d s) (editsOf d s) (toldOf h s) a in
+      let q = shown-job (seatOf d s) (editsOf d s) (toldOf h s) a o in
+      let r = shown-pins (seatOf d s) (editsOf d s) (toldOf h s) a o in
+      let c = shown-count (seatOf d s) (editsOf d s) (toldOf h s) a o in
+      let b : length (editsOf d s) - seatOf d s .standing ≡ length (takenBackIn (toldOf h s)) =
+      omega (arith, shown-length (seatOf d s) (editsOf d s) (toldOf h s) a, c) in
+      let j = jobs-same d h g in
+      let u = used-same d h g in
+      let z = unbroken in
+      λ i. record {
+        broken = z i;
+        seat = s;
+        «open» = p i;
+        job = q i;
+        pins = r i;
+        standing = c i;
+        takenBack = b i;
+        jobs = j i;
+        used = u i;
+      }
+
+  answer-open : (c : Call) → seatIn c < seats → (b : Bool) → isOpen (toldOf h (seatIn c)) ≡ b → answerOf d c ≡ answerIn h c
+  unfolding answerOf answerIn
+  answer-open c k true o = ap (λ (l : Look). verdictOf l c) (look-same (seatIn c) k o)
+  answer-open c k false o =
+      closed-verdict (lookAt d (seatIn c)) (lookIn h (seatIn c)) c unbroken refl refl
+      (shown-open (seatOf d (seatIn c)) (editsOf d (seatIn c)) (toldOf h (seatIn c)) (g .holds .at (seatIn c) k) ∙ o) o (jobs-same d h g)
+
+  -- No seat above 7 is open.
+  answer-above : (c : Call) → seats ≤ seatIn c → answerOf d c ≡ answerIn h c
+  unfolding answerOf answerIn
+  answer-above c k =
+      let n : length (d .seats) ≤ seatIn c = omega (arith, g .holds .eight) in
+      let m : length h ≤ seatIn c = omega (arith, g .holds .told) in
+      closed-verdict (lookAt d (seatIn c)) (lookIn h (seatIn c)) c unbroken refl refl
+      (ap (λ (q : Seat). q .«open») (List·getD-eq-default (d .seats) noSeat n)) (ap isOpen (List·getD-eq-default h shut m)) (jobs-same d h g)
+
+  pub answer-same : (c : Call) → answerOf d c ≡ answerIn h c
+  answer-same c =
+      ⊎-elim (λ k. answer-above c k) (λ k. answer-open c k (isOpen (toldOf h (seatIn c))) refl) (order seats (seatIn c))
+
+-- ---- it agrees after the call
+
+module _ (d : Desk) (h : List Told) (g : Agrees d h) (f : Sane h) where
+  module _ (s : ℕ) (k : s < seats) where
+    at-seat : At (seatOf d s) (editsOf d s) (toldOf h s)
+    at-seat = g .holds .at s k
+
+    -- A new edit takes one record, after those taken back were freed.
+    edited-length : (e : Edit) → isOpen (toldOf h s) ≡ true
+        → length (added s (seatOf d s .standing) e (live d)) + length (takenBackIn (toldOf h s)) ≡ length (live d) + 1
+    edited-length e o =
+        let n = shown-length (seatOf d s) (editsOf d s) (toldOf h s) at-seat in
+        let c = shown-count (seatOf d s) (editsOf d s) (toldOf h s) at-seat o in
+        omega (arith, added-length s (seatOf d s .standing) e (live d), kept-length s (seatOf d s .standing) (live d), n, c)
+
+    agrees-edited : (e : Edit) → isOpen (toldOf h s) ≡ true → full (lookIn h s) ≡ false → Agrees (edited d s e) (set h s (anew e (toldOf h s)))
+    unfolding edited
+    agrees-edited e o z =
+        let r : usedIn h - length (takenBackIn (toldOf h s)) < records = leb-false _ _ z in
+        agrees-records d h s _ _ g k (added s (seatOf d s .standing) e (live d))
+        (omega (arith, edited-length e o, r, g .holds .sized))
+        (seated-added s (seatOf d s .standing) e (live d) k (g .holds .named))
+        (other-added s (seatOf d s .standing) e (live d))
+        (omega (arith, edited-length e o, edits-anew e (toldOf h s) o))
+        (rw (own-added s (seatOf d s .standing) e (live d)) (at-anew e (seatOf d s) (editsOf d s) (toldOf h s) at-seat o))
+
+    agrees-closed : Agrees (effect d (closing s)) (set h s shut)
+    unfolding effect
+    agrees-closed =
+        agrees-records d h s _ _ g k (kept s 0 (live d))
+        (omega (arith, kept-length s 0 (live d), used-live d h g, g .room))
+        (seated-kept s 0 (live d) (g .holds .named))
+        (λ u e. own-other s u e 0 (live d))
+        (omega (arith, kept-length s 0 (live d), shown-length (seatOf d s) (editsOf d s) (toldOf h s) at-seat))
+        (at-shut _ (own-kept s 0 (live d)))
+
+    pins-same : isOpen (toldOf h s) ≡ true → seatOf d s .pins ≡ pinsIn (toldOf h s)
+    pins-same o = shown-pins (seatOf d s) (editsOf d s) (toldOf h s) at-seat o
+
+  agrees-entered : (s : ℕ) (e : Edit) → Enters (lookIn h s) e → Agrees (edited d s e) (set h s (anew e (toldOf h s)))
+  agrees-entered s e p = agrees-edited s (p .reaches .low) e (p .reaches .shown) (p .room)
+
+  agrees-next : (c : Call) → accepted (answerIn h c) ≡ true → Agrees (effect d c) (set h (seatIn c) (next c (toldOf h (seatIn c))))
+  unfolding effect next answerIn verdictOf
+  agrees-next (opening s job map) z =
+      let o = opens (lookIn h s) job map z in
+      agrees-seat d h s _ _ g (o .low) (edits-opened (toldOf h s) (o .shown))
+      (at-opened _ _ (toldOf h s) job (readMap map job .pins) (at-seat s (o .low)) (o .shown))
+  agrees-next (closing s) z = agrees-closed s (closes (lookIn h s) z .low)
+  agrees-next (placing s p at) z = agrees-entered s (placed p at) (places (lookIn h s) p at z)
+  agrees-next (moving s p at) z =
+      let m = moves (lookIn h s) p at z in
+      rw (pins-same s (m .reaches .low) (m .reaches .shown)) (agrees-entered s (moved (pinsIn (toldOf h s)) p at) m)
+  agrees-next (removing s p) z =
+      let m = removes (lookIn h s) p z in
+      rw (pins-same s (m .reaches .low) (m .reaches .shown)) (agrees-entered s (removed (pinsIn (toldOf h s)) p) m)
+  agrees-next (undoing s) z =
+      let m = undoes (lookIn h s) z in
+      agrees-seat d h s _ _ g (m .0 .low) (edits-undone (toldOf h s))
+      (at-undone _ _ (toldOf h s) (at-seat s (m .0 .low)) (f .each s) (m .1))
+  agrees-next (redoing s) z =
+      let m = redoes (lookIn h s) z in
+      agrees-seat d h s _ _ g (m .0 .low) (edits-redone (toldOf h s)) (at-redone _ _ (toldOf h s) (at-seat s (m .0 .low)) (m .1))
+  agrees-next (writing s room) z = rw (set-getD h s shut) g
+
+  agrees-by : (c : Call) (b : Bool) → accepted (answerIn h c) ≡ b
+      → Agrees (choose b (effect d c) d) (choose b (set h (seatIn c) (next c (toldOf h (seatIn c)))) h)
+  unfolding choose
+  agrees-by c true z = agrees-next c z
+  agrees-by c false z = g
+
+  -- ONE CALL: the desk answers as the history, and agrees with it afterwards.
+  pub step-answer : (c : Call) → step d c .verdict ≡ answerIn h c
+  unfolding step
+  step-answer c = answer-same d h g f c
+
+  pub step-agrees : (c : Call) → Agrees (step d c .desk) (tell h c)
+  unfolding step tell
+  step-agrees c = rw (answer-same d h g f c) (agrees-by c (accepted (answerIn h c)) refl)

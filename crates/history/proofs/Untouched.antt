@@ -1,0 +1,96 @@
+-- What a call leaves as it is, on ANY desk, broken or not: the other seats and their edits; the desk itself where the call is refused or writes a map;
+-- the journal where the call undoes or redoes. From the definition of a step; assumes nothing.
+use mathlib.Core.Path.{_≡_, refl, ap, _∙_}
+use mathlib.Core.Bool.{Bool, true, false}
+use mathlib.Core.List.{List}
+use Prim.Native.Nat.{ℕ}
+use lib.Seq.{getD-set-other}
+use Rattle.refusal.specs.Tests.{choose}
+use Rattle.refusal.specs.Refusals.{accepted}
+use Rattle.refusal.proofs.Tests.{choose-no}
+use Rattle.journal.specs.declared.Record.{Record}
+use Rattle.journal.specs.Journal.{own}
+use Rattle.journal.proofs.Own.{own-other, other-added}
+use Rattle.journal.proofs.Filled.{take-filled}
+use Rattle.desk.specs.declared.Seat.{Seat}
+use Rattle.desk.specs.declared.Desk.{Desk}
+use Rattle.desk.specs.Calls.{Call, seatIn, opening, closing, placing, moving, removing, undoing, redoing, writing}
+use Rattle.desk.specs.Desk.{noSeat, seatOf, live, editsOf, standingOf, takenBackOf, withSeat, withRecords, edited, effect, answerOf, step, writtenOf, bufferOf}
+
+-- A seat of a desk is the same on another: open or closed, job, pins and number of standing edits; and so are its edits, standing and taken back.
+pub record Untouched (d e : Desk) (t : ℕ) : Type 0 where
+  pub seat : seatOf e t ≡ seatOf d t
+  pub edits : editsOf e t ≡ editsOf d t
+  pub standing : standingOf e t ≡ standingOf d t
+  pub takenBack : takenBackOf e t ≡ takenBackOf d t
+
+untouched-by : (d e : Desk) (t : ℕ) → seatOf e t ≡ seatOf d t → editsOf e t ≡ editsOf d t → Untouched d e t
+untouched-by d e t p q = record { seat = p; edits = q; standing = rw (p, q); takenBack = rw (p, q) }
+
+module _ (d : Desk) (s t : ℕ) (apart : t ≡ s → ⊥) where
+  other-seat : (r : Seat) → Untouched d (withSeat d s r) t
+  other-seat r = untouched-by d (withSeat d s r) t (getD-set-other (d .seats) s t r noSeat apart) refl
+
+  other-records : (r : Seat) (m : List Record) → own t m ≡ own t (live d) → Untouched d (withRecords d s r m) t
+  other-records r m e =
+      untouched-by d (withRecords d s r m) t (getD-set-other (d .seats) s t r noSeat apart) (ap (own t) (take-filled m) ∙ e)
+
+other-effect : (d : Desk) (c : Call) (t : ℕ) → (t ≡ seatIn c → ⊥) → Untouched d (effect d c) t
+unfolding effect edited
+other-effect d (opening s job map) t n = other-seat d s t n _
+other-effect d (closing s) t n = other-records d s t n _ _ (own-other s t n 0 (live d))
+other-effect d (placing s p at) t n = other-records d s t n _ _ (other-added s (seatOf d s .standing) _ (live d) t n)
+other-effect d (moving s p at) t n = other-records d s t n _ _ (other-added s (seatOf d s .standing) _ (live d) t n)
+other-effect d (removing s p) t n = other-records d s t n _ _ (other-added s (seatOf d s .standing) _ (live d) t n)
+other-effect d (undoing s) t n = other-seat d s t n _
+other-effect d (redoing s) t n = other-seat d s t n _
+other-effect d (writing s room) t n = untouched-by d d t refl refl
+
+other-by : (d e : Desk) (t : ℕ) (b : Bool) → Untouched d e t → Untouched d (choose b e d) t
+unfolding choose
+other-by d e t true u = u
+other-by d e t false u = untouched-by d d t refl refl
+
+-- A call that names one seat leaves every other seat as it is: it opens or closes none, and changes no job, no pins, no standing and no taken-back edits there.
+pub other-seats-untouched : (d : Desk) (c : Call) (t : ℕ) → (t ≡ seatIn c → ⊥) → Untouched d (step d c .desk) t
+unfolding step
+other-seats-untouched d c t n = other-by d (effect d c) t (accepted (answerOf d c)) (other-effect d c t n)
+
+-- A refused call returns the very desk that it was given.
+pub refused-leaves-the-desk : (d : Desk) (c : Call) → accepted (step d c .verdict) ≡ false → step d c .desk ≡ d
+unfolding step
+refused-leaves-the-desk d c e = choose-no _ _ e
+
+same-either : {A : Type 0} (b : Bool) (a : A) → choose b a a ≡ a
+unfolding choose
+same-either true a = refl
+same-either false a = refl
+
+-- Writing leaves the desk as it is, accepted or not.
+pub writing-leaves-the-desk : (d : Desk) (s room : ℕ) → step d (writing s room) .desk ≡ d
+unfolding step effect
+writing-leaves-the-desk d s room = same-either (accepted (answerOf d (writing s room))) d
+
+pub written-leaves-the-desk : (d : Desk) (s : ℕ) (buffer : List ℕ) → writtenOf d s buffer .desk ≡ d
+unfolding writtenOf
+written-leaves-the-desk d s buffer = refl
+
+-- A refused writing leaves the lent buffer as it was, and writes no bytes.
+pub refused-leaves-the-buffer : (d : Desk) (s : ℕ) (buffer : List ℕ) → accepted (writtenOf d s buffer .verdict) ≡ false
+    → (bufferOf d s buffer ≡ buffer) × (writtenOf d s buffer .bytes ≡ 0)
+unfolding writtenOf bufferOf
+refused-leaves-the-buffer d s buffer e = (choose-no _ _ e, choose-no _ _ e)
+
+-- Undo and redo need no further record: the journal and the used count stay as they are.
+seat-alone : (d : Desk) (s : ℕ) (r : Seat) (b : Bool) → (choose b (withSeat d s r) d .journal ≡ d .journal) × (choose b (withSeat d s r) d .used ≡ d .used)
+unfolding choose
+seat-alone d s r true = (refl, refl)
+seat-alone d s r false = (refl, refl)
+
+pub undo-keeps-the-journal : (d : Desk) (s : ℕ) → (step d (undoing s) .desk .journal ≡ d .journal) × (step d (undoing s) .desk .used ≡ d .used)
+unfolding step effect
+undo-keeps-the-journal d s = seat-alone d s _ (accepted (answerOf d (undoing s)))
+
+pub redo-keeps-the-journal : (d : Desk) (s : ℕ) → (step d (redoing s) .desk .journal ≡ d .journal) × (step d (redoing s) .desk .used ≡ d .used)
+unfolding step effect
+redo-keeps-the-journal d s = seat-alone d s _ (accepted (answerOf d (redoing s)))

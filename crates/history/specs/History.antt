@@ -1,0 +1,139 @@
+-- The history of calls: what each seat's own calls come to, written from demand 3's sentences alone, with no journal in it.
+use mathlib.Core.Bool.{Bool, true, false}
+use mathlib.Core.List.{List, [], _∷_, map}
+use Prim.Native.Nat.{ℕ, _+_}
+use lib.ListN.{length, replicate, getD, set}
+use Rattle.refusal.specs.Tests.{choose}
+use Rattle.refusal.specs.Refusals.{accepted}
+use Rattle.refusal.specs.declared.Verdict.{Verdict}
+use Rattle.drawing.specs.declared.Pin.{Pin}
+use Rattle.drawing.specs.declared.Edit.{Edit}
+use Rattle.drawing.specs.Edits.{made, placed, moved, removed}
+use Rattle.pinmap.specs.Map.{readMap}
+use Rattle.journal.specs.Journal.{seats}
+use Rattle.desk.specs.declared.Desk.{Desk}
+use Rattle.desk.specs.Calls.{Call, seatIn, opening, closing, placing, moving, removing, undoing, redoing, writing}
+use Rattle.desk.specs.Refusals.{Look, verdictOf}
+use Rattle.desk.specs.Desk.{step}
+
+-- A seat is closed, or open with the job and the pins of its latest opening, its standing edits (the latest first) and its
+-- taken-back edits (the most recently taken back first).
+pub data Told : Type 0 where
+  shut : Told
+  opened : ℕ → List Pin → List Edit → List Edit → Told
+
+-- The pins of an opening with the standing edits made in order.
+unfoldable pub pinsBy : List Pin → List Edit → List Pin
+pinsBy first [] = first
+pinsBy first (e ∷ earlier) = made (pinsBy first earlier) e
+
+abbrev pub isOpen : Told → Bool
+isOpen shut = false
+isOpen (opened job first standing takenBack) = true
+
+abbrev pub jobIn : Told → ℕ
+jobIn shut = 0
+jobIn (opened job first standing takenBack) = job
+
+abbrev pub pinsIn : Told → List Pin
+pinsIn shut = []
+pinsIn (opened job first standing takenBack) = pinsBy first standing
+
+abbrev pub standingIn : Told → List Edit
+standingIn shut = []
+standingIn (opened job first standing takenBack) = standing
+
+abbrev pub takenBackIn : Told → List Edit
+takenBackIn shut = []
+takenBackIn (opened job first standing takenBack) = takenBack
+
+-- Standing and taken-back edits both occupy records.
+abbrev pub editsIn : Told → ℕ
+editsIn t = length (standingIn t) + length (takenBackIn t)
+
+unfoldable pub sum : List ℕ → ℕ
+sum [] = 0
+sum (n ∷ l) = n + sum l
+
+-- What is told of a seat; nothing is open above 7.
+abbrev pub toldOf : List Told → ℕ → Told
+toldOf h s = getD h s shut
+
+-- The used count is the sum, over open seats, of standing and taken-back edits.
+abbrev pub usedIn : List Told → ℕ
+usedIn h = sum (map editsIn h)
+
+-- What a call looks at, as the history gives it. A history is never broken.
+abbrev pub lookIn : List Told → ℕ → Look
+lookIn h s =
+    record {
+      broken = false;
+      seat = s;
+      «open» = isOpen (toldOf h s);
+      job = jobIn (toldOf h s);
+      pins = pinsIn (toldOf h s);
+      standing = length (standingIn (toldOf h s));
+      takenBack = length (takenBackIn (toldOf h s));
+      jobs = map jobIn h;
+      used = usedIn h;
+    }
+
+-- A new edit stands, and discards those taken back.
+unfoldable pub anew : Edit → Told → Told
+anew e shut = shut
+anew e (opened job first standing takenBack) = opened job first (e ∷ standing) []
+
+-- Undo takes back the latest standing edit.
+unfoldable pub undone : Told → Told
+undone shut = shut
+undone (opened job first [] takenBack) = opened job first [] takenBack
+undone (opened job first (e ∷ standing) takenBack) = opened job first standing (e ∷ takenBack)
+
+-- Redo makes the most recently taken-back edit stand again.
+unfoldable pub redone : Told → Told
+redone shut = shut
+redone (opened job first standing []) = opened job first standing []
+redone (opened job first standing (e ∷ takenBack)) = opened job first (e ∷ standing) takenBack
+
+-- What an accepted call makes of its own seat.
+unfoldable pub next : Call → Told → Told
+next (opening s job map) t = opened job (readMap map job .pins) [] []
+next (closing s) t = shut
+next (placing s p at) t = anew (placed p at) t
+next (moving s p at) t = anew (moved (pinsIn t) p at) t
+next (removing s p) t = anew (removed (pinsIn t) p) t
+next (undoing s) t = undone t
+next (redoing s) t = redone t
+next (writing s room) t = t
+
+-- What a call is answered by the history.
+unfoldable pub answerIn : List Told → Call → Verdict
+answerIn h c = verdictOf (lookIn h (seatIn c)) c
+
+-- An accepted call changes its own seat, and nothing else; a refused one changes nothing.
+unfoldable pub tell : List Told → Call → List Told
+tell h c = choose (accepted (answerIn h c)) (set h (seatIn c) (next c (toldOf h (seatIn c)))) h
+
+-- Before any call all seats are closed.
+abbrev pub nothing : List Told
+nothing = replicate seats shut
+
+-- The history after any calls, the first call first.
+unfoldable pub history : List Told → List Call → List Told
+history h [] = h
+history h (c ∷ calls) = history (tell h c) calls
+
+-- The desk after any calls.
+unfoldable pub after : Desk → List Call → Desk
+after d [] = d
+after d (c ∷ calls) = after (step d c .desk) calls
+
+-- What any calls are answered on a desk.
+unfoldable pub answers : Desk → List Call → List Verdict
+answers d [] = []
+answers d (c ∷ calls) = step d c .verdict ∷ answers (step d c .desk) calls
+
+-- What any calls are answered by the history.
+unfoldable pub answersIn : List Told → List Call → List Verdict
+answersIn h [] = []
+answersIn h (c ∷ calls) = answerIn h c ∷ answersIn (tell h c) calls

@@ -1,0 +1,2 @@
+-- The history of calls.
+pub mod History
