@@ -5,3 +5,4 @@ mod Jobs
 mod Tests
 mod Steps
 mod Writing
+mod Worked
