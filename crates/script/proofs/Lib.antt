@@ -1,0 +1,7 @@
+-- What is proved of lines and answers beside the functions' contracts.
+pub mod Steps
+pub mod Cutting
+pub mod Values
+pub mod Asking
+pub mod Printing
+pub mod Worked

@@ -1,0 +1,179 @@
+-- Digits put one by one, and pieces put one after another, come to the lines of an answer. Assumes nothing.
+use mathlib.Core.Path.{_≡_, refl, sym, _∙_, ap}
+use mathlib.Core.Bool.{Bool, true, false}
+use mathlib.Core.List.{List, [], _∷_, _++_}
+use Prim.Native.Nat.{ℕ, zero, suc, _+_, _-_, _*_, _/_, _%_, _^_, _≤_, _<_, min}
+use native.Mathlib.Nat.{add-zero, pow-suc}
+use native.Mathlib.Omega.{arith}
+use lib.IntN.{ℤ, pos, negsuc, natAbs}
+use lib.Signed.{ltZ}
+use lib.Dec.{ltb, eqb, lit<}
+use borrow.Author.Needs.{sfits-of}
+use lib.ListN.{length, take, drop, getD, set, length-append}
+use lib.Seq.{sets, take-suc, take-all, length-take-le}
+use native.Mathlib.Numerals.{add-one}
+use mir.Syntax.{w32}
+use mir.Val.{ofZ, SFits}
+use borrow.Author.Tests.{lt-ltb, le-ltb, ltb-true, eq-eqb, ne-eqb}
+use Rattle.refusal.specs.Tests.{choose}
+use Rattle.grid.proofs.Signed.{rd, lt-rd, I32}
+use Rattle.script.specs.Text.{text, over}
+use Rattle.refusal.specs.declared.Told.{Told}
+use Rattle.script.specs.Answers.{shown, decimal, integer, field, hexDigit, hex, hexPart, carriedText, toldLine}
+use Rattle.script.proofs.Steps.{order, front, sets-more}
+use mathlib.Core.Logic.{_⊎_, inl, inr}
+
+-- A number of one digit, and one of more.
+pub decimal-small : (n : ℕ) → n < 10 → (48 + n) ∷ [] ≡ decimal n
+unfolding shown choose
+decimal-small n h = rw (lt-ltb n 10 h)
+
+shown-step : (k n : ℕ) → 10 ≤ n → shown k (n / 10) ++ ((48 + n % 10) ∷ []) ≡ shown (suc k) n
+unfolding shown choose
+shown-step k n h = rw (le-ltb n 10 h)
+
+shown-small : (k n : ℕ) → n < 10 → (48 + n) ∷ [] ≡ shown (suc k) n
+unfolding shown choose
+shown-small k n h = rw (lt-ltb n 10 h)
+
+-- Room for more digits than a number has changes nothing.
+more-by : (k n : ℕ) → ((n / 10 < 10 ^ k) → shown k (n / 10) ≡ shown (suc k) (n / 10)) → n < 10 ^ suc k → (10 ≤ n) ⊎ (n < 10) → shown (suc k) n ≡ shown (suc (suc k)) n
+more-by k n ih h (inl s) =
+    sym (shown-step k n s)
+    ∙ ap (λ (l : List ℕ). l ++ ((48 + n % 10) ∷ [])) (ih (omega (arith, pow-suc 10 k)))
+    ∙ shown-step (suc k) n s
+more-by k n ih h (inr s) = sym (shown-small k n s) ∙ shown-small (suc k) n s
+
+shown-more : (k n : ℕ) → n < 10 ^ suc k → shown (suc k) n ≡ shown (suc (suc k)) n
+shown-more zero n h = sym (shown-small 0 n (omega (arith, pow-suc 10 0))) ∙ shown-small 1 n (omega (arith, pow-suc 10 0))
+shown-more (suc k) n h = more-by (suc k) n (shown-more k (n / 10)) h (order 10 n)
+
+pub decimal-large : (n : ℕ) → 10 ≤ n → n < 18446744073709551616 → decimal (n / 10) ++ ((48 + n % 10) ∷ []) ≡ decimal n
+decimal-large n h k =
+    ap (λ (l : List ℕ). l ++ ((48 + n % 10) ∷ [])) (sym (shown-more 18 (n / 10) (omega arith)))
+    ∙ shown-step 19 n h
+
+shown-short : (k n : ℕ) → length (shown k n) ≤ k
+unfolding shown choose
+shown-short zero n = omega arith
+shown-short (suc k) n = by (ltb n 10) (shown-short k (n / 10))
+  where
+    by : (t : Bool) → length (shown k (n / 10)) ≤ k → length (choose t ((48 + n) ∷ []) (shown k (n / 10) ++ ((48 + n % 10) ∷ []))) ≤ suc k
+    by true h = omega arith
+    by false h = omega (arith, length-append (shown k (n / 10)) ((48 + n % 10) ∷ []))
+
+pub decimal-short : (n : ℕ) → length (decimal n) ≤ 20
+decimal-short n = shown-short 20 n
+
+pub decimal-rest : (n : ℕ) → n < 18446744073709551616 → length (decimal (n / 10)) ≤ 19
+decimal-rest n h = rw (← (shown-more 18 (n / 10) (omega arith))) (shown-short 19 (n / 10))
+
+-- The last digit put after the others.
+module _ (o : List ℕ) (at n : ℕ) where
+  pub put-small : n < 10 → (at + 1 ≡ at + length (decimal n)) × (set o at (48 + n) ≡ sets o at (decimal n))
+  put-small h =
+      (ap (λ (d : List ℕ). at + length d) (decimal-small n h), ap (sets o at) (decimal-small n h))
+
+  pub put-large : {next : ℕ} {p : List ℕ} → 10 ≤ n → n < 18446744073709551616 → next ≡ at + length (decimal (n / 10)) → p ≡ sets o at (decimal (n / 10))
+      → (next + 1 ≡ at + length (decimal n)) × (set p next (48 + n % 10) ≡ sets o at (decimal n))
+  put-large {next} {p} h k e f =
+      ( omega (arith, e, length-append (decimal (n / 10)) ((48 + n % 10) ∷ []), ap length (decimal-large n h k))
+      , rw (f, e) (sets-more o at (decimal (n / 10)) (48 + n % 10) ∙ ap (sets o at) (decimal-large n h k)))
+
+-- Pieces put one after another.
+pub sets-append : (o : List ℕ) (at : ℕ) (p q : List ℕ) → sets (sets o at p) (at + length p) q ≡ sets o at (p ++ q)
+sets-append o at [] q = rw (add-zero at)
+sets-append o at (a ∷ p) q =
+    let e : at + suc (length p) ≡ suc at + length p = omega arith in
+    rw e (sets-append (set o at a) (suc at) p q)
+
+-- A piece was put from a position on: where it ends, and what the buffer holds.
+abbrev pub Put : List ℕ → ℕ → List ℕ → ℕ → List ℕ → Type 0
+Put o at p n v = (n ≡ at + length p) × (v ≡ sets o at p)
+
+pub then-put : (o : List ℕ) (at : ℕ) {m n : ℕ} {u v : List ℕ} (p q : List ℕ) → Put o at p m u → Put u m q n v → Put o at (p ++ q) n v
+then-put o at p q h k =
+    (omega (arith, h .0, k .0, length-append p q), k .1 ∙ rw (h .1, h .0) (sets-append o at p q))
+
+pub lined : (o : List ℕ) (p : List ℕ) {n : ℕ} {v : List ℕ} → Put o 0 p n v → (n ≡ length p) × (v ≡ over p o)
+lined o p h = (omega (arith, h .0), h .1)
+
+-- A number below zero, and how far it is.
+pub below-abs : (z : ℤ) → SFits w32 z → ltZ (rd z) (pos 0) ≡ true → 4294967295 - ofZ w32 z + 1 ≡ natAbs z
+below-abs (pos k) h e = absurd (omega (arith, ltb-true k 0 (lt-rd {a = pos k} {b = pos 0} h (sfits-of (lit< tt)) e)))
+below-abs (negsuc k) h e = omega (arith, h .sfits)
+
+-- Hex digits.
+pub hex-low : (d : ℕ) → d < 10 → 48 + d ≡ hexDigit d
+unfolding hexDigit choose
+hex-low d h = rw (lt-ltb d 10 h)
+
+pub hex-high : (d : ℕ) → 10 ≤ d → 87 + d ≡ hexDigit d
+unfolding hexDigit choose
+hex-high d h = rw (le-ltb d 10 h)
+
+-- Bytes put as hex digits, two at a time.
+pub hex-length : (l : List ℕ) → length (hex l) ≡ length l * 2
+unfolding hex
+hex-length [] = refl
+hex-length (b ∷ rest) = omega (arith, hex-length rest)
+
+hex-snoc : (l : List ℕ) (b : ℕ) → hex (l ++ (b ∷ [])) ≡ hex l ++ (hexDigit (b / 16) ∷ []) ++ (hexDigit (b % 16) ∷ [])
+unfolding hex
+hex-snoc [] b = refl
+hex-snoc (a ∷ rest) b = ap (λ (l : List ℕ). hexDigit (a / 16) ∷ hexDigit (a % 16) ∷ l) (hex-snoc rest b)
+
+pub hex-more : (o l : List ℕ) (at i : ℕ) → i < length l
+    → set (set (sets o at (hex (take i l))) (at + i * 2) (hexDigit (getD l i 0 / 16))) (at + i * 2 + 1) (hexDigit (getD l i 0 % 16)) ≡ sets o at (hex (take (i + 1) l))
+hex-more o l at i h =
+    let n : i * 2 ≡ length (hex (take i l)) = omega (arith, hex-length (take i l), length-take-le i l (omega arith)) in
+    let x : ℕ = hexDigit (getD l i 0 / 16) in
+    let y : ℕ = hexDigit (getD l i 0 % 16) in
+    let m : at + i * 2 + 1 ≡ at + length (hex (take i l) ++ (x ∷ [])) = omega (arith, n, length-append (hex (take i l)) (x ∷ [])) in
+    let t : take i l ++ (getD l i 0 ∷ []) ≡ take (i + 1) l = rw (add-one i, take-suc l i 0 h) in
+    ap (λ (k : ℕ). set (set (sets o at (hex (take i l))) (at + k) x) (at + i * 2 + 1) y) n
+    ∙ ap (λ (w : List ℕ). set w (at + i * 2 + 1) y) (sets-more o at (hex (take i l)) x)
+    ∙ ap (λ (k : ℕ). set (sets o at (hex (take i l) ++ (x ∷ []))) k y) m
+    ∙ sets-more o at (hex (take i l) ++ (x ∷ [])) y
+    ∙ ap (sets o at) (sym (hex-snoc (take i l) (getD l i 0)) ∙ ap hex t)
+
+-- A piece that reads as another.
+pub put-as : (o : List ℕ) (at : ℕ) {n : ℕ} {v : List ℕ} {p q : List ℕ} → p ≡ q → Put o at p n v → Put o at q n v
+put-as o at e h = (h .0 ∙ ap (λ (l : List ℕ). at + length l) e, h .1 ∙ ap (sets o at) e)
+
+-- A number with its sign, below zero and not.
+pub integer-below : (z : ℤ) → SFits w32 z → ltZ (rd z) (pos 0) ≡ true → text "-" ++ decimal (natAbs z) ≡ integer z
+unfolding integer choose
+integer-below z h e = rw (lt-rd {a = z} {b = pos 0} h (sfits-of (lit< tt)) e)
+
+pub integer-above : (z : ℤ) → SFits w32 z → ltZ (rd z) (pos 0) ≡ false → decimal (natAbs z) ≡ integer z
+unfolding integer choose
+integer-above z h e = rw (lt-rd {a = z} {b = pos 0} h (sfits-of (lit< tt)) e)
+
+-- A verdict that is accepted, and one that is not; the buffer of a writing.
+pub told-zero : (t : Told) → t .number ≡ 0 → text "0\n" ≡ toldLine t
+unfolding toldLine choose
+told-zero t h = rw (eq-eqb (t .number) 0 h)
+
+pub told-refused : (t : Told) → (t .number ≡ 0 → ⊥) → field "refused " (t .number) ++ carriedText (t .carried) ++ text "\n" ≡ toldLine t
+unfolding toldLine choose
+told-refused t h = rw (ne-eqb (t .number) 0 h)
+
+pub lent-none : (l : List ℕ) → length l ≡ 0 → [] ≡ hexPart l
+unfolding hexPart
+lent-none [] h = refl
+lent-none (b ∷ rest) h = absurd (omega arith)
+
+pub lent-some : (l : List ℕ) → (length l ≡ 0 → ⊥) → text " " ++ hex l ≡ hexPart l
+unfolding hexPart
+lent-some [] h = absurd (h refl)
+lent-some (b ∷ rest) h = refl
+
+pub take-least : (l : List ℕ) (n : ℕ) → take (min (length l) n) l ≡ take n l
+take-least l n = by (order n (length l))
+  where
+    by : (n ≤ length l) ⊎ (length l < n) → take (min (length l) n) l ≡ take n l
+    by (inl h) =
+        let e : min (length l) n ≡ n = omega arith in
+        ap (λ (k : ℕ). take k l) e
+    by (inr h) = take-all (min (length l) n) l (omega arith) ∙ sym (take-all n l (omega arith))

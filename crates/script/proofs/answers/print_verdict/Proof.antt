@@ -1,0 +1,26 @@
+-- `script::print_verdict` meets its contract. Assumes nothing.
+use mathlib.Core.Path.{_≡_, refl, sym, _∙_, ap}
+use mathlib.Core.List.{List, [], _++_}
+use Prim.Native.Nat.{ℕ, _+_}
+use native.Mathlib.Omega.{arith}
+use Rattle.script.proofs.Printing.{lined}
+use Rattle.script.specs.Text.{text}
+use Rattle.script.specs.Answers.{toldLine}
+use lib.ListN.{length}
+use Rattle.script.specs.Text.{over}
+use Rattle.refusal.specs.declared.Told.{Told}
+use borrow.Author.Needs.{needs}
+use Rattle.script.proofs.answers.print_verdict.Statement.{statement}
+use Rattle.script.proofs.answers.print_verdict.Tie as tie
+
+tell-requires : tie.Need-tell-requires
+tell-requires c κs = search needs
+
+print-told-requires : tie.Need-print-told-requires
+print-told-requires c κs = search needs
+
+returns : tie.Need-returns
+returns c = (c .print-told .ensures .0 ∙ ap (λ (t : Told). length (toldLine t)) (c .before .before .tell .ensures), c .print-told .ensures .1 ∙ ap (λ (t : Told). over (toldLine t) (c .before .before .before .args .out .now)) (c .before .before .tell .ensures))
+
+pub print-verdict-spec : {M : Type 1} → statement M
+print-verdict-spec = tie.close (tie.spec tell-requires print-told-requires returns)

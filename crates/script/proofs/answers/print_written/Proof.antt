@@ -1,0 +1,51 @@
+-- `script::print_written` meets its contract. Assumes nothing.
+use mathlib.Core.Path.{_≡_, refl, sym, _∙_, ap}
+use mathlib.Core.List.{List, [], _++_}
+use Prim.Native.Nat.{ℕ, _+_}
+use native.Mathlib.Omega.{arith}
+use Rattle.script.proofs.Printing.{then-put, put-as, lined, take-least}
+use Rattle.script.specs.Text.{text}
+use Rattle.script.specs.Answers.{field, hexPart, writtenLine}
+use lib.ListN.{length, take}
+use lib.Seq.{length-take-le}
+use borrow.Author.Needs.{needs}
+use Rattle.script.proofs.answers.print_written.Statement.{statement}
+use Rattle.script.proofs.answers.print_written.Tie as tie
+
+least-requires : tie.Need-least-requires
+least-requires c κs = search needs
+
+slice-aggregate-put-field : tie.Need-slice-aggregate-put-field
+slice-aggregate-put-field c = search needs
+
+put-field-requires : tie.Need-put-field-requires
+put-field-requires c κs = search needs
+
+slice-aggregate-put-lent : tie.Need-slice-aggregate-put-lent
+slice-aggregate-put-lent c = sym (length-take-le (c .before .before .before .before .before .least .result) (c .before .before .before .before .before .before .before .args .buffer .now) (omega (arith, c .before .before .before .before .before .least .ensures)))
+
+put-lent-requires : tie.Need-put-lent-requires
+put-lent-requires c κs = (omega (arith, c .before .before .put-field .ensures .0 .1), omega (arith, c .before .before .before .before .before .least .ensures, length-take-le (c .before .before .before .before .before .least .result) (c .before .before .before .before .before .before .before .args .buffer .now) (omega (arith, c .before .before .before .before .before .least .ensures))))
+
+slice-aggregate-put : tie.Need-slice-aggregate-put
+slice-aggregate-put c = search needs
+
+put-requires : tie.Need-put-requires
+put-requires c κs = omega (arith, c .before .before .put-lent .ensures .0 .1, c .before .before .before .before .before .put-field .ensures .0 .1)
+
+returns : tie.Need-returns
+unfolding writtenLine
+returns c = lined (c .before .before .before .before .before .before .before .before .before .before .before .args .out .now) (field "0 " (c .before .before .before .before .before .before .before .before .before .before .before .args .bytes) ++ hexPart (take 1024 (c .before .before .before .before .before .before .before .before .before .before .before .args .buffer .now)) ++ text "\n") (then-put (c .before .before .before .before .before .before .before .before .before .before .before .args .out .now) 0 (field "0 " (c .before .before .before .before .before .before .before .before .before .before .before .args .bytes) ++ hexPart (take 1024 (c .before .before .before .before .before .before .before .before .before .before .before .args .buffer .now))) (text "\n") (then-put (c .before .before .before .before .before .before .before .before .before .before .before .args .out .now) 0 (field "0 " (c .before .before .before .before .before .before .before .before .before .before .before .args .bytes)) (hexPart (take 1024 (c .before .before .before .before .before .before .before .before .before .before .before .args .buffer .now))) (c .before .before .before .before .before .before .put-field .ensures .0 .0, c .before .before .before .before .before .before .put-field .ensures .1) (put-as (c .before .before .before .before .before .before .put-field .last .0) (c .before .before .before .before .before .before .put-field .result) (ap hexPart (ap (λ (n : ℕ). take n (c .before .before .before .before .before .before .before .before .before .before .before .args .buffer .now)) (c .before .before .before .before .before .before .before .before .before .least .ensures) ∙ take-least (c .before .before .before .before .before .before .before .before .before .before .before .args .buffer .now) 1024)) (c .before .before .before .put-lent .ensures .0 .0, c .before .before .before .put-lent .ensures .1))) (c .put .ensures))
+
+pub print-written-spec : {M : Type 1} → statement M
+print-written-spec =
+    tie.close
+    (tie.spec
+    least-requires
+    slice-aggregate-put-field
+    put-field-requires
+    slice-aggregate-put-lent
+    put-lent-requires
+    slice-aggregate-put
+    put-requires
+    returns)

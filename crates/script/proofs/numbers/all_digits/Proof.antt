@@ -1,0 +1,56 @@
+-- `script::all_digits` meets its contract. Assumes nothing.
+use mathlib.Core.Path.{_≡_, refl, sym, _∙_, ap}
+use Prim.Native.Nat.{_≤_, _-_, _+_, _*_, min}
+use native.Mathlib.Omega.{arith}
+use borrow.Author.Needs.{needs}
+use lib.ListN.{length, take, drop, getD}
+use Rattle.script.proofs.Values.{digits-next, digits-stop, digits-end}
+use Rattle.script.specs.Numbers.{allDigits}
+use borrow.Author.Tests.{not-true, not-false}
+use Rattle.script.proofs.numbers.all_digits.Statement.{statement}
+use Rattle.script.proofs.numbers.all_digits.Tie as tie
+
+abbrev Inv-loop : tie.InvT-loop
+Inv-loop word i₀ i = (i ≤ length word) × (allDigits word ≡ allDigits (drop i word))
+
+abbrev μ-loop : tie.MeasureT-loop
+μ-loop word i₀ i = length word - i
+
+loop-holds : tie.Need-loop-holds Inv-loop μ-loop
+loop-holds c = (omega arith, refl)
+
+shared-slice-read-between : tie.Need-shared-slice-read-between Inv-loop μ-loop
+shared-slice-read-between c = omega arith
+
+between-requires : tie.Need-between-requires Inv-loop μ-loop
+between-requires c κs = search needs
+
+returns : tie.Need-returns Inv-loop μ-loop
+returns c = sym (c .before .before .before .before .loop .inv .1 ∙ digits-stop (c .before .before .before .before .before .before .args .word .now) (c .before .before .before .before .loop .i) (c .before .before .before .loop-test .taken) (sym (c .before .between .ensures) ∙ not-true (c .before .between .result) (c .if1 .taken)))
+
+add-i : tie.Need-add-i Inv-loop μ-loop
+add-i c = omega arith
+
+loop-less : tie.Need-loop-less Inv-loop μ-loop
+loop-less c = omega arith
+
+loop-again : tie.Need-loop-again Inv-loop μ-loop
+loop-again c = (omega arith, c .before .before .before .before .loop .inv .1 ∙ digits-next (c .before .before .before .before .before .before .args .word .now) (c .before .before .before .before .loop .i) (c .before .before .before .loop-test .taken) (sym (c .before .between .ensures) ∙ not-false (c .before .between .result) (c .if1 .left)))
+
+returns-2 : tie.Need-returns-2 Inv-loop μ-loop
+returns-2 c = sym (c .before .loop .inv .1 ∙ digits-end (c .before .before .before .args .word .now) (c .before .loop .i) (c .loop-test .left))
+
+pub all-digits-spec : {M : Type 1} → statement M
+all-digits-spec =
+    tie.close
+    (tie.spec
+    Inv-loop
+    μ-loop
+    loop-holds
+    shared-slice-read-between
+    between-requires
+    returns
+    add-i
+    loop-less
+    loop-again
+    returns-2)

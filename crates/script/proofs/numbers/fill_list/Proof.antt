@@ -1,0 +1,30 @@
+-- `script::fill_list` meets its contract. Assumes nothing.
+use Rattle.script.proofs.Values.{listed-length}
+use mathlib.Core.List.{List}
+use lib.IntN.{ℤ}
+use lib.ListN.{length}
+use Rattle.script.specs.Text.{over}
+use mathlib.Core.Path.{_≡_, refl, sym, _∙_, ap}
+use Rattle.script.proofs.Values.{list-row, listed-none, listed-row}
+use borrow.Author.Needs.{needs}
+use Rattle.script.proofs.numbers.fill_list.Statement.{statement}
+use Rattle.script.proofs.numbers.fill_list.Tie as tie
+
+slice-aggregate-same : tie.Need-slice-aggregate-same
+slice-aggregate-same c = search needs
+
+same-requires : tie.Need-same-requires
+same-requires c κs = search needs
+
+returns : tie.Need-returns
+returns c = (ap length (listed-none (c .before .before .before .before .args .word .now) (sym (c .before .same .ensures) ∙ c .if1 .taken)), ap (λ (l : List ℤ). over l (c .before .before .before .before .args .values .now)) (listed-none (c .before .before .before .before .args .word .now) (sym (c .before .same .ensures) ∙ c .if1 .taken)))
+
+fill-row-requires : tie.Need-fill-row-requires
+fill-row-requires c κs = list-row (c .before .before .before .before .before .args .word .now) (sym (c .before .before .same .ensures) ∙ c .before .if1 .left) ∙ c .before .before .before .before .before .pre
+
+returns-2 : tie.Need-returns-2
+returns-2 c = (c .fill-row .ensures .0 ∙ listed-length (c .before .before .before .before .before .before .args .word .now) (sym (c .before .before .before .same .ensures) ∙ c .before .before .if1 .left), c .fill-row .ensures .1 ∙ ap (λ (l : List ℤ). over l (c .before .before .before .before .before .before .args .values .now)) (listed-row (c .before .before .before .before .before .before .args .word .now) (sym (c .before .before .before .same .ensures) ∙ c .before .before .if1 .left)))
+
+pub fill-list-spec : {M : Type 1} → statement M
+fill-list-spec =
+    tie.close (tie.spec slice-aggregate-same same-requires returns fill-row-requires returns-2)

@@ -1,0 +1,82 @@
+-- `script::fill_map` meets its contract. Assumes nothing.
+use Rattle.script.specs.Text.{over}
+use mathlib.Core.Path.{_≡_, refl, sym, _∙_, ap}
+use mathlib.Core.List.{_++_}
+use Prim.Native.Nat.{_≤_, _-_, _+_, _*_, min}
+use native.Mathlib.Omega.{arith}
+use borrow.Author.Needs.{needs}
+use lib.ListN.{length, take, drop, getD}
+use Rattle.script.proofs.Steps.{fill-more, fill-done}
+use Rattle.script.proofs.Values.{bytes-next, bytes-end}
+use Rattle.script.specs.Numbers.{bytesOf}
+use Rattle.script.proofs.numbers.fill_map.Statement.{statement}
+use Rattle.script.proofs.numbers.fill_map.Tie as tie
+
+abbrev Inv-loop : tie.InvT-loop
+Inv-loop word map₀ at₀ map at = (at * 2 ≤ length word) × (at ≤ length (bytesOf word)) × (map ≡ over (take at (bytesOf word)) map₀)
+
+abbrev μ-loop : tie.MeasureT-loop
+μ-loop word map₀ at₀ map at = length word - at * 2
+
+loop-holds : tie.Need-loop-holds Inv-loop μ-loop
+loop-holds c = (omega arith, omega arith, refl)
+
+mul-loop : tie.Need-mul-loop Inv-loop μ-loop
+mul-loop c = omega arith
+
+add-loop : tie.Need-add-loop Inv-loop μ-loop
+add-loop c = omega arith
+
+mul-joined : tie.Need-mul-joined Inv-loop μ-loop
+mul-joined c = omega arith
+
+shared-slice-read-joined : tie.Need-shared-slice-read-joined Inv-loop μ-loop
+shared-slice-read-joined c = omega arith
+
+mul-joined-2 : tie.Need-mul-joined-2 Inv-loop μ-loop
+mul-joined-2 c = omega arith
+
+add-joined : tie.Need-add-joined Inv-loop μ-loop
+add-joined c = omega arith
+
+shared-slice-read-joined-2 : tie.Need-shared-slice-read-joined-2 Inv-loop μ-loop
+shared-slice-read-joined-2 c = omega arith
+
+joined-requires : tie.Need-joined-requires Inv-loop μ-loop
+joined-requires c κs = search needs
+
+element-write-map : tie.Need-element-write-map Inv-loop μ-loop
+element-write-map c = omega arith
+
+add-at : tie.Need-add-at Inv-loop μ-loop
+add-at c = omega arith
+
+loop-less : tie.Need-loop-less Inv-loop μ-loop
+loop-less c = omega arith
+
+loop-again : tie.Need-loop-again Inv-loop μ-loop
+loop-again c = (omega arith, omega (arith, (fill-more 0 (bytesOf (c .before .before .before .before .before .before .args .word .now)) (c .before .before .before .before .before .before .args .map .now) (c .before .before .before .before .loop .at) (bytes-next (c .before .before .before .before .before .before .args .word .now) (c .before .before .before .before .loop .at) (c .before .before .before .loop-test .taken))) .1), rw (c .before .before .before .before .loop .inv .2, c .joined .ensures) ((fill-more 0 (bytesOf (c .before .before .before .before .before .before .args .word .now)) (c .before .before .before .before .before .before .args .map .now) (c .before .before .before .before .loop .at) (bytes-next (c .before .before .before .before .before .before .args .word .now) (c .before .before .before .before .loop .at) (c .before .before .before .loop-test .taken))) .0))
+
+returns : tie.Need-returns Inv-loop μ-loop
+returns c = ((fill-done (bytesOf (c .before .before .before .args .word .now)) (c .before .before .before .args .map .now) (c .before .loop .at) (c .before .loop .inv .1) (bytes-end (c .before .before .before .args .word .now) (c .before .loop .at) (c .loop-test .left))) .0, c .before .loop .inv .2 ∙ (fill-done (bytesOf (c .before .before .before .args .word .now)) (c .before .before .before .args .map .now) (c .before .loop .at) (c .before .loop .inv .1) (bytes-end (c .before .before .before .args .word .now) (c .before .loop .at) (c .loop-test .left))) .1)
+
+pub fill-map-spec : {M : Type 1} → statement M
+fill-map-spec =
+    tie.close
+    (tie.spec
+    Inv-loop
+    μ-loop
+    loop-holds
+    mul-loop
+    add-loop
+    mul-joined
+    shared-slice-read-joined
+    mul-joined-2
+    add-joined
+    shared-slice-read-joined-2
+    joined-requires
+    element-write-map
+    add-at
+    loop-less
+    loop-again
+    returns)

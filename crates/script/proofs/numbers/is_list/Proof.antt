@@ -1,0 +1,25 @@
+-- `script::is_list` meets its contract. Assumes nothing.
+use mathlib.Core.Path.{_≡_, refl, sym, _∙_, ap}
+use Rattle.script.proofs.Values.{list-none, list-row}
+use borrow.Author.Needs.{needs}
+use Rattle.script.proofs.numbers.is_list.Statement.{statement}
+use Rattle.script.proofs.numbers.is_list.Tie as tie
+
+slice-aggregate-same : tie.Need-slice-aggregate-same
+slice-aggregate-same c = search needs
+
+same-requires : tie.Need-same-requires
+same-requires c κs = search needs
+
+returns : tie.Need-returns
+returns c = list-none (c .before .before .before .before .args .word .now) (sym (c .before .same .ensures) ∙ c .if1 .taken)
+
+is-row-requires : tie.Need-is-row-requires
+is-row-requires c κs = search needs
+
+returns-2 : tie.Need-returns-2
+returns-2 c = c .is-row .ensures ∙ list-row (c .before .before .before .before .before .args .word .now) (sym (c .before .before .same .ensures) ∙ c .before .if1 .left)
+
+pub is-list-spec : {M : Type 1} → statement M
+is-list-spec =
+    tie.close (tie.spec slice-aggregate-same same-requires returns is-row-requires returns-2)

@@ -1,0 +1,24 @@
+-- `script::negated` meets its contract. Assumes nothing.
+use mathlib.Core.Path.{_≡_, refl, sym, _∙_, ap}
+use Prim.Native.Nat.{_≤_, _-_, _+_, _*_, min}
+use native.Mathlib.Omega.{arith}
+use lib.ListN.{length, take, drop, getD}
+use Rattle.script.proofs.Values.{neg-complement}
+use borrow.Author.Needs.{needs}
+use Rattle.script.proofs.numbers.negated.Statement.{statement}
+use Rattle.script.proofs.numbers.negated.Tie as tie
+
+returns : tie.Need-returns
+returns c = rw (c .if1 .taken)
+
+sub-result : tie.Need-sub-result
+sub-result c = search needs
+
+cast-result : tie.Need-cast-result
+cast-result c = search needs
+
+returns-2 : tie.Need-returns-2
+returns-2 c = neg-complement (c .before .args .n) (c .if1 .left) (c .before .pre)
+
+pub negated-spec : {M : Type 1} → statement M
+negated-spec = tie.close (tie.spec returns sub-result cast-result returns-2)

@@ -1,0 +1,33 @@
+-- `script::signed_of` meets its contract. Assumes nothing.
+use Rattle.grid.proofs.Signed.{held}
+use mathlib.Core.Bool.{Bool, true, false}
+use Prim.Native.Nat.{ℕ}
+use mathlib.Core.Path.{_≡_, refl, sym, _∙_, ap}
+use Prim.Native.Nat.{_≤_, _-_, _+_, _*_, min}
+use native.Mathlib.Omega.{arith}
+use lib.ListN.{length, take, drop, getD}
+use Rattle.script.proofs.Values.{coordinate-read, coordinate-unread}
+use borrow.Author.Needs.{needs}
+use Rattle.script.proofs.numbers.signed_of.Statement.{statement}
+use Rattle.script.proofs.numbers.signed_of.Tie as tie
+
+coordinate-requires : tie.Need-coordinate-requires
+coordinate-requires c κs = search needs
+
+enum-known-z : tie.Need-enum-known-z
+enum-known-z c = search needs
+
+enum-told : tie.Need-enum-told
+enum-told c = search needs
+
+clash : {t : Bool} → t ≡ false → t ≡ true → ⊥
+clash p q = let z : _≡_ {A = ℕ} 0 1 = cc in omega arith
+
+returns : tie.Need-returns
+returns c = held (c .before .z .given .0 .0) (c .known-told .given .0 .1) ∙ coordinate-read (c .before .before .before .before .before .args .word .now) (sym (c .before .z .given .1) ∙ c .before .before .before .coordinate .ensures) .1
+
+returns-2 : tie.Need-returns-2
+returns-2 c = absurd (clash (coordinate-unread (c .before .before .before .before .args .word .now) (sym (c .enum-told .given .1) ∙ c .before .before .coordinate .ensures)) (c .before .before .before .before .pre))
+
+pub signed-of-spec : {M : Type 1} → statement M
+signed-of-spec = tie.close (tie.spec coordinate-requires enum-known-z enum-told returns returns-2)

@@ -1,0 +1,27 @@
+-- `script::read_remove` meets its contract. Assumes nothing.
+use mathlib.Core.Path.{_≡_, refl, sym, _∙_, ap}
+use native.Mathlib.Omega.{arith}
+use Rattle.script.proofs.Asking.{only-no, only-yes}
+use Rattle.script.proofs.Values.{number-read, number-unread}
+use Rattle.script.specs.declared.Order.{Order}
+use borrow.Author.Needs.{needs}
+use Rattle.script.proofs.orders.read_remove.Statement.{statement}
+use Rattle.script.proofs.orders.read_remove.Tie as tie
+
+number-requires : tie.Need-number-requires
+number-requires c κs = search needs
+
+enum-known-pin : tie.Need-enum-known-pin
+enum-known-pin c = search needs
+
+enum-told : tie.Need-enum-told
+enum-told c = search needs
+
+returns : tie.Need-returns
+returns c = only-no _ (number-unread 4294967295 (c .before .before .before .before .args .b .now) (sym (c .enum-told .given .1) ∙ c .before .before .number .ensures))
+
+returns-2 : tie.Need-returns-2
+returns-2 c = only-yes (number-read 4294967295 (c .before .before .before .before .before .args .b .now) (sym (c .before .pin .given .1) ∙ c .before .before .before .number .ensures) .0) (ap (Order.Remove (c .before .before .before .before .before .args .seat)) (number-read 4294967295 (c .before .before .before .before .before .args .b .now) (sym (c .before .pin .given .1) ∙ c .before .before .before .number .ensures) .1))
+
+pub read-remove-spec : {M : Type 1} → statement M
+read-remove-spec = tie.close (tie.spec number-requires enum-known-pin enum-told returns returns-2)

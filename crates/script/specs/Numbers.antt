@@ -1,0 +1,126 @@
+-- Numbers, lists of numbers and bytes as they are written in a line.
+use mathlib.Core.Bool.{Bool, true, false}
+use mathlib.Core.List.{List, [], _∷_, map}
+use Prim.Native.Nat.{ℕ, zero, suc, _+_, _-_, _*_}
+use lib.IntN.{ℤ, pos, negℤ}
+use lib.Dec.{leb, ltb, eqb}
+use lib.ListN.{length, drop, getD}
+use Rattle.refusal.specs.Tests.{both, either, choose}
+use Rattle.grid.specs.declared.Place.{Place}
+use Rattle.script.specs.Text.{text, same}
+use Rattle.script.specs.Words.{minus, comma, pieces}
+use Rattle.script.specs.declared.Number.{Number}
+use Rattle.script.specs.declared.Coordinate.{Coordinate}
+
+-- Seats and pins go to 4294967295, jobs to 65535; x and y from -2147483648 to 2147483647.
+abbrev pub most : ℕ
+most = 4294967295
+
+abbrev pub mostJob : ℕ
+mostJob = 65535
+
+abbrev pub mostAbove : ℕ
+mostAbove = 2147483647
+
+abbrev pub mostBelow : ℕ
+mostBelow = 2147483648
+
+-- One more than the largest number of any range: all numbers beyond are as good.
+abbrev pub beyond : ℕ
+beyond = 4294967296
+
+-- A map has one to 4,200 bytes, a list of numbers up to 40.
+abbrev pub mostBytes : ℕ
+mostBytes = 4200
+
+abbrev pub mostNumbers : ℕ
+mostNumbers = 40
+
+-- A byte from one to another.
+unfoldable pub between : ℕ → ℕ → ℕ → Bool
+between low high b = both (leb low b) (leb b high)
+
+-- The digits 0 to 9.
+abbrev pub isDigit : ℕ → Bool
+isDigit b = between 48 57 b
+
+unfoldable pub allDigits : List ℕ → Bool
+allDigits [] = true
+allDigits (b ∷ rest) = both (isDigit b) (allDigits rest)
+
+-- What digits come to, after a value that stands before them; leading zeros allowed.
+unfoldable pub valueFrom : ℕ → List ℕ → ℕ
+valueFrom v [] = v
+valueFrom v (b ∷ rest) = valueFrom (v * 10 + (b - 48)) rest
+
+abbrev pub valueOf : List ℕ → ℕ
+valueOf w = valueFrom 0 w
+
+-- A number is one or more digits, and in its range.
+unfoldable pub isNumber : ℕ → List ℕ → Bool
+isNumber top w = both (ltb 0 (length w)) (both (allDigits w) (leb (valueOf w) top))
+
+-- A word read as a number, where it is one.
+unfoldable pub numberOf : ℕ → List ℕ → Number
+numberOf top w = choose (isNumber top w) (Number.Of (valueOf w)) Number.NotOne
+
+-- One minus stands before the word.
+unfoldable pub hasMinus : List ℕ → Bool
+hasMinus w = eqb (getD w 0 0) minus
+
+-- x and y are numbers with one minus before them or none.
+unfoldable pub isCoordinate : List ℕ → Bool
+isCoordinate w = choose (hasMinus w) (isNumber mostBelow (drop 1 w)) (isNumber mostAbove w)
+
+unfoldable pub signed : List ℕ → ℤ
+signed w = choose (hasMinus w) (negℤ (pos (valueOf (drop 1 w)))) (pos (valueOf w))
+
+-- A word read as x or y, where it is one.
+unfoldable pub coordinateOf : List ℕ → Coordinate
+coordinateOf w = choose (isCoordinate w) (Coordinate.At (signed w)) Coordinate.Unread
+
+-- Nothing, as a map or as a list: a single minus.
+abbrev pub none : List ℕ
+none = text "-"
+
+-- Numbers separated by single commas, or none; up to 40.
+unfoldable pub allCoordinates : List (List ℕ) → Bool
+allCoordinates [] = true
+allCoordinates (w ∷ rest) = both (isCoordinate w) (allCoordinates rest)
+
+unfoldable pub listed : List ℕ → List ℤ
+listed w = choose (same w none) [] (map signed (pieces comma w))
+
+unfoldable pub isRow : List ℕ → Bool
+isRow w = both (allCoordinates (pieces comma w)) (leb (length (pieces comma w)) mostNumbers)
+
+unfoldable pub isList : List ℕ → Bool
+isList w = either (same w none) (isRow w)
+
+-- A hex digit, small or capital, and its value.
+abbrev pub isSmall : ℕ → Bool
+isSmall b = between 97 102 b
+
+abbrev pub isCapital : ℕ → Bool
+isCapital b = between 65 70 b
+
+unfoldable pub isHex : ℕ → Bool
+isHex b = either (isDigit b) (either (isSmall b) (isCapital b))
+
+unfoldable pub hexValue : ℕ → ℕ
+hexValue b = choose (isDigit b) (b - 48) (choose (isSmall b) (b - 87) (choose (isCapital b) (b - 55) 0))
+
+-- Pairs of hex digits, and the bytes that they spell.
+unfoldable pub allPairs : List ℕ → Bool
+allPairs [] = true
+allPairs (a ∷ []) = false
+allPairs (a ∷ b ∷ rest) = both (both (isHex a) (isHex b)) (allPairs rest)
+
+unfoldable pub bytesOf : List ℕ → List ℕ
+bytesOf [] = []
+bytesOf (a ∷ []) = []
+bytesOf (a ∷ b ∷ rest) = (hexValue a * 16 + hexValue b) ∷ bytesOf rest
+
+-- A map is one to 4,200 pairs of hex digits, or - for an empty one.
+unfoldable pub isMap : List ℕ → Bool
+isMap w = either (same w none) (both (ltb 0 (length w)) (both (leb (length w) (mostBytes * 2)) (allPairs w)))

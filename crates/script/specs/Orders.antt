@@ -1,0 +1,131 @@
+-- The calls of a log: what each line asks for, and what of it stands in the lent buffers.
+use mathlib.Core.Bool.{Bool}
+use mathlib.Core.List.{List, []}
+use Prim.Native.Nat.{ℕ}
+use lib.IntN.{ℤ}
+use lib.Dec.{ltb, eqb}
+use lib.ListN.{length, getD}
+use Rattle.refusal.specs.Tests.{both, either, choose}
+use Rattle.grid.specs.declared.Place.{Place}
+use Rattle.script.specs.Text.{text, same}
+use Rattle.script.specs.Words.{hash, withoutReturn, wordsOf, word}
+use Rattle.script.specs.Numbers.{most, mostJob, valueOf, isNumber, isCoordinate, signed, listed, isList, bytesOf, isMap}
+use Rattle.script.specs.declared.Order.{Order}
+use Rattle.script.specs.declared.Placing.{Placing}
+
+-- A line of more bytes is not a call.
+abbrev pub mostLine : ℕ
+mostLine = 16384
+
+-- The most bytes and the most legs that a call lends.
+abbrev pub mostRoom : ℕ
+mostRoom = 1024
+
+abbrev pub mostLegs : ℕ
+mostLegs = 64
+
+-- Out of its range it is not a call.
+unfoldable pub only : Bool → Order → Order
+only b order = choose b order Order.NotACall
+
+-- Two words: close SEAT, undo SEAT, redo SEAT, pins SEAT.
+unfoldable pub seatCall : List ℕ → List ℕ → Order
+seatCall name a =
+    only (isNumber most a)
+    (choose (same name (text "close")) (Order.Close (valueOf a))
+    (choose (same name (text "undo")) (Order.Undo (valueOf a))
+    (choose (same name (text "redo")) (Order.Redo (valueOf a))
+    (choose (same name (text "pins")) (Order.Pins (valueOf a)) Order.NotACall))))
+
+-- Three words: remove SEAT PIN, write SEAT ROOM, wire SEAT ROOM.
+unfoldable pub pairCall : List ℕ → List ℕ → List ℕ → Order
+pairCall name a b =
+    only (isNumber most a)
+    (choose (same name (text "remove")) (only (isNumber most b) (Order.Remove (valueOf a) (valueOf b)))
+    (choose (same name (text "write")) (only (isNumber mostRoom b) (Order.Write (valueOf a) (valueOf b)))
+    (choose (same name (text "wire")) (only (isNumber mostLegs b) (Order.Wire (valueOf a) (valueOf b))) Order.NotACall)))
+
+-- Four words: open SEAT JOB MAP, bare ROOM XS YS.
+unfoldable pub isOpening : List ℕ → List ℕ → List ℕ → Bool
+isOpening a b c = both (isNumber most a) (both (isNumber mostJob b) (isMap c))
+
+unfoldable pub isBaring : List ℕ → List ℕ → List ℕ → Bool
+isBaring a b c = both (isNumber mostLegs a) (both (isList b) (isList c))
+
+unfoldable pub opening : List ℕ → List ℕ → List ℕ → Order
+opening a b c = only (isOpening a b c) (Order.Open (valueOf a) (valueOf b) (length (bytesOf c)))
+
+unfoldable pub baring : List ℕ → List ℕ → List ℕ → Order
+baring a b c = only (isBaring a b c) (Order.Bare (valueOf a) (length (listed b)) (length (listed c)))
+
+unfoldable pub lentCall : List ℕ → List ℕ → List ℕ → List ℕ → Order
+lentCall name a b c =
+    choose (same name (text "open")) (opening a b c)
+    (choose (same name (text "bare")) (baring a b c) Order.NotACall)
+
+-- Five words: place SEAT PIN X Y, move SEAT PIN X Y.
+unfoldable pub isPlacing : List ℕ → List ℕ → List ℕ → List ℕ → Bool
+isPlacing a b c d = both (isNumber most a) (both (isNumber most b) (both (isCoordinate c) (isCoordinate d)))
+
+abbrev pub placeOf : List ℕ → List ℕ → Place
+placeOf c d = record { x = signed c; y = signed d }
+
+unfoldable pub placingOf : List ℕ → List ℕ → List ℕ → List ℕ → Placing
+placingOf a b c d = choose (isPlacing a b c d) (Placing.Of (valueOf a) (valueOf b) (placeOf c d)) Placing.Unread
+
+unfoldable pub placeCall : List ℕ → List ℕ → List ℕ → List ℕ → List ℕ → Order
+placeCall name a b c d =
+    only (isPlacing a b c d)
+    (choose (same name (text "place")) (Order.Place (valueOf a) (valueOf b) (placeOf c d))
+    (choose (same name (text "move")) (Order.Move (valueOf a) (valueOf b) (placeOf c d)) Order.NotACall))
+
+-- The call of a name and the words after it; more or fewer words than the call has is not a call.
+unfoldable pub callOf : ℕ → List ℕ → List ℕ → List ℕ → List ℕ → List ℕ → Order
+callOf n name a b c d =
+    choose (eqb n 2) (seatCall name a)
+    (choose (eqb n 3) (pairCall name a b)
+    (choose (eqb n 4) (lentCall name a b c)
+    (choose (eqb n 5) (placeCall name a b c d) Order.NotACall)))
+
+-- A line with no word, or whose first word begins with #, is skipped.
+unfoldable pub isSkipped : List ℕ → Bool
+isSkipped name = either (eqb (length name) 0) (eqb (getD name 0 0) hash)
+
+-- What words ask for.
+unfoldable pub asked : List (List ℕ) → Order
+asked words =
+    choose (isSkipped (word 0 words)) Order.Skip
+    (callOf (length words) (word 0 words) (word 1 words) (word 2 words) (word 3 words) (word 4 words))
+
+-- A line of more than 16,384 bytes is not a call.
+unfoldable pub isLong : List ℕ → Bool
+isLong line = ltb mostLine (length (withoutReturn line))
+
+-- What a line asks for.
+unfoldable pub orderOf : List ℕ → Order
+orderOf line = choose (isLong line) Order.NotACall (asked (wordsOf (withoutReturn line)))
+
+-- The bytes of the map, where words are an opening, and the lists of x and of y, where they are a bare wiring.
+unfoldable pub mapIn : List ℕ → List ℕ → List ℕ → List ℕ → List ℕ
+mapIn name a b c = choose (both (same name (text "open")) (isOpening a b c)) (bytesOf c) []
+
+unfoldable pub listIn : List ℕ → List ℕ → List ℕ → List ℕ → List ℕ → List ℤ
+listIn name a b c list = choose (both (same name (text "bare")) (isBaring a b c)) (listed list) []
+
+-- Those of words; only calls of four words have them.
+unfoldable pub mapAsked : List (List ℕ) → List ℕ
+mapAsked words = choose (eqb (length words) 4) (mapIn (word 0 words) (word 1 words) (word 2 words) (word 3 words)) []
+
+unfoldable pub listAsked : ℕ → List (List ℕ) → List ℤ
+listAsked k words =
+    choose (eqb (length words) 4) (listIn (word 0 words) (word 1 words) (word 2 words) (word 3 words) (word k words)) []
+
+-- Those of a line.
+unfoldable pub mapOf : List ℕ → List ℕ
+mapOf line = choose (isLong line) [] (mapAsked (wordsOf (withoutReturn line)))
+
+unfoldable pub acrossOf : List ℕ → List ℤ
+acrossOf line = choose (isLong line) [] (listAsked 2 (wordsOf (withoutReturn line)))
+
+unfoldable pub upOf : List ℕ → List ℤ
+upOf line = choose (isLong line) [] (listAsked 3 (wordsOf (withoutReturn line)))

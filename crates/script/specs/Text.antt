@@ -1,0 +1,26 @@
+-- Texts as bytes, and what a lent buffer holds once something is written from its start on.
+use mathlib.Core.Bool.{Bool, true, false}
+use mathlib.Core.List.{List, [], _∷_}
+use Prim.Native.Nat.{ℕ}
+use Prim.Native.Char.{code}
+use Prim.Native.String as String
+use Prim.Native.String.{String}
+use lib.Dec.{eqb}
+use lib.Seq.{sets}
+use Rattle.refusal.specs.Tests.{both}
+
+-- The bytes of a text.
+abbrev pub text : String → List ℕ
+text String.[] = []
+text (String._∷_ c rest) = code c ∷ text rest
+
+-- Two lists hold the same bytes.
+unfoldable pub same : List ℕ → List ℕ → Bool
+same [] [] = true
+same [] (b ∷ v) = false
+same (a ∷ u) [] = false
+same (a ∷ u) (b ∷ v) = both (eqb a b) (same u v)
+
+-- A buffer with something stored in it, one after the other, from its start on; what lies after that stays.
+abbrev pub over : {A : Type 0} → List A → List A → List A
+over new old = sets old 0 new

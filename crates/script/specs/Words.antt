@@ -1,0 +1,97 @@
+-- A line cut into its words.
+use mathlib.Core.Bool.{Bool}
+use mathlib.Core.List.{List, [], _∷_}
+use Prim.Native.Nat.{ℕ, zero, suc, _+_, _-_, min}
+use lib.Dec.{eqb}
+use lib.ListN.{length, take, drop, getD}
+use Rattle.bytes.specs.Bytes.{indexOf}
+use Rattle.refusal.specs.Tests.{choose}
+use Rattle.script.specs.declared.Span.{Span}
+use Rattle.script.specs.declared.Cut.{Cut}
+
+-- Bytes with a meaning of their own: space, carriage return, comma, minus, and the sign before a remark.
+abbrev pub space : ℕ
+space = 32
+
+abbrev pub return : ℕ
+return = 13
+
+abbrev pub comma : ℕ
+comma = 44
+
+abbrev pub minus : ℕ
+minus = 45
+
+abbrev pub hash : ℕ
+hash = 35
+
+-- Where a line ends, when a carriage return at its end is dropped.
+unfoldable pub endOf : List ℕ → ℕ
+endOf line = choose (eqb (getD line (length line - 1) 0) return) (length line - 1) (length line)
+
+-- A line without a carriage return at its end.
+abbrev pub withoutReturn : List ℕ → List ℕ
+withoutReturn line = take (endOf line) line
+
+-- A byte put before the first of some pieces.
+unfoldable pub longer : ℕ → List (List ℕ) → List (List ℕ)
+longer b [] = (b ∷ []) ∷ []
+longer b (p ∷ rest) = (b ∷ p) ∷ rest
+
+-- The pieces between single separators.
+unfoldable pub pieces : ℕ → List ℕ → List (List ℕ)
+pieces s [] = [] ∷ []
+pieces s (b ∷ rest) = choose (eqb b s) ([] ∷ pieces s rest) (longer b (pieces s rest))
+
+-- The pieces that hold something.
+unfoldable pub filled : List (List ℕ) → List (List ℕ)
+filled [] = []
+filled ([] ∷ rest) = filled rest
+filled ((b ∷ p) ∷ rest) = (b ∷ p) ∷ filled rest
+
+-- Words are separated by one or more spaces, also before the first and after the last.
+unfoldable pub wordsOf : List ℕ → List (List ℕ)
+wordsOf line = filled (pieces space line)
+
+-- The word of a number, counted from 0; empty where there are not so many.
+abbrev pub word : ℕ → List (List ℕ) → List ℕ
+word k words = getD words k []
+
+-- How many spaces a text begins with.
+unfoldable pub spacesOf : List ℕ → ℕ
+spacesOf [] = 0
+spacesOf (b ∷ rest) = choose (eqb b space) (suc (spacesOf rest)) 0
+
+-- Where the next word begins and ends, from a position on.
+unfoldable pub startAt : List ℕ → ℕ → ℕ
+startAt line at = at + spacesOf (drop at line)
+
+unfoldable pub stopAt : ℕ → List ℕ → ℕ → ℕ
+stopAt s line at = at + indexOf s (drop at line)
+
+abbrev pub wordAt : List ℕ → ℕ → Span
+wordAt line at = record { from = startAt line at; to = stopAt space line (startAt line at) }
+
+-- The bytes of a span.
+unfoldable pub partOf : List ℕ → Span → List ℕ
+partOf line s = take (s .to - s .from) (drop (s .from) line)
+
+-- Where a line has been read to after some words, and where the word of a number stands.
+unfoldable pub afterWords : ℕ → List ℕ → ℕ
+afterWords zero line = 0
+afterWords (suc k) line = stopAt space line (startAt line (afterWords k line))
+
+unfoldable pub spanOf : ℕ → List ℕ → Span
+spanOf k line = wordAt line (afterWords k line)
+
+-- The first five words of a line, and how many there are, counted up to six.
+abbrev pub cutOf : List ℕ → Cut
+cutOf line =
+    record {
+      count = min 6 (length (wordsOf line));
+      name = spanOf 0 line;
+      first = spanOf 1 line;
+      second = spanOf 2 line;
+      third = spanOf 3 line;
+      fourth = spanOf 4 line;
+    }

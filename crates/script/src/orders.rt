@@ -1,0 +1,236 @@
+// What the words of a line ask for.
+use crate::Coordinate;
+use crate::Number;
+use crate::Order;
+use crate::Placing;
+use crate::numbers::MOST;
+use crate::numbers::coordinate;
+use crate::numbers::fill_list;
+use crate::numbers::fill_map;
+use crate::numbers::is_list;
+use crate::numbers::is_map;
+use crate::numbers::number;
+use crate::words::same;
+use grid::Place;
+
+ghost use mathlib.Core.Path.{_≡_};
+ghost use mathlib.Core.List.{[]};
+ghost use lib.Dec.{eqb};
+ghost use Rattle.refusal.specs.Tests.{choose};
+ghost use Rattle.script.specs.Text.{over};
+ghost use Rattle.script.specs.Numbers.{most, isNumber, valueOf, bytesOf, listed};
+ghost use Rattle.script.specs.Orders.{mostRoom, mostLegs, only, seatCall, pairCall, isOpening, isBaring, opening, baring, lentCall, placingOf, placeCall, callOf, isSkipped as skipped, mapIn, listIn};
+
+// Two words: close SEAT, undo SEAT, redo SEAT, pins SEAT.
+fn seat_call(name: &[u8], a: &[u8]) -> Order
+    ensures { λ r. ⌜ r ≡ seatCall (now (name .entry)) (now (a .entry)) ⌝ }
+{
+    let Number::Of(seat) = number(a, MOST) else {
+        return Order::NotACall;
+    };
+    if same(name, b"close") {
+        return Order::Close { seat };
+    }
+    if same(name, b"undo") {
+        return Order::Undo { seat };
+    }
+    if same(name, b"redo") {
+        return Order::Redo { seat };
+    }
+    if same(name, b"pins") {
+        return Order::Pins { seat };
+    }
+    Order::NotACall
+}
+
+// remove SEAT PIN
+fn read_remove(seat: usize, b: &[u8]) -> Order
+    ensures { λ r. ⌜ r ≡ only (isNumber most (now (b .entry))) (Order.Remove seat (valueOf (now (b .entry)))) ⌝ }
+{
+    let Number::Of(pin) = number(b, MOST) else {
+        return Order::NotACall;
+    };
+    Order::Remove { seat, pin }
+}
+
+// write SEAT ROOM
+fn read_write(seat: usize, b: &[u8]) -> Order
+    ensures { λ r. ⌜ r ≡ only (isNumber mostRoom (now (b .entry))) (Order.Write seat (valueOf (now (b .entry)))) ⌝ }
+{
+    let Number::Of(room) = number(b, 1024) else {
+        return Order::NotACall;
+    };
+    Order::Write { seat, room }
+}
+
+// wire SEAT ROOM
+fn read_wire(seat: usize, b: &[u8]) -> Order
+    ensures { λ r. ⌜ r ≡ only (isNumber mostLegs (now (b .entry))) (Order.Wire seat (valueOf (now (b .entry)))) ⌝ }
+{
+    let Number::Of(room) = number(b, 64) else {
+        return Order::NotACall;
+    };
+    Order::Wire { seat, room }
+}
+
+// Three words: remove SEAT PIN, write SEAT ROOM, wire SEAT ROOM.
+fn pair_call(name: &[u8], a: &[u8], b: &[u8]) -> Order
+    ensures { λ r. ⌜ r ≡ pairCall (now (name .entry)) (now (a .entry)) (now (b .entry)) ⌝ }
+{
+    let Number::Of(seat) = number(a, MOST) else {
+        return Order::NotACall;
+    };
+    if same(name, b"remove") {
+        return read_remove(seat, b);
+    }
+    if same(name, b"write") {
+        return read_write(seat, b);
+    }
+    if same(name, b"wire") {
+        return read_wire(seat, b);
+    }
+    Order::NotACall
+}
+
+// open SEAT JOB MAP
+fn read_open(a: &[u8], b: &[u8], c: &[u8], map: &mut [u8; 4200]) -> Order
+    ensures { λ r. ⌜ r ≡ opening (now (a .entry)) (now (b .entry)) (now (c .entry)) ⌝ }
+    ensures { λ _. ⌜ now (map .exit) ≡ over (choose (isOpening (now (a .entry)) (now (b .entry)) (now (c .entry))) (bytesOf (now (c .entry))) []) (now (map .entry)) ⌝ }
+{
+    let Number::Of(seat) = number(a, MOST) else {
+        return Order::NotACall;
+    };
+    let Number::Of(job) = number(b, 65535) else {
+        return Order::NotACall;
+    };
+    if !is_map(c) {
+        return Order::NotACall;
+    }
+    let bytes = fill_map(c, map);
+    Order::Open {
+        seat,
+        job: job as u16,
+        bytes,
+    }
+}
+
+// bare ROOM XS YS
+fn read_bare(a: &[u8], b: &[u8], c: &[u8], xs: &mut [i32; 40], ys: &mut [i32; 40]) -> Order
+    ensures { λ r. ⌜ r ≡ baring (now (a .entry)) (now (b .entry)) (now (c .entry)) ⌝ }
+    ensures { λ _. ⌜ now (xs .exit) ≡ over (choose (isBaring (now (a .entry)) (now (b .entry)) (now (c .entry))) (listed (now (b .entry))) []) (now (xs .entry)) ⌝ }
+    ensures { λ _. ⌜ now (ys .exit) ≡ over (choose (isBaring (now (a .entry)) (now (b .entry)) (now (c .entry))) (listed (now (c .entry))) []) (now (ys .entry)) ⌝ }
+{
+    let Number::Of(room) = number(a, 64) else {
+        return Order::NotACall;
+    };
+    if !is_list(b) {
+        return Order::NotACall;
+    }
+    if !is_list(c) {
+        return Order::NotACall;
+    }
+    let across = fill_list(b, xs);
+    let up = fill_list(c, ys);
+    Order::Bare { room, across, up }
+}
+
+// SEAT PIN X Y
+fn placing(a: &[u8], b: &[u8], c: &[u8], d: &[u8]) -> Placing
+    ensures { λ r. ⌜ r ≡ placingOf (now (a .entry)) (now (b .entry)) (now (c .entry)) (now (d .entry)) ⌝ }
+{
+    let Number::Of(seat) = number(a, MOST) else {
+        return Placing::Unread;
+    };
+    let Number::Of(pin) = number(b, MOST) else {
+        return Placing::Unread;
+    };
+    let Coordinate::At(x) = coordinate(c) else {
+        return Placing::Unread;
+    };
+    let Coordinate::At(y) = coordinate(d) else {
+        return Placing::Unread;
+    };
+    Placing::Of(seat, pin, Place { x, y })
+}
+
+// Five words: place SEAT PIN X Y, move SEAT PIN X Y.
+fn place_call(name: &[u8], a: &[u8], b: &[u8], c: &[u8], d: &[u8]) -> Order
+    ensures { λ r. ⌜ r ≡ placeCall (now (name .entry)) (now (a .entry)) (now (b .entry)) (now (c .entry)) (now (d .entry)) ⌝ }
+{
+    let Placing::Of(seat, pin, at) = placing(a, b, c, d) else {
+        return Order::NotACall;
+    };
+    if same(name, b"place") {
+        return Order::Place { seat, pin, at };
+    }
+    if same(name, b"move") {
+        return Order::Move { seat, pin, to: at };
+    }
+    Order::NotACall
+}
+
+// Whether a line with this first word is skipped.
+pub(crate) fn is_skipped(name: &[u8]) -> bool
+    ensures { λ r. ⌜ r ≡ skipped (now (name .entry)) ⌝ }
+{
+    if name.len() == 0 {
+        return true;
+    }
+    name[0] == 35
+}
+
+// Four words: open SEAT JOB MAP, bare ROOM XS YS.
+fn lent_call(
+    name: &[u8],
+    a: &[u8],
+    b: &[u8],
+    c: &[u8],
+    map: &mut [u8; 4200],
+    xs: &mut [i32; 40],
+    ys: &mut [i32; 40],
+) -> Order
+    ensures { λ r. ⌜ r ≡ lentCall (now (name .entry)) (now (a .entry)) (now (b .entry)) (now (c .entry)) ⌝ }
+    ensures { λ _. ⌜ now (map .exit) ≡ over (mapIn (now (name .entry)) (now (a .entry)) (now (b .entry)) (now (c .entry))) (now (map .entry)) ⌝ }
+    ensures { λ _. ⌜ now (xs .exit) ≡ over (listIn (now (name .entry)) (now (a .entry)) (now (b .entry)) (now (c .entry)) (now (b .entry))) (now (xs .entry)) ⌝ }
+    ensures { λ _. ⌜ now (ys .exit) ≡ over (listIn (now (name .entry)) (now (a .entry)) (now (b .entry)) (now (c .entry)) (now (c .entry))) (now (ys .entry)) ⌝ }
+{
+    if same(name, b"open") {
+        return read_open(a, b, c, map);
+    }
+    if same(name, b"bare") {
+        return read_bare(a, b, c, xs, ys);
+    }
+    Order::NotACall
+}
+
+// The call of a name and the words after it, from the number of words.
+pub(crate) fn read_call(
+    count: usize,
+    name: &[u8],
+    a: &[u8],
+    b: &[u8],
+    c: &[u8],
+    d: &[u8],
+    map: &mut [u8; 4200],
+    xs: &mut [i32; 40],
+    ys: &mut [i32; 40],
+) -> Order
+    ensures { λ r. ⌜ r ≡ callOf count (now (name .entry)) (now (a .entry)) (now (b .entry)) (now (c .entry)) (now (d .entry)) ⌝ }
+    ensures { λ _. ⌜ now (map .exit) ≡ over (choose (eqb count 4) (mapIn (now (name .entry)) (now (a .entry)) (now (b .entry)) (now (c .entry))) []) (now (map .entry)) ⌝ }
+    ensures { λ _. ⌜ now (xs .exit) ≡ over (choose (eqb count 4) (listIn (now (name .entry)) (now (a .entry)) (now (b .entry)) (now (c .entry)) (now (b .entry))) []) (now (xs .entry)) ⌝ }
+    ensures { λ _. ⌜ now (ys .exit) ≡ over (choose (eqb count 4) (listIn (now (name .entry)) (now (a .entry)) (now (b .entry)) (now (c .entry)) (now (c .entry))) []) (now (ys .entry)) ⌝ }
+{
+    if count == 2 {
+        return seat_call(name, a);
+    }
+    if count == 3 {
+        return pair_call(name, a, b);
+    }
+    if count == 4 {
+        return lent_call(name, a, b, c, map, xs, ys);
+    }
+    if count == 5 {
+        return place_call(name, a, b, c, d);
+    }
+    Order::NotACall
+}
