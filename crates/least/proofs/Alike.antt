@@ -1,0 +1,72 @@
+-- Trees that are told alike cost the same: only the near pins of the runs, and where the ends of the runs stand, matter. Assumes nothing.
+use mathlib.Core.Path.{_≡_, refl, sym, ap, ap₂, _∙_}
+use mathlib.Core.Bool.{Bool, true, false, not}
+use Prim.Native.Nat.{ℕ, zero, suc, _+_, _-_, _≤_, _<_}
+use native.Mathlib.Nat.{sub-zero}
+use native.Mathlib.Omega.{arith}
+use Rattle.refusal.specs.Tests.{choose}
+use Rattle.grid.specs.declared.Place.{Place}
+use Rattle.copper.specs.declared.Tally.{Tally}
+use Rattle.copper.specs.Shapes.{isStraight}
+use Rattle.copper.specs.Arms.{reachedBy, leadingOn}
+use Rattle.least.specs.declared.Found.{Found}
+use Rattle.least.specs.Asking.{markOf, lesserOf, doubledIf, isBent, bentInto, firstTally, nextTally, pinCost, pinOf, weighedFrom, weighedOf, foundTree}
+
+-- Two trees of n runs are told alike.
+pub record Alike (at bt : ℕ → Place) (near neat : ℕ → ℕ) (n : ℕ) : Type 0 where
+  pub nears : (r : ℕ) → r < n → near r ≡ neat r
+  pub near-ends : (r : ℕ) → r < n → at (near r) ≡ bt (neat r)
+  pub far-ends : (r : ℕ) → r < n → at (suc r) ≡ bt (suc r)
+
+module _ (at bt : ℕ → Place) (near neat : ℕ → ℕ) (n : ℕ) (alike : Alike at bt near neat n) where
+  bent-alike : (r : ℕ) → r < n → isBent at near r ≡ isBent bt neat r
+  unfolding isBent
+  bent-alike r l = rw (alike .near-ends r l, alike .far-ends r l)
+
+  first-alike : (r : ℕ) (u : Bool) → r < n → firstTally at near (suc r) u ≡ firstTally bt neat (suc r) u
+  unfolding firstTally
+  first-alike r u l = rw (alike .near-ends r l, alike .far-ends r l)
+
+  next-alike : (t : Tally) (r : ℕ) (u : Bool) → r < n → nextTally at near t r u ≡ nextTally bt neat t r u
+  unfolding nextTally
+  next-alike t r u l = rw (alike .near-ends r l, alike .far-ends r l)
+
+  cost-alike : (favoured : Bool) (k i next : ℕ) (t : Tally) → k + next ≤ n → pinCost at near favoured k i next t ≡ pinCost bt neat favoured k i next t
+  unfolding pinCost
+  cost-alike favoured zero i next t h = refl
+  cost-alike favoured (suc k) i next t h =
+      let l : next < n = omega arith in
+      rw (
+        alike .nears next l,
+        bent-alike next l,
+        first-alike next false l,
+        first-alike next true l,
+        next-alike t next false l,
+        next-alike t next true l,
+        cost-alike favoured k (suc next) (suc next) (firstTally bt neat (suc next) false) (omega arith),
+        cost-alike favoured k (suc next) (suc next) (firstTally bt neat (suc next) true) (omega arith),
+        cost-alike favoured k i (suc next) (nextTally bt neat t next false) (omega arith),
+        cost-alike favoured k i (suc next) (nextTally bt neat t next true) (omega arith),
+        cost-alike favoured k i (suc next) t (omega arith),
+      )
+
+  weighed-alike : (k i next c : ℕ) → k + next ≤ n → weighedFrom at near k i next c ≡ weighedFrom bt neat k i next c
+  unfolding weighedFrom
+  weighed-alike zero i next c h = refl
+  weighed-alike (suc k) i next c h =
+      let l : next < n = omega arith in
+      rw (
+        alike .nears next l,
+        bent-alike next l,
+        weighed-alike k (suc next) (suc next) (doubledIf (isBent bt neat next) 1) (omega arith),
+        weighed-alike k i (suc next) (doubledIf (isBent bt neat next) c) (omega arith),
+        weighed-alike k i (suc next) c (omega arith),
+      )
+
+  -- What is found for them is the same.
+  pub found-alike : (favoured : Bool) → foundTree at near favoured n ≡ foundTree bt neat favoured n
+  unfolding foundTree pinOf weighedOf firstTally bentInto
+  found-alike favoured =
+      let z : n + 0 ≤ n = omega arith in
+      rw (sub-zero n)
+      (rw (cost-alike favoured n 0 0 (firstTally bt neat 0 false) z, weighed-alike n 0 0 (doubledIf false 1) z))

@@ -1,0 +1,93 @@
+-- Costs and counts of choices fit their numbers: a cost is little for each run below a pin, and there are at most 31 of these.
+-- Assumes that the places are on the board.
+use mathlib.Core.Path.{_≡_, refl, sym, ap, _∙_}
+use mathlib.Core.Bool.{Bool, true, false}
+use Prim.Native.Nat.{ℕ, zero, suc, _+_, _-_, _*_, _^_, _≤_, _<_, min}
+use native.Mathlib.Nat.{pow-suc, suc-mul, mul-assoc, mul-le-mul}
+use native.Mathlib.Omega.{arith}
+use lib.Dec.{eqb}
+use lib.Pow.{pow-mono, pow-pos}
+use Rattle.refusal.specs.Tests.{choose}
+use Rattle.grid.specs.declared.Place.{Place}
+use Rattle.grid.specs.Place.{inside}
+use Rattle.copper.specs.declared.Tally.{Tally}
+use Rattle.copper.specs.Arms.{owed}
+use Rattle.least.specs.Asking.{base, markOf, lesserOf, doubledIf, isBent, bentInto, firstTally, nextTally, pinCost, pinOf, runOf, choicesFrom, weighedFrom, weighedOf, sizeFrom, Modest}
+use Rattle.least.proofs.Reading.{mark-small}
+use Rattle.least.proofs.Modesty.{modest-first, modest-next, modest-owed}
+use Rattle.least.proofs.Stepping.{doubled-none, choices-sum, weighed-split}
+
+-- The most that a pin owes, as a cost, and with the mark of the run that reached it.
+abbrev pub most : ℕ
+most = 1125899906842624
+
+abbrev pub each : ℕ
+each = 1125900980584448
+
+pub lesser-low : (t : Bool) (x y : ℕ) → lesserOf t x y ≤ x
+unfolding lesserOf choose
+lesser-low true x y = omega arith
+lesser-low false x y = omega arith
+
+module _ (at : ℕ → Place) (near : ℕ → ℕ) (favoured : Bool) (on-board : (i : ℕ) → inside (at i) ≡ true) where
+  pub cost-most : (k i next : ℕ) (t : Tally) → Modest t → pinCost at near favoured k i next t ≤ sizeFrom near k i next * each + most
+  unfolding pinCost sizeFrom
+  cost-most zero i next t m = omega (arith, modest-owed m)
+  cost-most (suc k) i next t m =
+      go (eqb (near next) i) (sizeFrom near k (suc next) (suc next)) (sizeFrom near k i (suc next))
+      (cost-most k (suc next) (suc next) (firstTally at near (suc next) false) (modest-first at near on-board (suc next) false))
+      (cost-most k i (suc next) (nextTally at near t next false) (modest-next at near on-board t next false m))
+      (cost-most k i (suc next) t m)
+    where
+      b : Bool
+      b = isBent at near next
+
+      u : ℕ
+      u = markOf favoured next true + pinCost at near favoured k (suc next) (suc next) (firstTally at near (suc next) true) + pinCost at near favoured k i (suc next) (nextTally at near t next true)
+
+      go : (h : Bool) (p q : ℕ) {x y z : ℕ} → x ≤ p * each + most → y ≤ q * each + most → z ≤ q * each + most
+          → choose h (lesserOf b (markOf favoured next false + x + y) u) z ≤ choose h (1 + p + q) q * each + most
+      go true p q {x = x} {y = y} e f g =
+          unfold choose in omega (arith, mark-small favoured false next, lesser-low b (markOf favoured next false + x + y) u)
+      go false p q e f g = unfold choose in g
+
+-- Each bent run doubles the choices.
+doubled-most : (t : Bool) (c : ℕ) → doubledIf t c ≤ c + c
+unfolding doubledIf choose
+doubled-most true c = omega arith
+doubled-most false c = omega arith
+
+module _ (at : ℕ → Place) (near : ℕ → ℕ) where
+  doubled-choices : (t : Bool) (k i next : ℕ) → choicesFrom at near k i next (doubledIf t 1) ≤ choicesFrom at near k i next 1 + choicesFrom at near k i next 1
+  unfolding doubledIf choose
+  doubled-choices true k i next = omega (arith, choices-sum at near k i next 1 1)
+  doubled-choices false k i next = omega arith
+
+  pub choices-most : (k i next : ℕ) → choicesFrom at near k i next 1 ≤ 2 ^ k
+  unfolding choicesFrom
+  choices-most zero i next = omega arith
+  choices-most (suc k) i next = go (eqb (near next) i) (choices-most k i (suc next)) (doubled-choices (isBent at near next) k i (suc next))
+    where
+      go : (h : Bool) {x y : ℕ} → x ≤ 2 ^ k → y ≤ x + x → choose h y x ≤ 2 ^ suc k
+      go true p q = unfold choose in omega (arith, pow-suc 2 k)
+      go false p q = unfold choose in omega (arith, pow-suc 2 k)
+
+  below-next : (k : ℕ) → suc k * 2 ^ suc k ≡ k * 2 ^ k + k * 2 ^ k + (2 ^ k + 2 ^ k)
+  below-next k =
+      let a : suc k * 2 ^ suc k ≡ k * 2 ^ suc k + 2 ^ suc k = suc-mul k (2 ^ suc k) in
+      let b : k * 2 ^ suc k ≡ k * 2 ^ k * 2 = ap (λ (z : ℕ). k * z) (pow-suc 2 k) ∙ sym (mul-assoc k (2 ^ k) 2) in
+      omega (arith, a, b, pow-suc 2 k)
+
+  pub below-most : (k i next : ℕ) → weighedFrom at near k i next 0 ≤ k * 2 ^ k
+  unfolding weighedFrom
+  below-most zero i next = omega arith
+  below-most (suc k) i next =
+      let t : Bool = isBent at near next in
+      go (eqb (near next) i) (below-most k (suc next) (suc next)) (below-most k i (suc next)) (choices-most k (suc next) (suc next))
+      (doubled-choices t k (suc next) (suc next)) (weighed-split at near k (suc next) (suc next) (doubledIf t 1))
+      (ap (weighedFrom at near k i (suc next)) (doubled-none t))
+    where
+      go : (h : Bool) {x y z v w u : ℕ} → x ≤ k * 2 ^ k → y ≤ k * 2 ^ k → z ≤ 2 ^ k → v ≤ z + z → w ≡ v + x → u ≡ y
+          → choose h (w + u) y ≤ suc k * 2 ^ suc k
+      go true p q r s e f = unfold choose in omega (arith, below-next k)
+      go false p q r s e f = unfold choose in omega (arith, below-next k)

@@ -1,0 +1,216 @@
+-- The runs that lead on from a pin are asked one after the other: what is kept of them on the way, and what the pin and the run answer.
+-- From the laws of one step and the bounds of costs. Assumes nothing.
+use mathlib.Core.Path.{_≡_, refl, sym, ap, ap₂, _∙_}
+use mathlib.Core.Bool.{Bool, true, false, not}
+use mathlib.Core.List.{List}
+use Prim.Native.Nat.{ℕ, zero, suc, _+_, _-_, _*_, _^_, _≤_, _<_, min}
+use native.Mathlib.Nat.{mul-le-mul}
+use native.Mathlib.Omega.{arith}
+use lib.IntN.{ℤ}
+use lib.ListN.{length, getD, set, length-set}
+use lib.Seq.{getD-set-same, getD-set-other}
+use lib.Dec.{eqb}
+use lib.Pow.{pow-mono}
+use borrow.Author.Tests.{eqb-true, eqb-false}
+use Rattle.refusal.specs.Tests.{choose}
+use Rattle.grid.specs.declared.Place.{Place}
+use Rattle.copper.specs.declared.Tally.{Tally}
+use Rattle.copper.specs.Shapes.{isStraight, shapeOf}
+use Rattle.copper.specs.Arms.{reachedBy}
+use Rattle.least.specs.declared.Asked.{Asked}
+use Rattle.least.specs.declared.Found.{Found}
+use Rattle.least.specs.Asking.{placeAt, nearAt, markOf, doubledIf, isBent, bentInto, firstTally, pinCost, pinOf, runOf, choicesFrom, weighedFrom, weighedOf, askedPin, askedRun, found, sizeFrom, Grown, Known, Weighable, Askable}
+use Rattle.least.proofs.Reading.{mark-small}
+use Rattle.least.proofs.Modesty.{modest-first}
+use Rattle.least.proofs.Stepping.{choices-sum, weighed-split, weighed-on, weighed-past, weighed-end, size-on, size-past}
+use Rattle.least.proofs.Bounds.{most, each, cost-most, choices-most, below-most}
+use Rattle.least.proofs.Weighing.{off-not, on-not, doubled-bent, doubled-straight}
+
+-- The runs of pin i before run r were asked; `weighed` choices were weighed for them.
+pub record Collected (xs ys : List ℤ) (near : List ℕ) (favoured : Bool) (n i : ℕ) (lower upper : List ℕ) (weighed r : ℕ) : Type 0 where
+  pub ask : Askable xs ys near n i
+  pub low-long : length lower ≡ 31
+  pub up-long : length upper ≡ 31
+  pub from : i ≤ r
+  pub to : r ≤ n
+  pub small : sizeFrom (nearAt near) (n - r) i r ≤ 31
+  pub known : (q : ℕ) → q < r → i ≤ q → nearAt near q ≡ i
+      → (getD lower q 0 ≡ runOf (placeAt xs ys) (nearAt near) favoured n q false) × (getD upper q 0 ≡ runOf (placeAt xs ys) (nearAt near) favoured n q true)
+  pub sum : weighed + weighedFrom (placeAt xs ys) (nearAt near) (n - r) i r 0 ≡ weighedFrom (placeAt xs ys) (nearAt near) (n - i) i i 0
+
+-- Before a straight run it does not matter which shape is asked for.
+one-shape : (at : ℕ → Place) (near : ℕ → ℕ) (i : ℕ) → bentInto at near i ≡ false → firstTally at near i true ≡ firstTally at near i false
+unfolding bentInto firstTally isBent reachedBy shapeOf choose
+one-shape at near zero e = refl
+one-shape at near (suc r) e = rw (straight (isStraight (at (near r)) (at (suc r))) e)
+  where
+    straight : (t : Bool) → not t ≡ false → t ≡ true
+    straight true e = refl
+    straight false e = sym e
+
+-- The pin and the near pin of the run that reached it are in range.
+pub pin-in : (xs ys : List ℤ) (near : List ℕ) (n i : ℕ) → Askable xs ys near n i → (i < 32) × ((i ≡ 0 → ⊥) → nearAt near (i - 1) < 32)
+pin-in xs ys near n i a =
+    (omega (arith, a .upto, a .tree .few), λ ne. omega (arith, a .upto, a .tree .few, a .tree .grown (i - 1) (omega (arith, a .upto, ne)), ne))
+
+module _ (xs ys : List ℤ) (near : List ℕ) (favoured : Bool) (n i : ℕ) where
+  abbrev at : ℕ → Place
+  at = placeAt xs ys
+
+  abbrev on : ℕ → ℕ
+  on = nearAt near
+
+  few-below : Askable xs ys near n i → weighedFrom at on (n - i) i i 0 ≤ 66571993088
+  few-below a =
+      let k : n - i ≤ 31 = omega (arith, a .tree .few) in
+      let p : 2 ^ (n - i) ≤ 2 ^ 31 = pow-mono k in
+      let q : (n - i) * 2 ^ (n - i) ≤ 31 * 2 ^ 31 = mul-le-mul k p in
+      omega (arith, below-most at on (n - i) i i, q)
+
+  few-here : Askable xs ys near n i → (f : Found) (s : Tally) → f ≡ found at on favoured n i i s → f .weighed ≤ 2147483648
+  unfolding found
+  few-here a f s g =
+      let c : f .weighed ≡ choicesFrom at on (n - i) i i 1 = ap (λ (z : Found). z .weighed) g in
+      let k : n - i ≤ 31 = omega (arith, a .tree .few) in
+      let p : 2 ^ (n - i) ≤ 2 ^ 31 = pow-mono k in
+      omega (arith, c, choices-most at on (n - i) i i, p)
+
+  pub begin : (l u : List ℕ) → length l ≡ 31 → length u ≡ 31 → Askable xs ys near n i → Collected xs ys near favoured n i l u 0 i
+  begin l u p q a =
+      record { ask = a; low-long = p; up-long = q; from = omega arith; to = a .upto; small = a .small; known = λ r l h. absurd (omega arith); sum = omega arith }
+
+  module _ (l u : List ℕ) (w r : ℕ) (c : Collected xs ys near favoured n i l u w r) where
+    pub room : r < n → r < 31
+    room h = omega (arith, c .ask .tree .few)
+
+    pub asks : r < n → on r ≡ i → Askable xs ys near n (r + 1)
+    asks h e = record { tree = c .ask .tree; upto = omega arith; small = omega (arith, c .small, size-on at on n i r h e) }
+
+    pub miss : r < n → (on r ≡ i → ⊥) → Collected xs ys near favoured n i l u w (r + 1)
+    miss h e =
+        record {
+          ask = c .ask;
+          low-long = c .low-long;
+          up-long = c .up-long;
+          from = omega (arith, c .from);
+          to = omega arith;
+          small = omega (arith, c .small, size-past at on n i r h e);
+          known = λ q b k z. go q b k z (eqb q r) refl;
+          sum = omega (arith, c .sum, weighed-past at on n i r h e);
+        }
+      where
+        go : (q : ℕ) → q < r + 1 → i ≤ q → on q ≡ i → (t : Bool) → eqb q r ≡ t
+            → (getD l q 0 ≡ runOf at on favoured n q false) × (getD u q 0 ≡ runOf at on favoured n q true)
+        go q b k z true y = absurd (e (ap on (sym (eqb-true q r y)) ∙ z))
+        go q b k z false y = let ne : q ≡ r → ⊥ = eqb-false q r y in c .known q (omega (arith, ne)) k z
+
+    module _ (h : r < n) (e : on r ≡ i) (a : Asked) (g : a ≡ askedRun at on favoured n r) where
+      lower-is : a .lower ≡ runOf at on favoured n r false
+      unfolding askedRun
+      lower-is = ap (λ (z : Asked). z .lower) g
+
+      upper-is : a .upper ≡ runOf at on favoured n r true
+      unfolding askedRun
+      upper-is = ap (λ (z : Asked). z .upper) g
+
+      weighed-is : a .weighed ≡ weighedOf at on n (r + 1)
+      unfolding askedRun
+      weighed-is = ap (λ (z : Asked). z .weighed) g
+
+      pub adds : w + a .weighed < 18446744073709551616
+      adds = omega (arith, weighed-is, c .sum, weighed-on at on n i r h e, few-below (c .ask))
+
+      pub hit : Collected xs ys near favoured n i (set l r (a .lower)) (set u r (a .upper)) (w + a .weighed) (r + 1)
+      hit =
+          record {
+            ask = c .ask;
+            low-long = length-set l r (a .lower) ∙ c .low-long;
+            up-long = length-set u r (a .upper) ∙ c .up-long;
+            from = omega (arith, c .from);
+            to = omega arith;
+            small = omega (arith, c .small, size-on at on n i r h e);
+            known = λ q b k z. go q b k z (eqb q r) refl;
+            sum = omega (arith, c .sum, weighed-is, weighed-on at on n i r h e);
+          }
+        where
+          go : (q : ℕ) → q < r + 1 → i ≤ q → on q ≡ i → (t : Bool) → eqb q r ≡ t
+              → (getD (set l r (a .lower)) q 0 ≡ runOf at on favoured n q false) × (getD (set u r (a .upper)) q 0 ≡ runOf at on favoured n q true)
+          go q b k z true y =
+              let s : q ≡ r = eqb-true q r y in
+              let p : r < length l = omega (arith, c .low-long, room h) in
+              let v : r < length u = omega (arith, c .up-long, room h) in
+              rw s (getD-set-same l r (a .lower) 0 p ∙ lower-is, getD-set-same u r (a .upper) 0 v ∙ upper-is)
+          go q b k z false y =
+              let ne : q ≡ r → ⊥ = eqb-false q r y in
+              let o = c .known q (omega (arith, ne)) k z in
+              (getD-set-other l r q (a .lower) 0 ne ∙ o .0, getD-set-other u r q (a .upper) 0 ne ∙ o .1)
+
+    -- All were asked.
+    module _ (h : n ≤ r) where
+      at-end : w ≡ weighedFrom at on (n - i) i i 0
+      at-end = omega (arith, c .sum, weighed-end at on n i r h)
+
+      pub weighs : (v : Bool) (s : Tally) → s ≡ firstTally at on i v → Weighable xs ys near l u favoured n i i s
+      unfolding Known
+      weighs v s e =
+          record {
+            tree = c .ask .tree;
+            modest = rw e (modest-first at on (c .ask .tree .on-board) i v);
+            known = λ q k b z. c .known q (omega (arith, c .to)) k z;
+            small = c .ask .small;
+          }
+
+      module _ (f : Found) (s : Tally) (es : s ≡ firstTally at on i false) (ef : f ≡ found at on favoured n i i s) where
+        pub fits-one : w + f .weighed < 18446744073709551616
+        fits-one = omega (arith, at-end, few-below (c .ask), few-here (c .ask) f s ef)
+
+        -- A pin that a straight run reached, or none.
+        pub answer-straight : (b : Bool) → b ≡ bentInto at on i → not b ≡ true
+            → record { lower = f .cost; upper = f .cost; weighed = w + f .weighed } ≡ askedPin at on favoured n i
+        unfolding askedPin pinOf weighedOf found
+        answer-straight b eb no′ =
+            let k : bentInto at on i ≡ false = sym eb ∙ off-not b no′ in
+            let z : weighedFrom at on (n - i) i i 1 ≡ w + choicesFrom at on (n - i) i i 1 = omega (arith, weighed-split at on (n - i) i i 1, at-end) in
+            rw (ef, es, doubled-straight (bentInto at on i) k, z, one-shape at on i k)
+
+        -- A pin that a bent run reached.
+        module _ (g : Found) (v : Tally) (ev : v ≡ firstTally at on i true) (eg : g ≡ found at on favoured n i i v) where
+          pub fits-two : w + f .weighed + g .weighed < 18446744073709551616
+          fits-two = omega (arith, at-end, few-below (c .ask), few-here (c .ask) f s ef, few-here (c .ask) g v eg)
+
+          pub answer-bent : (b : Bool) → b ≡ bentInto at on i → not b ≡ false
+              → record { lower = f .cost; upper = g .cost; weighed = w + f .weighed + g .weighed } ≡ askedPin at on favoured n i
+          unfolding askedPin pinOf weighedOf found
+          answer-bent b eb yes′ =
+              let k : bentInto at on i ≡ true = sym eb ∙ on-not b yes′ in
+              let z : weighedFrom at on (n - i) i i (1 + 1) ≡ w + choicesFrom at on (n - i) i i 1 + choicesFrom at on (n - i) i i 1 =
+              omega (arith, weighed-split at on (n - i) i i (1 + 1), choices-sum at on (n - i) i i 1 1, at-end) in
+              rw (ef, es, eg, ev, doubled-bent (bentInto at on i) k, z)
+
+  -- The run that reaches pin i + 1 asks it.
+  module _ (a : Askable xs ys near n (i + 1)) (f : Asked) (e : f ≡ askedPin at on favoured n (i + 1)) where
+    pin-most : (v : Bool) → pinOf at on favoured n (i + 1) v ≤ 31 * each + most
+    unfolding pinOf
+    pin-most v =
+        omega (
+          arith,
+          a .small,
+          cost-most at on favoured (a .tree .on-board) (n - (i + 1)) (i + 1) (i + 1) (firstTally at on (i + 1) v) (modest-first at on (a .tree .on-board) (i + 1) v),
+        )
+
+    pub fits-lower : (m : ℕ) → m ≡ markOf favoured i false → m + f .lower < 18446744073709551616
+    unfolding askedPin
+    fits-lower m em =
+        let z : f .lower ≡ pinOf at on favoured n (i + 1) false = ap (λ (y : Asked). y .lower) e in
+        omega (arith, z, pin-most false, mark-small favoured false i)
+
+    pub fits-upper : (m : ℕ) → m ≡ markOf favoured i true → m + f .upper < 18446744073709551616
+    unfolding askedPin
+    fits-upper m em =
+        let z : f .upper ≡ pinOf at on favoured n (i + 1) true = ap (λ (y : Asked). y .upper) e in
+        omega (arith, z, pin-most true, mark-small favoured true i)
+
+    pub run-answer : (m o : ℕ) → m ≡ markOf favoured i false → o ≡ markOf favoured i true
+        → record { lower = m + f .lower; upper = o + f .upper; weighed = f .weighed } ≡ askedRun at on favoured n i
+    unfolding askedRun askedPin runOf
+    run-answer m o em eo = rw (em, eo, e)

@@ -1,0 +1,9 @@
+-- What is proved of least costs beside the functions' contracts.
+pub mod Reading
+pub mod Modesty
+pub mod Stepping
+pub mod Bounds
+pub mod Weighing
+pub mod Collecting
+pub mod Whole
+pub mod Alike

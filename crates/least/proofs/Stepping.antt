@@ -1,0 +1,129 @@
+-- One run on: what pins cost, the choices weighed and the number of runs below a pin, as the runs from `next` on are gone through.
+-- Assumes nothing.
+use mathlib.Core.Path.{_≡_, refl, sym, ap, ap₂, _∙_}
+use mathlib.Core.Bool.{Bool, true, false, not}
+use mathlib.Core.List.{List}
+use Prim.Native.Nat.{ℕ, zero, suc, _+_, _-_, _*_, _^_, _≤_, _<_, min}
+use native.Mathlib.Numerals.{add-one}
+use native.Mathlib.Omega.{arith}
+use lib.Dec.{eqb}
+use borrow.Author.Tests.{eq-eqb, ne-eqb}
+use Rattle.refusal.specs.Tests.{choose}
+use Rattle.grid.specs.declared.Place.{Place}
+use Rattle.copper.specs.declared.Tally.{Tally}
+use Rattle.copper.specs.Arms.{owed}
+use Rattle.least.specs.declared.Found.{Found}
+use Rattle.least.specs.Asking.{base, markOf, lesserOf, doubledIf, isBent, bentInto, firstTally, nextTally, pinCost, pinOf, runOf, choicesFrom, weighedFrom, weighedOf, found, sizeFrom}
+
+-- With one more run to come.
+more : (n next : ℕ) → next < n → n - next ≡ suc (n - (next + 1))
+more n next l = omega arith
+
+no-more : (n next : ℕ) → n ≤ next → n - next ≡ 0
+no-more n next l = omega arith
+
+-- Twice a sum.
+doubled-sum : (t : Bool) (c d : ℕ) → doubledIf t (c + d) ≡ doubledIf t c + doubledIf t d
+unfolding doubledIf choose
+doubled-sum true c d = omega arith
+doubled-sum false c d = refl
+
+pub doubled-none : (t : Bool) → doubledIf t 0 ≡ 0
+unfolding doubledIf choose
+doubled-none true = refl
+doubled-none false = refl
+
+module _ (at : ℕ → Place) (near : ℕ → ℕ) where
+  -- The choices for two counts are those for each.
+  pub choices-sum : (k i next c d : ℕ) → choicesFrom at near k i next (c + d) ≡ choicesFrom at near k i next c + choicesFrom at near k i next d
+  unfolding choicesFrom
+  choices-sum zero i next c d = refl
+  choices-sum (suc k) i next c d =
+      go (eqb (near next) i) (choices-sum k i (suc next) (doubledIf (isBent at near next) c) (doubledIf (isBent at near next) d)) (choices-sum k i (suc next) c d)
+    where
+      t : Bool
+      t = isBent at near next
+
+      go : (h : Bool)
+          → choicesFrom at near k i (suc next) (doubledIf t c + doubledIf t d) ≡ choicesFrom at near k i (suc next) (doubledIf t c) + choicesFrom at near k i (suc next) (doubledIf t d)
+          → choicesFrom at near k i (suc next) (c + d) ≡ choicesFrom at near k i (suc next) c + choicesFrom at near k i (suc next) d
+          → choose h (choicesFrom at near k i (suc next) (doubledIf t (c + d))) (choicesFrom at near k i (suc next) (c + d))
+          ≡ choose h (choicesFrom at near k i (suc next) (doubledIf t c)) (choicesFrom at near k i (suc next) c)
+          + choose h (choicesFrom at near k i (suc next) (doubledIf t d)) (choicesFrom at near k i (suc next) d)
+      go true p q = unfold choose in rw (doubled-sum t c d) p
+      go false p q = unfold choose in q
+
+  -- The choices weighed at a pin and below it: those at the pin, and those below.
+  pub weighed-split : (k i next c : ℕ) → weighedFrom at near k i next c ≡ choicesFrom at near k i next c + weighedFrom at near k i next 0
+  unfolding weighedFrom choicesFrom
+  weighed-split zero i next c = omega arith
+  weighed-split (suc k) i next c = go (eqb (near next) i) (weighed-split k i (suc next) (doubledIf (isBent at near next) c)) (weighed-split k i (suc next) c)
+    where
+      t : Bool
+      t = isBent at near next
+
+      w : ℕ
+      w = weighedFrom at near k (suc next) (suc next) (doubledIf t 1)
+
+      go : (h : Bool)
+          → weighedFrom at near k i (suc next) (doubledIf t c) ≡ choicesFrom at near k i (suc next) (doubledIf t c) + weighedFrom at near k i (suc next) 0
+          → weighedFrom at near k i (suc next) c ≡ choicesFrom at near k i (suc next) c + weighedFrom at near k i (suc next) 0
+          → choose h (w + weighedFrom at near k i (suc next) (doubledIf t c)) (weighedFrom at near k i (suc next) c)
+          ≡ choose h (choicesFrom at near k i (suc next) (doubledIf t c)) (choicesFrom at near k i (suc next) c)
+          + choose h (w + weighedFrom at near k i (suc next) (doubledIf t 0)) (weighedFrom at near k i (suc next) 0)
+      go true p q = unfold choose in rw (doubled-none t) (omega arith)
+      go false p q = unfold choose in q
+
+  -- Of n runs.
+  module _ (n i next : ℕ) where
+    module _ (l : next < n) (h : near next ≡ i) where
+      pub choices-on : (c : ℕ) → choicesFrom at near (n - next) i next c ≡ choicesFrom at near (n - (next + 1)) i (next + 1) (doubledIf (isBent at near next) c)
+      unfolding choicesFrom choose
+      choices-on c = rw (more n next l, eq-eqb (near next) i h, add-one next)
+
+      pub weighed-on : weighedFrom at near (n - next) i next 0 ≡ weighedOf at near n (next + 1) + weighedFrom at near (n - (next + 1)) i (next + 1) 0
+      unfolding weighedFrom weighedOf bentInto choose
+      weighed-on = rw (more n next l, eq-eqb (near next) i h, add-one next, doubled-none (isBent at near next))
+
+      pub size-on : sizeFrom near (n - next) i next ≡ 1 + sizeFrom near (n - (next + 1)) (next + 1) (next + 1) + sizeFrom near (n - (next + 1)) i (next + 1)
+      unfolding sizeFrom choose
+      size-on = rw (more n next l, eq-eqb (near next) i h, add-one next)
+
+    module _ (l : next < n) (h : near next ≡ i → ⊥) where
+      pub choices-past : (c : ℕ) → choicesFrom at near (n - next) i next c ≡ choicesFrom at near (n - (next + 1)) i (next + 1) c
+      unfolding choicesFrom choose
+      choices-past c = rw (more n next l, ne-eqb (near next) i h, add-one next)
+
+      pub weighed-past : weighedFrom at near (n - next) i next 0 ≡ weighedFrom at near (n - (next + 1)) i (next + 1) 0
+      unfolding weighedFrom choose
+      weighed-past = rw (more n next l, ne-eqb (near next) i h, add-one next)
+
+      pub size-past : sizeFrom near (n - next) i next ≡ sizeFrom near (n - (next + 1)) i (next + 1)
+      unfolding sizeFrom choose
+      size-past = rw (more n next l, ne-eqb (near next) i h, add-one next)
+
+    module _ (l : n ≤ next) where
+      pub choices-end : (c : ℕ) → choicesFrom at near (n - next) i next c ≡ c
+      unfolding choicesFrom
+      choices-end c = rw (no-more n next l)
+
+      pub weighed-end : weighedFrom at near (n - next) i next 0 ≡ 0
+      unfolding weighedFrom
+      weighed-end = rw (no-more n next l)
+
+    module _ (favoured : Bool) (t : Tally) where
+      pub cost-on : next < n → near next ≡ i
+          → pinCost at near favoured (n - next) i next t
+          ≡ lesserOf (isBent at near next)
+          (runOf at near favoured n next false + pinCost at near favoured (n - (next + 1)) i (next + 1) (nextTally at near t next false))
+          (runOf at near favoured n next true + pinCost at near favoured (n - (next + 1)) i (next + 1) (nextTally at near t next true))
+      unfolding pinCost runOf pinOf choose
+      cost-on l h = rw (more n next l, eq-eqb (near next) i h, add-one next)
+
+      pub cost-past : next < n → (near next ≡ i → ⊥) → pinCost at near favoured (n - next) i next t ≡ pinCost at near favoured (n - (next + 1)) i (next + 1) t
+      unfolding pinCost choose
+      cost-past l h = rw (more n next l, ne-eqb (near next) i h, add-one next)
+
+      pub cost-end : n ≤ next → pinCost at near favoured (n - next) i next t ≡ owed t * base
+      unfolding pinCost
+      cost-end l = rw (no-more n next l)

@@ -1,0 +1,170 @@
+-- Weighing a pin, one run on: what it asks for passes on, its sums fit, and what is found is as defined. From the laws of one step and the
+-- bounds of costs. Assumes nothing.
+use mathlib.Core.Path.{_≡_, refl, sym, ap, ap₂, _∙_}
+use mathlib.Core.Bool.{Bool, true, false, not}
+use mathlib.Core.List.{List}
+use Prim.Native.Nat.{ℕ, zero, suc, _+_, _-_, _*_, _^_, _≤_, _<_, min}
+use native.Mathlib.Nat.{mul-le-mul-right}
+use native.Mathlib.Omega.{arith}
+use lib.IntN.{ℤ}
+use lib.ListN.{getD}
+use lib.Pow.{pow-mono}
+use Rattle.refusal.specs.Tests.{choose}
+use Rattle.grid.specs.declared.Place.{Place}
+use Rattle.copper.specs.declared.Tally.{Tally}
+use Rattle.copper.specs.Arms.{owed, Fair}
+use Rattle.least.specs.declared.Found.{Found}
+use Rattle.least.specs.Asking.{base, placeAt, nearAt, markOf, lesserOf, doubledIf, isBent, firstTally, nextTally, pinCost, pinOf, runOf, choicesFrom, found, sizeFrom, Modest, Grown, Known, Weighable}
+use Rattle.least.proofs.Reading.{mark-small}
+use Rattle.least.proofs.Modesty.{modest-fair, modest-owed, modest-first, modest-next}
+use Rattle.least.proofs.Stepping.{choices-sum, choices-on, choices-past, choices-end, size-on, size-past, cost-on, cost-past, cost-end}
+use Rattle.least.proofs.Bounds.{most, each, cost-most, choices-most}
+
+lesser-bent : (t : Bool) (x y : ℕ) → t ≡ true → lesserOf t x y ≡ min x y
+unfolding lesserOf choose
+lesser-bent t x y e = rw e
+
+lesser-straight : (t : Bool) (x y : ℕ) → t ≡ false → lesserOf t x y ≡ x
+unfolding lesserOf choose
+lesser-straight t x y e = rw e
+
+pub doubled-bent : (t : Bool) → t ≡ true → doubledIf t 1 ≡ 1 + 1
+unfolding doubledIf choose
+doubled-bent t e = rw e
+
+pub doubled-straight : (t : Bool) → t ≡ false → doubledIf t 1 ≡ 1
+unfolding doubledIf choose
+doubled-straight t e = rw e
+
+-- A test that does not hold fails, and the other way round.
+pub off-not : (b : Bool) → not b ≡ true → b ≡ false
+off-not true e = sym e
+off-not false e = refl
+
+pub on-not : (b : Bool) → not b ≡ false → b ≡ true
+on-not true e = refl
+on-not false e = sym e
+
+module _ (xs ys : List ℤ) (near lower upper : List ℕ) (favoured : Bool) (n i next : ℕ) (t : Tally) (w : Weighable xs ys near lower upper favoured n i next t) where
+  abbrev at : ℕ → Place
+  at = placeAt xs ys
+
+  abbrev go-on : ℕ → ℕ
+  go-on = nearAt near
+
+  -- The run and its near pin are in range.
+  pub run-in : next < n → (next < 31) × (go-on next < 32)
+  run-in l = (omega (arith, w .tree .few), omega (arith, w .tree .few, w .tree .grown next l))
+
+  pub owed-fair : Fair t
+  owed-fair = modest-fair (w .modest)
+
+  pub owed-fits : owed t * base < 18446744073709551616
+  owed-fits = omega (arith, modest-owed (w .modest))
+
+  -- No run is left.
+  pub found-end : n ≤ next → (o : ℕ) → o ≡ owed t → record { cost = o * base; weighed = 1 } ≡ found at go-on favoured n i next t
+  unfolding found
+  found-end l o e = rw (e, cost-end at go-on n i next favoured t l, choices-end at go-on n i next l 1)
+
+  known-on : Known at go-on favoured n lower upper i (next + 1)
+  unfolding Known
+  known-on r l = w .known r (omega arith)
+
+  -- A run that leads on from another pin.
+  pub asks-past : next < n → (go-on next ≡ i → ⊥) → Weighable xs ys near lower upper favoured n i (next + 1) t
+  asks-past l h =
+      record { tree = w .tree; modest = w .modest; known = known-on; small = omega (arith, w .small, size-past at go-on n i next l h) }
+
+  pub found-past : next < n → (go-on next ≡ i → ⊥) → found at go-on favoured n i (next + 1) t ≡ found at go-on favoured n i next t
+  unfolding found
+  found-past l h = rw (cost-past at go-on n i next favoured t l h, choices-past at go-on n i next l h 1)
+
+  -- A run that leads on from this pin.
+  module _ (l : next < n) (h : go-on next ≡ i) where
+    pub asks-on : (u : Bool) (s : Tally) → s ≡ nextTally at go-on t next u → Weighable xs ys near lower upper favoured n i (next + 1) s
+    asks-on u s e =
+        record {
+          tree = w .tree;
+          modest = rw e (modest-next at go-on (w .tree .on-board) t next u (w .modest));
+          known = known-on;
+          small = omega (arith, w .small, size-on at go-on n i next l h);
+        }
+
+    asked : (getD lower next 0 ≡ runOf at go-on favoured n next false) × (getD upper next 0 ≡ runOf at go-on favoured n next true)
+    unfolding Known
+    asked = w .known next (omega arith) l h
+
+    run-most : (u : Bool) → runOf at go-on favoured n next u ≤ 1073741824 + (sizeFrom go-on (n - (next + 1)) (next + 1) (next + 1) * each + most)
+    unfolding runOf pinOf
+    run-most u =
+        omega (
+          arith,
+          mark-small favoured u next,
+          cost-most at go-on favoured (w .tree .on-board) (n - (next + 1)) (next + 1) (next + 1) (firstTally at go-on (next + 1) u)
+              (modest-first at go-on (w .tree .on-board) (next + 1) u),
+        )
+
+    -- What a shape comes to fits.
+    sum-fits : (u : Bool) (f : Found) (s : Tally) → s ≡ nextTally at go-on t next u → f ≡ found at go-on favoured n i (next + 1) s
+        → runOf at go-on favoured n next u + f .cost < 18446744073709551616
+    unfolding found
+    sum-fits u f s e g =
+        let c : f .cost ≡ pinCost at go-on favoured (n - (next + 1)) i (next + 1) s = ap (λ (z : Found). z .cost) g in
+        let m = cost-most at go-on favoured (w .tree .on-board) (n - (next + 1)) i (next + 1) s (asks-on u s e .modest) in
+        omega (arith, run-most u, c, m, w .small, size-on at go-on n i next l h)
+
+    pub lower-fits : (f : Found) (s : Tally) → s ≡ nextTally at go-on t next false → f ≡ found at go-on favoured n i (next + 1) s → getD lower next 0 + f .cost < 18446744073709551616
+    lower-fits f s e g = omega (arith, asked .0, sum-fits false f s e g)
+
+    pub upper-fits : (f : Found) (s : Tally) → s ≡ nextTally at go-on t next true → f ≡ found at go-on favoured n i (next + 1) s → getD upper next 0 + f .cost < 18446744073709551616
+    upper-fits f s e g = omega (arith, asked .1, sum-fits true f s e g)
+
+    few-choices : (f : Found) (s : Tally) → f ≡ found at go-on favoured n i (next + 1) s → f .weighed ≤ 2147483648
+    unfolding found
+    few-choices f s g =
+        let c : f .weighed ≡ choicesFrom at go-on (n - (next + 1)) i (next + 1) 1 = ap (λ (z : Found). z .weighed) g in
+        let k : n - (next + 1) ≤ 31 = omega (arith, w .tree .few) in
+        let p : 2 ^ (n - (next + 1)) ≤ 2 ^ 31 = pow-mono k in
+        omega (arith, c, choices-most at go-on (n - (next + 1)) i (next + 1), p)
+
+    pub weighed-fits : (f g : Found) (s v : Tally) → f ≡ found at go-on favoured n i (next + 1) s → g ≡ found at go-on favoured n i (next + 1) v → f .weighed + g .weighed < 18446744073709551616
+    weighed-fits f g s v p q = omega (arith, few-choices f s p, few-choices g v q)
+
+    -- A straight run has one shape.
+    pub found-straight : (b : Bool) (f : Found) (s : Tally) → b ≡ isBent at go-on next → not b ≡ true → s ≡ nextTally at go-on t next false → f ≡ found at go-on favoured n i (next + 1) s
+        → record { cost = getD lower next 0 + f .cost; weighed = f .weighed } ≡ found at go-on favoured n i next t
+    unfolding found
+    found-straight b f s eb off e g =
+        rw (
+          g,
+          e,
+          asked .0,
+          cost-on at go-on n i next favoured t l h,
+          lesser-straight (isBent at go-on next) _ _ (sym eb ∙ off-not b off),
+          choices-on at go-on n i next l h 1,
+          doubled-straight (isBent at go-on next) (sym eb ∙ off-not b off),
+        )
+
+    -- A bent run has two.
+    pub found-bent : (b : Bool) (f g : Found) (s v : Tally) (m : ℕ) → b ≡ isBent at go-on next → not b ≡ false
+        → s ≡ nextTally at go-on t next false → f ≡ found at go-on favoured n i (next + 1) s
+        → v ≡ nextTally at go-on t next true → g ≡ found at go-on favoured n i (next + 1) v
+        → m ≡ min (getD lower next 0 + f .cost) (getD upper next 0 + g .cost)
+        → record { cost = m; weighed = f .weighed + g .weighed } ≡ found at go-on favoured n i next t
+    unfolding found
+    found-bent b f g s v m eb on es ef ev eg em =
+        rw (
+          em,
+          ef,
+          es,
+          eg,
+          ev,
+          asked .0,
+          asked .1,
+          cost-on at go-on n i next favoured t l h,
+          lesser-bent (isBent at go-on next) _ _ (sym eb ∙ on-not b on),
+          choices-on at go-on n i next l h 1,
+          doubled-bent (isBent at go-on next) (sym eb ∙ on-not b on),
+          choices-sum at go-on (n - (next + 1)) i (next + 1) 1 1,
+        )

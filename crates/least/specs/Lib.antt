@@ -1,0 +1,2 @@
+-- What the least cost of a tree's shapes means.
+pub mod Asking

@@ -1,0 +1,368 @@
+-- What the parts of `wire_favouring` come to: a refusal of the tree, too little room, or the answer. From pins that stand on the board, no two
+-- of them too near.
+use mathlib.Core.Path.{_≡_, refl, sym, ap, ap₂, _∙_, subst}
+use mathlib.Core.Bool.{Bool, true, false, not}
+use mathlib.Core.List.{List, [], _∷_, _++_}
+use Prim.Native.Nat.{ℕ, zero, suc, _+_, _-_, _/_, _%_, _≤_, _<_}
+use native.Mathlib.Omega.{arith}
+use lib.IntN.{ℤ, pos}
+use lib.Dec.{ltb, eqb}
+use lib.ListN.{length, getD, take, replicate, List·getD-append, List·getD-eq-default, getD-replicate, length-replicate, length-append}
+use lib.Seq.{getD-append-add, take-at}
+use borrow.Author.Tests.{ltb-true, ltb-false, lt-ltb, le-ltb}
+use Rattle.refusal.specs.Tests.{both, choose}
+use Rattle.refusal.specs.Refusals.{accepted, turn}
+use Rattle.refusal.specs.declared.Verdict.{Verdict}
+use Rattle.refusal.specs.declared.Verdict.the-variants.{Accepted, NoPins, BoxesMeet, RoomTooSmall}
+use Rattle.grid.specs.declared.Place.{Place}
+use Rattle.grid.specs.declared.Spot.{Spot}
+use Rattle.grid.specs.Place.{onBoard, inside}
+use Rattle.tree.specs.declared.Run.{Run}
+use Rattle.tree.specs.declared.Tree.{Tree}
+use Rattle.tree.specs.Growth.{run, placeOf, spotAt, allInside, pinsFrom, pinsOf, runsOf}
+use Rattle.tree.specs.Boxes.{boxesMeet}
+use Rattle.tree.specs.Trees.{entries, treeWith, none, treeOf}
+use Rattle.tree.proofs.Filling.{inside-at}
+use Rattle.tree.proofs.Membership.{pins-few}
+use Rattle.tree.proofs.Spanning.{runs-many}
+use Rattle.copper.specs.declared.Shape.{Shape}
+use Rattle.copper.specs.declared.Leg.{Leg}
+use Rattle.copper.specs.declared.Shape.the-variants.{Straight}
+use Rattle.copper.specs.Shapes.{shapeOf, legsOf}
+use Rattle.copper_laws.proofs.Tallies.{leastOf}
+use Rattle.least.specs.declared.Found.{Found}
+use Rattle.least.specs.Asking.{base, placeAt, nearAt, markOf, foundTree, Grown}
+use Rattle.least.proofs.Whole.{tree-cost}
+use Rattle.least.proofs.Alike.{Alike, found-alike}
+use Rattle.wiring.specs.declared.Shaped.{Shaped}
+use Rattle.wiring.specs.declared.Strip.{Strip}
+use Rattle.wiring.specs.declared.Laid.{Laid}
+use Rattle.wiring.specs.Choices.{nearEnd, farEnd, bestChoice, legsOfChoice, lengthOfChoice, weighedOf}
+use Rattle.wiring.specs.Answer.{shaped, shapedRuns, runEntries, legEntries, laidWith, turnedAway, answerWith, wiringVerdict, wiringWith, wiringFavouring}
+use Rattle.wiring.specs.Reaching.{runAt, reachedPin, reachedNear, reachedPlace, reachedFrom, valuesFrom, xsOf, ysOf, nearsOf, upperIn, shapedIn, entriesIn, legsOfEntry, legsOfEntries, strip, shapesBy}
+use Rattle.wiring.specs.Bare.{crowded}
+use Rattle.wiring.proofs.Filling.{values-long, value-at}
+use Rattle.wiring.proofs.Laying.{grown}
+use Rattle.wiring.proofs.Best.{length-found, shapes-found}
+use Rattle.wiring.proofs.Weighed.{weighed-told}
+
+-- ---- how a feed is refused
+refused-by : (n m : Bool) (runs : List Run) → accepted (choose n (treeWith NoPins []) (choose m (treeWith BoxesMeet []) (treeWith Accepted runs)) .verdict) ≡ false
+    → (rest : Verdict) → (choose n (treeWith NoPins []) (choose m (treeWith BoxesMeet []) (treeWith Accepted runs)) .verdict ≡ turn n NoPins (turn m BoxesMeet rest))
+unfolding choose treeWith turn accepted
+refused-by true m runs e rest = refl
+refused-by false true runs e rest = refl
+refused-by false false runs e rest = absurd (let z : _≡_ {A = ℕ} 0 1 = cc in omega arith)
+
+-- A verdict that is not accepted turns away.
+turned : (v : Verdict) (l : Laid) → accepted v ≡ false → choose (accepted v) l (turnedAway v) ≡ turnedAway v
+unfolding choose
+turned v l e = rw e
+
+-- The tree refuses: so does the wiring.
+pub tree-refuses : (favoured : Bool) (feed : List Spot) (room : ℕ) (t : Tree) → t ≡ treeOf feed → accepted (t .verdict) ≡ false → turnedAway (t .verdict) ≡ wiringFavouring favoured feed room
+unfolding wiringFavouring wiringWith wiringVerdict treeOf
+tree-refuses favoured feed room t e n =
+    let v : Verdict = turn (ltb room (length (legsOfChoice feed (runsOf feed) (bestChoice favoured feed (runsOf feed))))) RoomTooSmall Accepted in
+    let q : t .verdict ≡ turn (none (pinsOf feed)) NoPins (turn (boxesMeet feed (runsOf feed)) BoxesMeet v) =
+    ap (λ (z : Tree). z .verdict) e ∙ refused-by (none (pinsOf feed)) (boxesMeet feed (runsOf feed)) (runsOf feed) (sym (ap (λ (z : Tree). accepted (z .verdict)) e) ∙ n) v in
+    rw (← q) (sym (turned (t .verdict) (answerWith feed (runsOf feed) (bestChoice favoured feed (runsOf feed))) n))
+
+-- ---- how it is accepted
+pub record Wired (feed : List Spot) (t : Tree) : Type 0 where
+  pub first : ℕ
+  pub left : List ℕ
+  pub pins : pinsOf feed ≡ first ∷ left
+  pub clear : boxesMeet feed (runsOf feed) ≡ false
+  pub count : t .count ≡ length (runsOf feed)
+  pub runs : t .runs ≡ entries (runsOf feed)
+
+some-pins : (l : List ℕ) → none l ≡ false → (f : ℕ) × (left : List ℕ) × (l ≡ f ∷ left)
+some-pins [] e = absurd (let z : _≡_ {A = ℕ} 0 1 = cc in omega arith)
+some-pins (f ∷ left) e = (f, left, refl)
+
+accepted-by : (n m : Bool) (runs : List Run) → accepted (choose n (treeWith NoPins []) (choose m (treeWith BoxesMeet []) (treeWith Accepted runs)) .verdict) ≡ true
+    → (n ≡ false) × (m ≡ false)
+unfolding choose treeWith accepted
+accepted-by true m runs e = absurd (let z : _≡_ {A = ℕ} 0 1 = cc in omega arith)
+accepted-by false true runs e = absurd (let z : _≡_ {A = ℕ} 0 1 = cc in omega arith)
+accepted-by false false runs e = (refl, refl)
+
+pub tree-accepts : (feed : List Spot) (t : Tree) → t ≡ treeOf feed → accepted (t .verdict) ≡ true → Wired feed t
+unfolding treeOf
+tree-accepts feed t e y =
+    let z = accepted-by (none (pinsOf feed)) (boxesMeet feed (runsOf feed)) (runsOf feed) (sym (ap (λ (w : Tree). accepted (w .verdict)) e) ∙ y) in
+    let p = some-pins (pinsOf feed) (z .0) in
+    let q : t ≡ treeWith Accepted (runsOf feed) = e ∙ chosen (none (pinsOf feed)) (boxesMeet feed (runsOf feed)) (z .0) (z .1) in
+    record {
+      first = p .0;
+      left = p .1;
+      pins = p .2;
+      clear = z .1;
+      count = ap (λ (w : Tree). w .count) q ∙ (unfold treeWith in refl);
+      runs = ap (λ (w : Tree). w .runs) q ∙ (unfold treeWith in refl);
+    }
+  where
+    chosen : (n m : Bool) → n ≡ false → m ≡ false → choose n (treeWith NoPins []) (choose m (treeWith BoxesMeet []) (treeWith Accepted (runsOf feed))) ≡ treeWith Accepted (runsOf feed)
+    chosen n m a b = unfold choose in rw (a, b)
+
+-- ---- entries after the last are blank
+blank-at : {A : Type 0} (k i : ℕ) (d : A) → getD (replicate k d) i d ≡ d
+blank-at zero i d = refl
+blank-at (suc k) zero d = refl
+blank-at (suc k) (suc i) d = blank-at k i d
+
+padded-at : {A : Type 0} (l : List A) (k i : ℕ) (d : A) → getD (l ++ replicate k d) i d ≡ getD l i d
+padded-at [] k i d = blank-at k i d
+padded-at (x ∷ l) k zero d = refl
+padded-at (x ∷ l) k (suc i) d = padded-at l k i d
+
+entries-at : (runs : List Run) (r : ℕ) → runAt (entries runs) r ≡ runAt runs r
+unfolding entries
+entries-at runs r = padded-at runs (31 - length runs) r (run 0 0)
+
+entries-take : (runs : List Run) → take (length runs) (entries runs) ≡ runs
+unfolding entries
+entries-take runs = take-at runs (replicate (31 - length runs) (run 0 0)) (length runs) refl
+
+pin-entries : (runs : List Run) (i : ℕ) → reachedPin (entries runs) i ≡ reachedPin runs i
+unfolding reachedPin
+pin-entries runs zero = ap (λ (r : Run). r .near) (entries-at runs 0)
+pin-entries runs (suc r) = ap (λ (q : Run). q .far) (entries-at runs r)
+
+middle-inside : inside (record { x = pos 0; y = pos 0 }) ≡ true
+unfolding inside onBoard both
+middle-inside = refl
+
+-- ---- the shapes, run by run
+values-shift : {A : Type 0} (f : ℕ → A) (i k : ℕ) → valuesFrom f (suc i) k ≡ valuesFrom (λ j. f (suc j)) i k
+unfolding valuesFrom
+values-shift f i zero = refl
+values-shift f i (suc k) = ap (λ (l : List _). f (suc i) ∷ l) (values-shift f (suc i) k)
+
+values-same : {A : Type 0} (f g : ℕ → A) (i k : ℕ) → ((j : ℕ) → f j ≡ g j) → valuesFrom f i k ≡ valuesFrom g i k
+unfolding valuesFrom
+values-same f g i zero h = refl
+values-same f g i (suc k) h = ap₂ (λ (x : _) (l : List _). x ∷ l) (h i) (values-same f g (suc i) k h)
+
+-- A run with the shape that its bend gives it.
+abbrev bentAs : List Spot → (ℕ → Bool) → List Run → ℕ → Shaped
+bentAs feed upper runs r = shaped (runAt runs r .near) (runAt runs r .far) (shapeOf (upper r) (nearEnd feed (runAt runs r)) (farEnd feed (runAt runs r)))
+
+shaped-values : (feed : List Spot) (upper : ℕ → Bool) (runs : List Run) → valuesFrom (bentAs feed upper runs) 0 (length runs) ≡ shapedRuns runs (shapesBy feed upper runs)
+unfolding shapedRuns shapesBy
+shaped-values feed upper [] = unfold valuesFrom in refl
+shaped-values feed upper (r ∷ runs) =
+    front (bentAs feed upper (r ∷ runs)) (length runs)
+    ∙ ap (λ (l : List Shaped). bentAs feed upper (r ∷ runs) 0 ∷ l)
+    (values-shift (bentAs feed upper (r ∷ runs)) 0 (length runs) ∙ shaped-values feed (λ q. upper (suc q)) runs)
+  where
+    front : (f : ℕ → Shaped) (k : ℕ) → valuesFrom f 0 (suc k) ≡ f 0 ∷ valuesFrom f 1 k
+    front f k = unfold valuesFrom in refl
+
+entries-shaped : (feed : List Spot) (favoured : Bool) (mask : ℕ) (runs : List Run)
+    → entriesIn feed favoured mask (entries runs) (length runs) ≡ runEntries (shapedRuns runs (shapesBy feed (upperIn favoured mask) runs))
+unfolding entriesIn
+entries-shaped feed favoured mask runs =
+    ap runEntries
+    (values-same (shapedIn feed favoured mask (entries runs)) (bentAs feed (upperIn favoured mask) runs) 0 (length runs) (λ j. same j)
+    ∙ shaped-values feed (upperIn favoured mask) runs)
+  where
+    same : (j : ℕ) → shapedIn feed favoured mask (entries runs) j ≡ bentAs feed (upperIn favoured mask) runs j
+    same j = unfold shapedIn in rw (entries-at runs j)
+
+shaped-long : (feed : List Spot) (upper : ℕ → Bool) (runs : List Run) → length (shapedRuns runs (shapesBy feed upper runs)) ≡ length runs
+unfolding shapedRuns shapesBy
+shaped-long feed upper [] = refl
+shaped-long feed upper (r ∷ runs) = ap suc (shaped-long feed (λ q. upper (suc q)) runs)
+
+take-entries : (l : List Shaped) (n : ℕ) → length l ≡ n → take n (runEntries l) ≡ l
+unfolding runEntries
+take-entries l n e = take-at l (replicate (31 - length l) (shaped 0 0 Straight)) n e
+
+legs-shaped : (feed : List Spot) (runs : List Run) (shapes : List Shape) → legsOfEntries feed (shapedRuns runs shapes) ≡ legsOfChoice feed runs shapes
+unfolding legsOfEntries shapedRuns legsOfChoice legsOfEntry
+legs-shaped feed [] shapes = refl
+legs-shaped feed (r ∷ runs) [] = refl
+legs-shaped feed (r ∷ runs) (s ∷ shapes) = ap (λ (l : List Leg). legsOf s (nearEnd feed r) (farEnd feed r) ++ l) (legs-shaped feed runs shapes)
+
+module _ (feed : List Spot) (full : length feed ≡ 32) (ok : allInside feed ≡ true) (free : crowded feed ≡ false) (t : Tree) (w : Wired feed t) where
+  abbrev runs : List Run
+  runs = runsOf feed
+
+  abbrev n : ℕ
+  n = length runs
+
+  pub few : n ≤ 31
+  unfolding pinsOf
+  few = omega (arith, runs-many feed full ok (w .first) (w .left) (w .pins), pins-few 0 feed)
+
+  abbrev xs : List ℤ
+  xs = xsOf feed (entries runs)
+
+  abbrev ys : List ℤ
+  ys = ysOf feed (entries runs)
+
+  abbrev nears : List ℕ
+  nears = nearsOf (entries runs) n
+
+  place-same : (i : ℕ) → reachedPlace feed (entries runs) i ≡ reachedPlace feed runs i
+  place-same i = ap (λ (p : ℕ). placeOf (spotAt feed p)) (pin-entries runs i)
+
+  place-is : (i : ℕ) → i < 32 → placeAt xs ys i ≡ reachedPlace feed runs i
+  unfolding xsOf ysOf
+  place-is i l =
+      ap₂ (λ (a b : ℤ). record { x = a; y = b }) (value-at (λ j. reachedPlace feed (entries runs) j .x) 32 i (pos 0) l ∙ ap (λ (p : Place). p .x) (place-same i))
+      (value-at (λ j. reachedPlace feed (entries runs) j .y) 32 i (pos 0) l ∙ ap (λ (p : Place). p .y) (place-same i))
+
+  near-is : (r : ℕ) → r < 31 → nearAt nears r ≡ reachedNear runs r
+  unfolding nearsOf reachedNear
+  near-is r l =
+      value-at (λ q. reachedFrom 0 (take n (entries runs)) (runAt (entries runs) q .near)) 31 r 0 l
+      ∙ ap₂ (λ (a : List Run) (b : ℕ). reachedFrom 0 a b) (entries-take runs) (ap (λ (q : Run). q .near) (entries-at runs r))
+
+  abbrev before : (r : ℕ) → r < n → reachedNear runs r ≤ r
+  before = grown feed full ok (w .first) (w .left) (w .pins)
+
+  -- The tree can be asked.
+  pub tree-grown : Grown xs ys nears n
+  tree-grown =
+      record {
+        few = few;
+        grown = λ r l. rw (near-is r (omega (arith, few))) (before r l);
+        on-board = λ i. go i (ltb i 32) refl;
+      }
+    where
+      go : (i : ℕ) (b : Bool) → ltb i 32 ≡ b → inside (placeAt xs ys i) ≡ true
+      go i true e = rw (place-is i (ltb-true i 32 e)) (inside-at feed ok (reachedPin runs i))
+      go i false e =
+          let l : 32 ≤ i = ltb-false i 32 e in
+          let p : getD xs i (pos 0) ≡ pos 0 = List·getD-eq-default xs (pos 0) (long-x i l) in
+          let q : getD ys i (pos 0) ≡ pos 0 = List·getD-eq-default ys (pos 0) (long-y i l) in
+          rw (p, q) middle-inside
+        where
+          long-x : (i : ℕ) → 32 ≤ i → length xs ≤ i
+          long-x i l = unfold xsOf in omega (arith, values-long (λ j. reachedPlace feed (entries runs) j .x) 0 32)
+
+          long-y : (i : ℕ) → 32 ≤ i → length ys ≤ i
+          long-y i l = unfold ysOf in omega (arith, values-long (λ j. reachedPlace feed (entries runs) j .y) 0 32)
+
+  alike : Alike (placeAt xs ys) (reachedPlace feed runs) (nearAt nears) (reachedNear runs) n
+  alike =
+      record {
+        nears = λ r l. near-is r (omega (arith, few));
+        near-ends = λ r l. ap (placeAt xs ys) (near-is r (omega (arith, few))) ∙ place-is (reachedNear runs r) (omega (arith, few, before r l));
+        far-ends = λ r l. place-is (suc r) (omega (arith, few));
+      }
+
+  module _ (favoured : Bool) (f : Found) (ef : f ≡ foundTree (placeAt xs ys) (nearAt nears) favoured n) where
+    abbrev choice : List Shape
+    choice = bestChoice favoured feed runs
+
+    found-is : f ≡ foundTree (reachedPlace feed runs) (reachedNear runs) favoured n
+    found-is = ef ∙ found-alike (placeAt xs ys) (reachedPlace feed runs) (nearAt nears) (reachedNear runs) n alike favoured
+
+    cost-is : f .cost ≡ leastOf (reachedPlace feed runs) (reachedNear runs) base (markOf favoured) n
+    unfolding foundTree
+    cost-is = ap (λ (z : Found). z .cost) found-is ∙ tree-cost (reachedPlace feed runs) (reachedNear runs) favoured n
+
+    length-is : f .cost / base ≡ lengthOfChoice feed runs choice
+    length-is = ap (λ (c : ℕ). c / base) cost-is ∙ length-found feed full ok (w .first) (w .left) (w .pins) free (w .clear) few favoured
+
+    shapes-is : shapesBy feed (upperIn favoured (f .cost % base)) runs ≡ choice
+    shapes-is = ap (λ (c : ℕ). shapesBy feed (upperIn favoured (c % base)) runs) cost-is ∙ shapes-found feed full ok (w .first) (w .left) (w .pins) free (w .clear) few favoured
+
+    weighed-is : f .weighed ≡ weighedOf feed runs (pinsOf feed)
+    unfolding foundTree
+    weighed-is = ap (λ (z : Found). z .weighed) found-is ∙ weighed-told feed full ok (w .first) (w .left) (w .pins)
+
+    module _ (E : List Shaped) (eE : E ≡ entriesIn feed favoured (f .cost % base) (entries runs) n) (S : Strip) (eS : S ≡ strip (legsOfEntries feed (take n E))) where
+      entries-is : E ≡ runEntries (shapedRuns runs choice)
+      entries-is = eE ∙ entries-shaped feed favoured (f .cost % base) runs ∙ ap (λ (c : List Shape). runEntries (shapedRuns runs c)) shapes-is
+
+      count-is : length (shapedRuns runs choice) ≡ n
+      count-is = rw shapes-is at (shaped-long feed (upperIn favoured (f .cost % base)) runs)
+
+      strip-is : S ≡ strip (legsOfChoice feed runs choice)
+      strip-is =
+          eS ∙ ap (λ (l : List Shaped). strip (legsOfEntries feed l)) (ap (take n) entries-is ∙ take-entries (shapedRuns runs choice) n count-is)
+          ∙ ap strip (legs-shaped feed runs choice)
+
+      many-is : S .count ≡ length (legsOfChoice feed runs choice)
+      unfolding strip
+      many-is = ap (λ (s : Strip). s .count) strip-is
+
+      legs-is : S .legs ≡ legEntries (legsOfChoice feed runs choice)
+      unfolding strip
+      legs-is = ap (λ (s : Strip). s .legs) strip-is
+
+      some : none (pinsOf feed) ≡ false
+      some = rw (w .pins)
+
+      verdict-is : (room : ℕ) → wiringVerdict feed runs choice room ≡ turn (ltb room (S .count)) RoomTooSmall Accepted
+      unfolding wiringVerdict turn choose
+      verdict-is room = rw (some, w .clear, many-is)
+
+      -- Too little room.
+      pub room-refused : (room : ℕ) → room < S .count → turnedAway RoomTooSmall ≡ wiringFavouring favoured feed room
+      unfolding wiringFavouring wiringWith
+      room-refused room l =
+          let v : wiringVerdict feed runs choice room ≡ RoomTooSmall = verdict-is room ∙ (unfold turn choose in rw (lt-ltb room (S .count) l)) in
+          rw v (sym (turned RoomTooSmall (answerWith feed runs choice) (unfold accepted in refl)))
+
+      -- The answer.
+      pub answer-is : (room : ℕ) → S .count ≤ room
+          → record {
+            wiring = record { verdict = Accepted; length = f .cost / base; count = n; runs = E; legs = S .count; weighed = f .weighed };
+            legs = S .legs;
+          } ≡ wiringFavouring favoured feed room
+      unfolding wiringFavouring wiringWith
+      answer-is room l =
+          let v : wiringVerdict feed runs choice room ≡ Accepted = verdict-is room ∙ (unfold turn choose in rw (le-ltb room (S .count) l)) in
+          rw v (unfold accepted choose answerWith laidWith in rw (length-is, weighed-is, entries-is, many-is, legs-is, count-is))
+
+-- ---- the same of the tree as the code has it
+pub off-not : (b : Bool) → not b ≡ true → b ≡ false
+off-not true e = sym e
+off-not false e = refl
+
+pub on-not : (b : Bool) → not b ≡ false → b ≡ true
+on-not true e = refl
+on-not false e = sym e
+
+module _ (feed : List Spot) (full : length feed ≡ 32) (ok : allInside feed ≡ true) (free : crowded feed ≡ false) (favoured : Bool) (room : ℕ)
+    (t : Tree) (et : t ≡ treeOf feed) (b : Bool) (eb : b ≡ accepted (t .verdict)) where
+  pub wire-refused : not b ≡ true → turnedAway (t .verdict) ≡ wiringFavouring favoured feed room
+  wire-refused y = tree-refuses favoured feed room t et (sym eb ∙ off-not b y)
+
+  module _ (y : not b ≡ false) where
+    w : Wired feed t
+    w = tree-accepts feed t et (sym eb ∙ on-not b y)
+
+    pub count-few : t .count ≤ 31
+    count-few = omega (arith, few feed full ok free t w, w .count)
+
+    module _ (xs ys : List ℤ) (nears : List ℕ) (ex : xs ≡ xsOf feed (t .runs)) (ey : ys ≡ ysOf feed (t .runs)) (en : nears ≡ nearsOf (t .runs) (t .count)) where
+      pub wire-grown : Grown xs ys nears (t .count)
+      wire-grown = rw (ex, ey, en, w .count, w .runs) (tree-grown feed full ok free t w)
+
+      module _ (f : Found) (ef : f ≡ foundTree (placeAt xs ys) (nearAt nears) favoured (t .count)) (E : List Shaped) (eE : E ≡ entriesIn feed favoured (f .cost % base) (t .runs) (t .count))
+          (S : Strip) (eS : S ≡ strip (legsOfEntries feed (take (t .count) E))) where
+        found-as : f ≡ foundTree (placeAt (xsOf feed (entries (runsOf feed))) (ysOf feed (entries (runsOf feed)))) (nearAt (nearsOf (entries (runsOf feed)) (length (runsOf feed)))) favoured (length (runsOf feed))
+        found-as = rw (ex, ey, en, w .count, w .runs) at ef
+
+        entries-as : E ≡ entriesIn feed favoured (f .cost % base) (entries (runsOf feed)) (length (runsOf feed))
+        entries-as = rw (w .count, w .runs) at eE
+
+        strip-as : S ≡ strip (legsOfEntries feed (take (length (runsOf feed)) E))
+        strip-as = rw (w .count) at eS
+
+        pub wire-room : room < S .count → turnedAway RoomTooSmall ≡ wiringFavouring favoured feed room
+        wire-room l = room-refused feed full ok free t w favoured f found-as E entries-as S strip-as room l
+
+        pub wire-answer : S .count ≤ room
+            → record {
+              wiring = record { verdict = Accepted; length = f .cost / base; count = t .count; runs = E; legs = S .count; weighed = f .weighed };
+              legs = S .legs;
+            } ≡ wiringFavouring favoured feed room
+        wire-answer l = rw (w .count) (answer-is feed full ok free t w favoured f found-as E entries-as S strip-as room l)

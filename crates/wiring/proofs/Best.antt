@@ -1,0 +1,183 @@
+-- THE SHAPES FOUND ARE THE FIRST OF THE SHORTEST: what is asked pin by pin tells, as a length and a mask, the choice that the definition finds by
+-- looking through all of them. From pins that stand on the board, no two of them too near, and boxes that do not meet.
+use mathlib.Core.Path.{_≡_, refl, sym, ap, ap₂, _∙_, subst}
+use mathlib.Core.Bool.{Bool, true, false, not}
+use mathlib.Core.List.{List, [], _∷_, _++_, append-assoc, append-nil}
+use mathlib.Core.Logic.{_⊎_, inl, inr, ⊎-elim}
+use Prim.Native.Nat.{ℕ, zero, suc, _+_, _-_, _*_, _/_, _%_, _≤_, _<_}
+use native.Mathlib.Nat.{add-mul-div-right, add-mul-mod-self-right, div-eq-of-lt, mod-eq-of-lt}
+use native.Mathlib.Omega.{arith}
+use lib.ListN.{length, getD}
+use Rattle.refusal.specs.Tests.{choose}
+use Rattle.grid.specs.declared.Place.{Place}
+use Rattle.grid.specs.declared.Spot.{Spot}
+use Rattle.grid.proofs.Flat.{Held}
+use Rattle.tree.specs.declared.Run.{Run}
+use Rattle.tree.specs.Growth.{run, placeOf, spotAt, allInside, pinsOf, runsOf}
+use Rattle.tree.specs.Boxes.{boxesMeet}
+use Rattle.tree.proofs.Membership.{Among}
+use Rattle.tree.proofs.Listing.{Rooted, nearAt, farAt, runs-rooted}
+use Rattle.copper.specs.declared.Shape.{Shape}
+use Rattle.copper.specs.declared.Leg.{Leg}
+use Rattle.copper.specs.Shapes.{isStraight, shapeOf, legsOf}
+use Rattle.copper.specs.Length.{lengthOf, legsOfRuns}
+use Rattle.copper_laws.proofs.Sums.{sumBelow, sum-same}
+use Rattle.copper_laws.proofs.Least.{May}
+use Rattle.copper_laws.proofs.Tallies.{bentAt, leastOf}
+use Rattle.copper_laws.proofs.Wired.{first-shortest}
+use Rattle.least.specs.Asking.{base, markOf}
+use Rattle.wiring.specs.Choices.{nearEnd, farEnd, choicesOf, legsOfChoice, lengthOfChoice, shortestOf, bestChoice}
+use Rattle.wiring.specs.Reaching.{runAt, reachedPin, reachedNear, reachedPlace, upperIn, shapesBy}
+use Rattle.wiring.specs.Bare.{crowded}
+use Rattle.wiring.proofs.Ordered.{isUpper, bends, maskFrom, choice-told, told-choice, choice-long, choices-rising, choice-may, bends-told, first-found}
+use Rattle.wiring.proofs.Masks.{maskBy, mask-sum, mask-choice, mask-less, mask-read}
+use Rattle.wiring.proofs.Laying.{places-held, near-place, far-place, grown, laid}
+
+-- Lists joined, n of them.
+unfoldable joinBelow : ℕ → (ℕ → List Leg) → List Leg
+joinBelow zero g = []
+joinBelow (suc n) g = joinBelow n g ++ g n
+
+join-front : (n : ℕ) (g : ℕ → List Leg) → joinBelow (suc n) g ≡ g 0 ++ joinBelow n (λ r. g (suc r))
+unfolding joinBelow
+join-front zero g = sym (append-nil (g 0))
+join-front (suc n) g = ap (λ (l : List Leg). l ++ g (suc n)) (join-front n g) ∙ append-assoc (g 0) (joinBelow n (λ r. g (suc r))) (g (suc n))
+
+join-same : (n : ℕ) (g h : ℕ → List Leg) → ((r : ℕ) → r < n → g r ≡ h r) → joinBelow n g ≡ joinBelow n h
+unfolding joinBelow
+join-same zero g h e = refl
+join-same (suc n) g h e = ap₂ (λ (a b : List Leg). a ++ b) (join-same n g h (λ r l. e r (omega arith))) (e n (omega arith))
+
+-- The legs of run r.
+abbrev legsAt : List Spot → List Run → (ℕ → Bool) → ℕ → List Leg
+legsAt feed runs upper r = legsOf (shapeOf (upper r) (nearEnd feed (runAt runs r)) (farEnd feed (runAt runs r))) (nearEnd feed (runAt runs r)) (farEnd feed (runAt runs r))
+
+legs-join : (feed : List Spot) (runs : List Run) (upper : ℕ → Bool) → legsOfChoice feed runs (shapesBy feed upper runs) ≡ joinBelow (length runs) (legsAt feed runs upper)
+unfolding legsOfChoice shapesBy
+legs-join feed [] upper = unfold joinBelow in refl
+legs-join feed (r ∷ runs) upper =
+    ap (λ (l : List Leg). legsOf (shapeOf (upper 0) (nearEnd feed r) (farEnd feed r)) (nearEnd feed r) (farEnd feed r) ++ l) (legs-join feed runs (λ q. upper (suc q)))
+    ∙ sym (join-front (length runs) (legsAt feed (r ∷ runs) upper))
+
+runs-join : (at : ℕ → Place) (near : ℕ → ℕ) (upper : ℕ → Bool) (n : ℕ)
+    → legsOfRuns at near upper n ≡ joinBelow n (λ r. legsOf (shapeOf (upper r) (at (near r)) (at (suc r))) (at (near r)) (at (suc r)))
+unfolding legsOfRuns joinBelow
+runs-join at near upper zero = refl
+runs-join at near upper (suc n) = ap (λ (l : List Leg). l ++ legsOf (shapeOf (upper n) (at (near n)) (at (suc n))) (at (near n)) (at (suc n))) (runs-join at near upper n)
+
+-- Shapes that bend alike are the same.
+shapes-same : (feed : List Spot) (runs : List Run) (u v : ℕ → Bool) → ((r : ℕ) → r < length runs → u r ≡ v r) → shapesBy feed u runs ≡ shapesBy feed v runs
+unfolding shapesBy
+shapes-same feed [] u v h = refl
+shapes-same feed (r ∷ runs) u v h =
+    ap₂ (λ (b : Bool) (c : List Shape). shapeOf b (nearEnd feed r) (farEnd feed r) ∷ c) (h 0 (omega arith)) (shapes-same feed runs (λ q. u (suc q)) (λ q. v (suc q)) (λ q l. h (suc q) (omega arith)))
+
+-- A length and a mask as one number, taken apart again.
+split-length : (mask long : ℕ) → mask < base → (mask + long * base) / base ≡ long
+split-length mask long l = add-mul-div-right mask long {z = base} (omega arith) ∙ (let z : mask / base ≡ 0 = div-eq-of-lt l in omega (arith, z))
+
+split-mask : (mask long : ℕ) → mask < base → (mask + long * base) % base ≡ mask
+split-mask mask long l = add-mul-mod-self-right mask long base ∙ mod-eq-of-lt l
+
+module _ (feed : List Spot) (full : length feed ≡ 32) (ok : allInside feed ≡ true) (f : ℕ) (left : List ℕ) (e : pinsOf feed ≡ f ∷ left)
+    (free : crowded feed ≡ false) (clear : boxesMeet feed (runsOf feed) ≡ false) (few : length (runsOf feed) ≤ 31) (favoured : Bool) where
+  abbrev runs : List Run
+  runs = runsOf feed
+
+  abbrev n : ℕ
+  n = length runs
+
+  abbrev at : ℕ → Place
+  at = reachedPlace feed runs
+
+  abbrev near : ℕ → ℕ
+  near = reachedNear runs
+
+  -- The legs of a choice are those of the runs by when their pins are reached.
+  legs-told : (upper : ℕ → Bool) → legsOfChoice feed runs (shapesBy feed upper runs) ≡ legsOfRuns at near upper n
+  legs-told upper =
+      legs-join feed runs upper
+      ∙ join-same n (legsAt feed runs upper) (λ r. legsOf (shapeOf (upper r) (at (near r)) (at (suc r))) (at (near r)) (at (suc r)))
+      (λ r l. ap₂ (λ (a b : Place). legsOf (shapeOf (upper r) a b) a b) (sym (near-place feed full ok f left e r l)) (sym (far-place feed full ok f left e r)))
+      ∙ sym (runs-join at near upper n)
+
+  length-told : (upper : ℕ → Bool) → lengthOfChoice feed runs (shapesBy feed upper runs) ≡ lengthOf (legsOfRuns at near upper n)
+  unfolding lengthOfChoice
+  length-told upper = ap lengthOf (legs-told upper)
+
+  -- The cost that is asked pin by pin.
+  abbrev cost : ℕ
+  cost = leastOf at near base (markOf favoured) n
+
+  small : (upper : ℕ → Bool) → sumBelow n (λ r. markOf favoured r (upper r)) < base
+  small upper = let z : maskBy favoured 0 n upper < 2147483648 = mask-less favoured 0 n upper (omega arith) in omega (arith, mask-sum favoured n upper)
+
+  mask-told : (c : List Shape) → length c ≡ n → maskFrom favoured 0 c ≡ sumBelow n (λ r. markOf favoured r (bends c r))
+  mask-told c l = mask-choice favoured 0 c ∙ ap (λ (k : ℕ). maskBy favoured 0 k (bends c)) l ∙ sym (mask-sum favoured n (bends c))
+
+  -- Bends that may be, by the ends of the runs and by when their pins are reached.
+  may-reached : (upper : ℕ → Bool) → ((r : ℕ) → r < n → isStraight (nearEnd feed (runAt runs r)) (farEnd feed (runAt runs r)) ≡ true → upper r ≡ false)
+      → (r : ℕ) → r < n → May (bentAt at near r) (upper r)
+  may-reached upper h r l q = h r l (ap₂ isStraight (sym (near-place feed full ok f left e r l)) (sym (far-place feed full ok f left e r)) ∙ straight (isStraight (at (near r)) (at (suc r))) q)
+    where
+      straight : (t : Bool) → not t ≡ false → t ≡ true
+      straight true p = refl
+      straight false p = sym p
+
+  may-ends : (upper : ℕ → Bool) → ((r : ℕ) → r < n → May (bentAt at near r) (upper r))
+      → (r : ℕ) → r < n → isStraight (nearEnd feed (runAt runs r)) (farEnd feed (runAt runs r)) ≡ true → upper r ≡ false
+  may-ends upper h r l q =
+      h r l (ap not (ap₂ isStraight (near-place feed full ok f left e r l) (far-place feed full ok f left e r) ∙ q))
+
+  module _ (s : ℕ → Bool) (may : (r : ℕ) → r < n → May (bentAt at near r) (s r))
+      (is : cost ≡ sumBelow n (λ r. markOf favoured r (s r)) + lengthOf (legsOfRuns at near s n) * base)
+      (ahead : (t : ℕ → Bool) → ((r : ℕ) → r < n → May (bentAt at near r) (t r))
+      → (lengthOf (legsOfRuns at near s n) < lengthOf (legsOfRuns at near t n))
+      ⊎ ((lengthOf (legsOfRuns at near s n) ≡ lengthOf (legsOfRuns at near t n))
+      × (sumBelow n (λ r. markOf favoured r (s r)) ≤ sumBelow n (λ r. markOf favoured r (t r))))) where
+    abbrev best : List Shape
+    best = shapesBy feed s runs
+
+    best-in : Among best (choicesOf favoured feed runs)
+    best-in = told-choice favoured feed runs s
+
+    best-mask : maskFrom favoured 0 best ≡ sumBelow n (λ r. markOf favoured r (s r))
+    best-mask =
+        mask-told best (choice-long favoured feed runs best best-in)
+        ∙ sum-same n (λ r. markOf favoured r (bends best r)) (λ r. markOf favoured r (s r)) (λ r l. ap (markOf favoured r) (bends-told feed runs s (may-ends s may) r l))
+
+    best-first : (d : List Shape) → Among d (choicesOf favoured feed runs)
+        → (lengthOfChoice feed runs best < lengthOfChoice feed runs d)
+        ⊎ ((lengthOfChoice feed runs best ≡ lengthOfChoice feed runs d) × (maskFrom favoured 0 best ≤ maskFrom favoured 0 d))
+    best-first d m =
+        let l : lengthOfChoice feed runs d ≡ lengthOf (legsOfRuns at near (bends d) n) = ap (lengthOfChoice feed runs) (choice-told favoured feed runs d m) ∙ length-told (bends d) in
+        let b : lengthOfChoice feed runs best ≡ lengthOf (legsOfRuns at near s n) = length-told s in
+        ⊎-elim (λ h. inl (omega (arith, h, l, b)))
+        (λ h. inr (omega (arith, h .0, l, b), omega (arith, h .1, best-mask, mask-told d (choice-long favoured feed runs d m))))
+        (ahead (bends d) (may-reached (bends d) (choice-may favoured feed runs d m)))
+
+    best-is : bestChoice favoured feed runs ≡ best
+    unfolding bestChoice
+    best-is = first-found feed runs (maskFrom favoured 0) best (choicesOf favoured feed runs) best-in (choices-rising favoured feed 0 runs (omega arith)) best-first
+
+    length-is : cost / base ≡ lengthOfChoice feed runs (bestChoice favoured feed runs)
+    length-is = ap (λ (c : ℕ). c / base) is ∙ split-length _ _ (small s) ∙ sym (length-told s) ∙ ap (lengthOfChoice feed runs) (sym best-is)
+
+    shapes-is : shapesBy feed (upperIn favoured (cost % base)) runs ≡ bestChoice favoured feed runs
+    shapes-is =
+        shapes-same feed runs (upperIn favoured (cost % base)) s
+        (λ r l.
+        ap (λ (m : ℕ). upperIn favoured m r) (ap (λ (c : ℕ). c % base) is ∙ split-mask _ _ (small s) ∙ mask-sum favoured n s) ∙ mask-read favoured n s r few l)
+        ∙ sym best-is
+
+  -- The length of the best choice ..
+  pub length-found : cost / base ≡ lengthOfChoice feed runs (bestChoice favoured feed runs)
+  length-found =
+      let z = first-shortest at near n (λ i l. places-held feed full ok f left e i) (laid feed full ok f left e free clear) base (markOf favoured) small in
+      length-is (z .0) (z .1) (z .2) (z .3)
+
+  -- .. and its shapes.
+  pub shapes-found : shapesBy feed (upperIn favoured (cost % base)) runs ≡ bestChoice favoured feed runs
+  shapes-found =
+      let z = first-shortest at near n (λ i l. places-held feed full ok f left e i) (laid feed full ok f left e free clear) base (markOf favoured) small in
+      shapes-is (z .0) (z .1) (z .2) (z .3)

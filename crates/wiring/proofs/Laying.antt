@@ -1,0 +1,154 @@
+-- The runs of a feed, by when their pins are reached, are laid as the length asks. From pins that stand on the board, no two of them too near,
+-- and a search that found no boxes that meet.
+use mathlib.Core.Path.{_≡_, refl, sym, ap, ap₂, _∙_, subst, fun-ext}
+use mathlib.Core.Bool.{Bool, true, false}
+use mathlib.Core.List.{List, [], _∷_}
+use mathlib.Core.Logic.{_⊎_, inl, inr}
+use Prim.Native.Nat.{ℕ, zero, suc, _+_, _≤_, _<_}
+use native.Mathlib.Omega.{arith}
+use lib.IntN.{ℤ}
+use lib.Dec.{eqb}
+use lib.ListN.{length, getD}
+use borrow.Author.Tests.{eq-eqb, eqb-true, eqb-false, lt-ltb}
+use Rattle.refusal.specs.Tests.{either}
+use Rattle.refusal.proofs.Tests.{both-of, both-left, both-right}
+use Rattle.grid.specs.declared.Place.{Place}
+use Rattle.grid.specs.declared.Spot.{Spot}
+use Rattle.grid.specs.declared.Spot.the-variants.{Absent}
+use Rattle.grid.specs.Place.{leastGap, difference, sameNumber, closer, tooNear, samePlace}
+use Rattle.grid.proofs.Signed.{I32, difference-off}
+use Rattle.grid.proofs.Flat.{Site, site, Held, order}
+use Rattle.tree.specs.declared.Run.{Run}
+use Rattle.tree.specs.Growth.{run, present, placeOf, spotAt, allInside, pinsOf, runsOf}
+use Rattle.tree.specs.Boxes.{boxesMeet}
+use Rattle.tree.proofs.Deciding.{opposite, either-false}
+use Rattle.tree.proofs.Membership.{Among, pins-there}
+use Rattle.tree.proofs.Listing.{Rooted, nearAt, farAt, pins-low, runs-rooted}
+use Rattle.tree.proofs.Numbering.{stands}
+use Rattle.copper_laws.proofs.Laid.{Laid}
+use Rattle.copper_laws.proofs.Planted.{pinAt, planted}
+use Rattle.wiring.specs.Reaching.{runAt, reachedPin, reachedNear, reachedPlace}
+use Rattle.wiring.specs.Bare.{crowd, crowdAny, crowded}
+use Rattle.wiring.proofs.Positions.{near-before, near-pin, far-pin, first-pin}
+
+-- No two pins that are there are too near where the test says so.
+any-apart : (s : Spot) (l : List Spot) → crowdAny s l ≡ false → (j : ℕ) → j < length l → crowd s (getD l j Absent) ≡ false
+unfolding crowdAny
+any-apart s [] e j h = absurd (omega arith)
+any-apart s (t ∷ l) e zero h = either-false (crowd s t) (crowdAny s l) e .0
+any-apart s (t ∷ l) e (suc j) h = any-apart s l (either-false (crowd s t) (crowdAny s l) e .1) j (omega arith)
+
+all-apart : (l : List Spot) → crowded l ≡ false → (i j : ℕ) → i < j → j < length l → crowd (getD l i Absent) (getD l j Absent) ≡ false
+unfolding crowded
+all-apart [] e i j h k = absurd (omega arith)
+all-apart (s ∷ l) e i zero h k = absurd (omega arith)
+all-apart (s ∷ l) e zero (suc j) h k = any-apart s l (either-false (crowdAny s l) (crowded l) e .0) j (omega arith)
+all-apart (s ∷ l) e (suc i) (suc j) h k = all-apart l (either-false (crowdAny s l) (crowded l) e .1) i j (omega arith) (omega arith)
+
+-- Two pins at one place are too near.
+same-closer : (a b : ℤ) → sameNumber a b ≡ true → closer a b ≡ true
+unfolding sameNumber closer
+same-closer a b e = lt-ltb (difference a b) leastGap (let z : difference a b < leastGap = omega (arith, eqb-true (difference a b) 0 e) in z)
+
+same-crowd : (s t : Spot) → present s ≡ true → present t ≡ true → samePlace (placeOf s) (placeOf t) ≡ true → crowd s t ≡ true
+unfolding crowd tooNear samePlace
+same-crowd s t a b e =
+    both-of (both-of a b)
+    (both-of (same-closer (placeOf s .x) (placeOf t .x) (both-left (sameNumber (placeOf s .x) (placeOf t .x)) (sameNumber (placeOf s .y) (placeOf t .y)) e))
+    (same-closer (placeOf s .y) (placeOf t .y) (both-right (sameNumber (placeOf s .x) (placeOf t .x)) (sameNumber (placeOf s .y) (placeOf t .y)) e)))
+
+turned : (a b : ℤ) → I32 a → I32 b → sameNumber a b ≡ true → sameNumber b a ≡ true
+unfolding sameNumber
+turned a b p q e =
+    eq-eqb (difference b a) 0 (let z : difference b a ≡ 0 = omega (arith, eqb-true (difference a b) 0 e, difference-off a b p q, difference-off b a q p) in z)
+
+place-turned : (a b : Place) → Held a → Held b → samePlace a b ≡ true → samePlace b a ≡ true
+unfolding samePlace
+place-turned a b p q e =
+    both-of (turned (a .x) (b .x) (p .x) (q .x) (both-left (sameNumber (a .x) (b .x)) (sameNumber (a .y) (b .y)) e))
+    (turned (a .y) (b .y) (p .y) (q .y) (both-right (sameNumber (a .x) (b .x)) (sameNumber (a .y) (b .y)) e))
+
+module _ (feed : List Spot) (full : length feed ≡ 32) (ok : allInside feed ≡ true) (f : ℕ) (left : List ℕ) (e : pinsOf feed ≡ f ∷ left) where
+  abbrev runs : List Run
+  runs = runsOf feed
+
+  abbrev n : ℕ
+  n = length runs
+
+  abbrev at : ℕ → Place
+  at = reachedPlace feed runs
+
+  abbrev near : ℕ → ℕ
+  near = reachedNear runs
+
+  abbrev sites : ℕ → Site
+  sites i = site (at i)
+
+  root : Rooted f left runs
+  root = runs-rooted feed full ok f left e
+
+  pub places-held : (i : ℕ) → Held (at i)
+  places-held i = stands feed ok (reachedPin runs i) .held
+
+  -- Where the near and the far pin of a run stand.
+  pub near-place : (r : ℕ) → r < n → at (near r) ≡ placeOf (spotAt feed (nearAt runs r))
+  near-place r l = ap (λ (p : ℕ). placeOf (spotAt feed p)) (near-pin f left runs root r l)
+
+  pub far-place : (r : ℕ) → at (suc r) ≡ placeOf (spotAt feed (farAt runs r))
+  far-place r = ap (λ (p : ℕ). placeOf (spotAt feed p)) (far-pin f left runs root r)
+
+  pub grown : (r : ℕ) → r < n → near r ≤ r
+  grown = near-before f left runs root
+
+  module _ (free : crowded feed ≡ false) where
+    there : (a : ℕ) → Among a (f ∷ left) → present (spotAt feed a) ≡ true
+    unfolding pinsOf
+    there a m =
+        let z = pins-there 0 feed (rw (sym e) at m) in
+        let q : 0 + z .0 ≡ z .0 = omega arith in
+        ap (λ (p : ℕ). present (getD feed p Absent)) (z .1 ∙ q) ∙ z .3
+
+    -- No two pins stand at one place.
+    apart : (a b : ℕ) → a < b → b < 32 → Among a (f ∷ left) → Among b (f ∷ left) → samePlace (placeOf (spotAt feed a)) (placeOf (spotAt feed b)) ≡ true → ⊥
+    apart a b l k m o h =
+        opposite (same-crowd (spotAt feed a) (spotAt feed b) (there a m) (there b o) h) (all-apart feed free a b l (omega arith))
+
+    distinct : (a b : ℕ) → Among a (f ∷ left) → Among b (f ∷ left) → samePlace (placeOf (spotAt feed a)) (placeOf (spotAt feed b)) ≡ true → a ≡ b
+    distinct a b m o h = go (order a b) (order b a)
+      where
+        go : (a ≤ b) ⊎ (b < a) → (b ≤ a) ⊎ (a < b) → a ≡ b
+        go (inl p) (inl q) = omega arith
+        go (inl p) (inr q) = absurd (apart a b q (pins-low feed full ok f left e b o) m o h)
+        go (inr p) q =
+            absurd
+            (apart b a p (pins-low feed full ok f left e a m) o m
+            (place-turned (placeOf (spotAt feed a)) (placeOf (spotAt feed b)) (stands feed ok a .held) (stands feed ok b .held) h))
+
+    module _ (clear : boxesMeet feed runs ≡ false) where
+      -- The pins are numbered in the same way as where the runs are planted, but for a first pin from which no run leads on.
+      pin-same : 0 < n → (i : ℕ) → reachedPin runs i ≡ pinAt feed full ok f left e i
+      unfolding pinAt
+      pin-same o zero = first-pin f left runs root o
+      pin-same o (suc r) = far-pin f left runs root r
+
+      laid-some : 0 < n → Laid sites near n
+      laid-some o =
+          subst (λ (at' : ℕ → Site). Laid at' near n) (fun-ext (λ i. ap (λ (p : ℕ). site (placeOf (spotAt feed p))) (sym (pin-same o i))))
+          (planted feed full ok f left e near grown (λ r l. sym (pin-same o (near r)) ∙ near-pin f left runs root r l) distinct clear)
+
+      laid-none : n ≡ 0 → Laid sites near n
+      laid-none z =
+          record {
+            grown = grown;
+            full = λ r l h. omega arith;
+            separate = λ r q l m ne a b c p h k. omega arith;
+            distant = λ r q i j k l m a b ne. absurd (omega arith);
+          }
+
+      -- The runs are laid so.
+      pub laid : Laid sites near n
+      laid = go (eqb n 0) refl
+        where
+          go : (t : Bool) → eqb n 0 ≡ t → Laid sites near n
+          go true y = laid-none (eqb-true n 0 y)
+          go false y = let ne : n ≡ 0 → ⊥ = eqb-false n 0 y in laid-some (omega (arith, ne))

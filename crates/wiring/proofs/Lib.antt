@@ -1,0 +1,11 @@
+-- What is proved of wiring beside the functions' contracts.
+pub mod Worked
+pub mod Ordered
+pub mod Masks
+pub mod Positions
+pub mod Laying
+pub mod Best
+pub mod Weighed
+pub mod Filling
+pub mod Answering
+pub mod Bareness

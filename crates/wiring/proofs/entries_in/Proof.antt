@@ -1,0 +1,55 @@
+-- `wiring::entries_in` meets its contract: the entries are filled from the front. Assumes nothing.
+use mathlib.Core.Path.{_≡_, refl, sym, ap, _∙_}
+use Prim.Native.Nat.{_≤_, _-_}
+use native.Mathlib.Omega.{arith}
+use Rattle.wiring.specs.Reaching.{valuesFrom, shapedIn, entriesIn}
+use Rattle.wiring.specs.Answer.{runEntries}
+use Rattle.wiring.proofs.Filling.{entries-none, entries-turn, entries-all}
+use borrow.Author.Needs.{needs}
+use Rattle.wiring.proofs.entries_in.Statement.{statement}
+use Rattle.wiring.proofs.entries_in.Tie as tie
+
+abbrev Inv-loop : tie.InvT-loop
+Inv-loop feed favoured mask runs count entries₀ at₀ entries at = (at ≤ count) × (entries ≡ runEntries (valuesFrom (shapedIn feed favoured mask runs) 0 at))
+
+abbrev μ-loop : tie.MeasureT-loop
+μ-loop feed favoured mask runs count entries₀ at₀ entries at = count - at
+
+loop-holds : tie.Need-loop-holds Inv-loop μ-loop
+loop-holds c = (omega arith, entries-none _ _ _ _)
+
+shaped-in-requires : tie.Need-shaped-in-requires Inv-loop μ-loop
+shaped-in-requires c κs = search needs
+
+mul-entries : tie.Need-mul-entries Inv-loop μ-loop
+mul-entries c = search needs
+
+array-set-from-entries : tie.Need-array-set-from-entries Inv-loop μ-loop
+array-set-from-entries c = search needs
+
+add-at : tie.Need-add-at Inv-loop μ-loop
+add-at c = search needs
+
+loop-less : tie.Need-loop-less Inv-loop μ-loop
+loop-less c = search needs
+
+loop-again : tie.Need-loop-again Inv-loop μ-loop
+loop-again c = (omega arith, entries-turn _ _ _ _ _ _ _ (omega arith) (c .before .before .loop .inv .1) (c .shaped-in .ensures))
+
+returns : tie.Need-returns Inv-loop μ-loop
+returns c = entries-all _ _ _ _ _ _ _ (c .loop-test .left) (c .before .loop .inv .0) (c .before .loop .inv .1)
+
+pub entries-in-spec : {M : Type 1} → statement M
+entries-in-spec =
+    tie.close
+    (tie.spec
+    Inv-loop
+    μ-loop
+    loop-holds
+    shaped-in-requires
+    mul-entries
+    array-set-from-entries
+    add-at
+    loop-less
+    loop-again
+    returns)

@@ -1,0 +1,16 @@
+-- `wiring::refused` meets its contract. Assumes nothing.
+use mathlib.Core.Path.{_≡_, refl, sym, ap, _∙_}
+use Rattle.wiring.specs.Answer.{turnedAway, runEntries, legEntries}
+use borrow.Author.Needs.{needs}
+use Rattle.wiring.proofs.refused.Statement.{statement}
+use Rattle.wiring.proofs.refused.Tie as tie
+
+no-leg-requires : tie.Need-no-leg-requires
+no-leg-requires c κs = search needs
+
+returns : tie.Need-returns
+unfolding turnedAway runEntries legEntries
+returns c = rw (c .no-leg .ensures)
+
+pub refused-spec : {M : Type 1} → statement M
+refused-spec = tie.close (tie.spec no-leg-requires returns)

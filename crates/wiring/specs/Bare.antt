@@ -1,0 +1,64 @@
+-- Bare wiring: lists of x and y as a feed, and its refusals.
+use mathlib.Core.Bool.{Bool, true, false}
+use mathlib.Core.List.{List, [], _∷_, _++_}
+use Prim.Native.Nat.{ℕ, _-_}
+use lib.IntN.{ℤ}
+use lib.Dec.{eqb, ltb}
+use lib.ListN.{length, replicate}
+use Rattle.refusal.specs.Tests.{both, either, choose}
+use Rattle.refusal.specs.Refusals.{accepted, turn}
+use Rattle.refusal.specs.declared.Verdict.{Verdict}
+use Rattle.refusal.specs.declared.Verdict.the-variants.{Accepted, ListLengths, NoPins, Outside, PlaceTaken}
+use Rattle.grid.specs.declared.Place.{Place}
+use Rattle.grid.specs.declared.Spot.{Spot}
+use Rattle.grid.specs.declared.Spot.the-variants.{Absent, At}
+use Rattle.grid.specs.Place.{tooNear}
+use Rattle.tree.specs.Growth.{present, placeOf, allInside}
+use Rattle.tree.specs.Boxes.{fails}
+use Rattle.wiring.specs.declared.Laid.{Laid}
+use Rattle.wiring.specs.Answer.{turnedAway, wiringOf}
+
+-- A drawing has up to 32 pins.
+abbrev pub most : ℕ
+most = 32
+
+-- Two pins that are there are too near.
+unfoldable pub crowd : Spot → Spot → Bool
+crowd s t = both (both (present s) (present t)) (tooNear (placeOf s) (placeOf t))
+
+-- A pin is too near one of some others.
+unfoldable pub crowdAny : Spot → List Spot → Bool
+crowdAny s [] = false
+crowdAny s (t ∷ feed) = either (crowd s t) (crowdAny s feed)
+
+-- Two pins of a feed are too near.
+unfoldable pub crowded : List Spot → Bool
+crowded [] = false
+crowded (s ∷ feed) = either (crowdAny s feed) (crowded feed)
+
+-- The pins of lists of x and y.
+unfoldable pub spotsOf : List ℤ → List ℤ → List Spot
+spotsOf [] ys = []
+spotsOf (x ∷ xs) [] = []
+spotsOf (x ∷ xs) (y ∷ ys) = At (record { x = x; y = y }) ∷ spotsOf xs ys
+
+-- Its pins are numbered by position.
+unfoldable pub feedOf : List ℤ → List ℤ → List Spot
+feedOf xs ys = spotsOf xs ys ++ replicate (most - length (spotsOf xs ys)) Absent
+
+-- x and y lists differ in length, or exceed 32.
+unfoldable pub wrongLengths : List ℤ → List ℤ → Bool
+wrongLengths xs ys = either (fails (eqb (length xs) (length ys))) (ltb most (length xs))
+
+-- Bare wiring: 16, 17, 8, 9, before it is wired.
+unfoldable pub bareVerdict : List ℤ → List ℤ → Verdict
+bareVerdict xs ys =
+    turn (wrongLengths xs ys) ListLengths
+    (turn (eqb (length xs) 0) NoPins
+    (turn (fails (allInside (feedOf xs ys))) Outside
+    (turn (crowded (feedOf xs ys)) PlaceTaken Accepted)))
+
+-- Bare wiring: then 18, 19, and the answer.
+unfoldable pub bareOf : List ℤ → List ℤ → ℕ → Laid
+bareOf xs ys room =
+    choose (accepted (bareVerdict xs ys)) (wiringOf (feedOf xs ys) room) (turnedAway (bareVerdict xs ys))

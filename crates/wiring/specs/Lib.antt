@@ -1,0 +1,5 @@
+-- What the words of wiring mean.
+pub mod Choices
+pub mod Answer
+pub mod Reaching
+pub mod Bare
