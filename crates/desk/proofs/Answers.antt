@@ -20,8 +20,8 @@ use Rattle.pinmap.specs.Map.{readMap}
 use Rattle.journal.specs.Journal.{seats, records}
 use Rattle.desk.specs.declared.Desk.{Desk}
 use Rattle.desk.specs.declared.Answered.{Answered}
-use Rattle.desk.specs.Calls.{Call, seatIn, opening, closing, placing, moving, removing, undoing, redoing, writing}
-use Rattle.desk.specs.Refusals.{Look, jobAmong, full, turnedOpening, turnedClosing, turnedPlacing, turnedMoving, turnedRemoving, turnedUndoing, turnedRedoing, turnedWriting, verdictOf}
+use Rattle.desk.specs.Calls.{Call, seatIn, opening, closing, placing, moving, removing, undoing, redoing, writing, wiring}
+use Rattle.desk.specs.Refusals.{Look, jobAmong, full, turnedOpening, turnedClosing, turnedPlacing, turnedMoving, turnedRemoving, turnedUndoing, turnedRedoing, turnedWriting, turnedWiring, verdictOf}
 use Rattle.desk.specs.Desk.{seatOf, live, editsOf, jobsOf, lookAt, sound, edited, entered, effect, answerOf, step}
 
 -- A step whose answer is known: refused, the desk as it was; accepted, what the call makes of it.
@@ -37,7 +37,7 @@ module _ (d : Desk) (c : Call) {v : Verdict} (e : answerOf d c ≡ v) where
 -- 28 comes first.
 module _ (d : Desk) (k : sound d ≡ false) where
   pub broken : (c : Call) → answerOf d c ≡ DeskBroken
-  unfolding answerOf verdictOf turnedOpening turnedClosing turnedPlacing turnedMoving turnedRemoving turnedUndoing turnedRedoing turnedWriting turn choose
+  unfolding answerOf verdictOf turnedOpening turnedClosing turnedPlacing turnedMoving turnedRemoving turnedUndoing turnedRedoing turnedWriting turnedWiring turn choose
   broken (opening s job map) = rw k
   broken (closing s) = rw k
   broken (placing s p at) = rw k
@@ -46,6 +46,7 @@ module _ (d : Desk) (k : sound d ≡ false) where
   broken (undoing s) = rw k
   broken (redoing s) = rw k
   broken (writing s room) = rw k
+  broken (wiring s room) = rw k
 
   pub step-broken : (c : Call) → _≡_ {A = Answered} (record { desk = d; verdict = DeskBroken }) (step d c)
   unfolding accepted
@@ -61,11 +62,12 @@ asksOpen (removing s p) = true
 asksOpen (undoing s) = true
 asksOpen (redoing s) = true
 asksOpen (writing s room) = true
+asksOpen (wiring s room) = true
 
 module _ (d : Desk) (k : sound d ≡ true) where
   -- 1: seat above 7.
   pub above : (c : Call) → seats ≤ seatIn c → answerOf d c ≡ SeatAbove
-  unfolding answerOf verdictOf turnedOpening turnedClosing turnedPlacing turnedMoving turnedRemoving turnedUndoing turnedRedoing turnedWriting turn choose
+  unfolding answerOf verdictOf turnedOpening turnedClosing turnedPlacing turnedMoving turnedRemoving turnedUndoing turnedRedoing turnedWriting turnedWiring turn choose
   above (opening s job map) h = rw (k, le-leb seats s h)
   above (closing s) h = rw (k, le-leb seats s h)
   above (placing s p at) h = rw (k, le-leb seats s h)
@@ -74,10 +76,11 @@ module _ (d : Desk) (k : sound d ≡ true) where
   above (undoing s) h = rw (k, le-leb seats s h)
   above (redoing s) h = rw (k, le-leb seats s h)
   above (writing s room) h = rw (k, le-leb seats s h)
+  above (wiring s room) h = rw (k, le-leb seats s h)
 
   -- 2: seat not open.
   pub shut : (c : Call) → asksOpen c ≡ true → seatIn c < seats → seatOf d (seatIn c) .«open» ≡ false → answerOf d c ≡ NotOpen
-  unfolding answerOf verdictOf turnedClosing turnedPlacing turnedMoving turnedRemoving turnedUndoing turnedRedoing turnedWriting turn choose
+  unfolding answerOf verdictOf turnedClosing turnedPlacing turnedMoving turnedRemoving turnedUndoing turnedRedoing turnedWriting turnedWiring turn choose
   shut (opening s job map) a h o = absurd (false≢true a)
   shut (closing s) a h o = rw (k, lt-leb seats s h, o)
   shut (placing s p at) a h o = rw (k, lt-leb seats s h, o)
@@ -86,6 +89,7 @@ module _ (d : Desk) (k : sound d ≡ true) where
   shut (undoing s) a h o = rw (k, lt-leb seats s h, o)
   shut (redoing s) a h o = rw (k, lt-leb seats s h, o)
   shut (writing s room) a h o = rw (k, lt-leb seats s h, o)
+  shut (wiring s room) a h o = rw (k, lt-leb seats s h, o)
 
 -- Opening, at a seat of the desk.
 module _ (d : Desk) (k : sound d ≡ true) (s job : ℕ) (map : List ℕ) (h : s < seats) where

@@ -5,4 +5,5 @@ mod Jobs
 mod Tests
 mod Steps
 mod Writing
+mod Wiring
 mod Worked

@@ -17,13 +17,14 @@ use Rattle.pinmap.specs.declared.Reading.{Reading}
 use Rattle.pinmap.specs.Map.{readMap}
 use Rattle.journal.specs.declared.Record.{Record}
 use Rattle.journal.specs.declared.Compacted.{Compacted}
-use Rattle.journal.specs.Journal.{seats, records, noEdit, own, kept, added, compacted}
-use Rattle.journal.proofs.Own.{kept-length}
+use Rattle.journal.specs.Journal.{seats, records, noEdit, recorded, kept, added, compacted}
+use Rattle.journal.proofs.Own.{kept-length, added-length}
+use Rattle.journal.proofs.Filled.{filled-set}
 use Rattle.desk.specs.declared.Seat.{Seat}
 use Rattle.desk.specs.declared.Desk.{Desk}
 use Rattle.desk.specs.declared.Answered.{Answered}
 use Rattle.desk.specs.Calls.{opening, closing, undoing, redoing}
-use Rattle.desk.specs.Desk.{closedSeat, seatOf, live, editsOf, sound, withSeat, openSeat, withPins, edited, entered, effect, answerOf, step}
+use Rattle.desk.specs.Desk.{closedSeat, seatOf, live, editsOf, sound, withSeat, freed, openSeat, withPins, edited, entered, effect, answerOf, step}
 use Rattle.desk.proofs.Sound.{live-length}
 use Rattle.desk.proofs.Answers.{step-accepted, close-accepted, undo-accepted, redo-accepted}
 
@@ -36,33 +37,50 @@ pub turned-off : {b : Bool} → not b ≡ false → b ≡ true
 turned-off {b = true} e = refl
 turned-off {b = false} e = sym e
 
--- An edit at a seat that owns n records: 12, or the journal with the edit recorded and the pins with it made.
-module _ (d : Desk) (s : ℕ) (e : Edit) {n : ℕ} (f : n ≡ length (editsOf d s)) where
-  pub entered-full : records ≤ d .used - (n - seatOf d s .standing)
-      → _≡_ {A = Answered} (record { desk = d; verdict = JournalFull }) (entered d s e)
+-- The desk with what the journal crate leaves of the records.
+pub freed-by : (d : Desk) (s k : ℕ) {x : Compacted} → x ≡ compacted (kept s k (live d))
+    → _≡_ {A = Desk} (record { seats = d .seats; journal = x .journal; used = x .used }) (freed d s k)
+freed-by d s k e = rw e
+
+-- An edit at a seat, once the seat's taken-back records are freed: 12, or the edit recorded and the pins with it made.
+module _ (d : Desk) (k : sound d ≡ true) (s : ℕ) (e : Edit) {x : Desk} (f : x ≡ freed d s (seatOf d s .standing)) where
+  -- What is left are the used records, less this seat's taken-back ones.
+  count-left : x .used ≡ d .used - (length (editsOf d s) - seatOf d s .standing)
+  count-left =
+      ap (λ (y : Desk). y .used) f
+      ∙ omega (arith, kept-length s (seatOf d s .standing) (live d), live-length d k)
+
+  pub entered-full : records ≤ x .used → _≡_ {A = Answered} (record { desk = d; verdict = JournalFull }) (entered d s e)
   unfolding entered turn choose
-  entered-full h = rw (← f, le-leb records (d .used - (n - seatOf d s .standing)) h)
+  entered-full h =
+      let y : records ≤ d .used - (length (editsOf d s) - seatOf d s .standing) = rw count-left at h in
+      rw (le-leb records (d .used - (length (editsOf d s) - seatOf d s .standing)) y)
 
-  -- Without the seat's taken-back records there is room.
-  pub room-left : sound d ≡ true → d .used - (n - seatOf d s .standing) < records
-      → length (kept s (seatOf d s .standing) (live d)) < records
-  room-left k h = omega (arith, kept-length s (seatOf d s .standing) (live d), live-length d k)
-
-  pub entered-done : {x : Compacted} {q : List Pin} → d .used - (n - seatOf d s .standing) < records
-      → x ≡ compacted (added s (seatOf d s .standing) e (live d)) → q ≡ made (seatOf d s .pins) e
+  pub entered-done : {j : List Record} {q : List Pin} → x .used < records → j ≡ set (x .journal) (x .used) (recorded s e)
+      → q ≡ made (seatOf d s .pins) e
       → _≡_ {A = Answered}
       (record {
         desk =
             record {
-              seats = set (d .seats) s (withPins (seatOf d s) q (seatOf d s .standing + 1));
-              journal = x .journal;
-              used = x .used;
+              seats = set (x .seats) s (withPins (seatOf d s) q (seatOf d s .standing + 1));
+              journal = j;
+              used = x .used + 1;
             };
         verdict = Accepted;
       })
       (entered d s e)
   unfolding entered edited turn choose
-  entered-done h a b = rw (← f, lt-leb records (d .used - (n - seatOf d s .standing)) h, a, b)
+  entered-done h a b =
+      let y : d .used - (length (editsOf d s) - seatOf d s .standing) < records = rw count-left at h in
+      let z : length (kept s (seatOf d s .standing) (live d)) < records = rw f at h in
+      rw (
+        lt-leb records (d .used - (length (editsOf d s) - seatOf d s .standing)) y,
+        a,
+        b,
+        f,
+        filled-set (kept s (seatOf d s .standing) (live d)) (recorded s e) z,
+        added-length s (seatOf d s .standing) e (live d),
+      )
 
 -- Opening puts the drawing of the map there.
 pub open-effect : (d : Desk) (s job : ℕ) (map : List ℕ) {r : Reading} → r ≡ readMap map job
@@ -72,10 +90,8 @@ open-effect d s job map e = rw e
 
 module _ (d : Desk) (k : sound d ≡ true) (s : ℕ) (h : s < seats) (o : seatOf d s .«open» ≡ true) where
   -- Closing frees the seat's records.
-  pub close-done : {t : Seat} {x : Compacted} → t ≡ closedSeat → x ≡ compacted (kept s 0 (live d))
-      → _≡_ {A = Answered}
-      (record { desk = record { seats = set (d .seats) s t; journal = x .journal; used = x .used }; verdict = Accepted })
-      (step d (closing s))
+  pub close-done : {t : Seat} {x : Desk} → t ≡ closedSeat → x ≡ freed d s 0
+      → _≡_ {A = Answered} (record { desk = withSeat x s t; verdict = Accepted }) (step d (closing s))
   unfolding effect accepted
   close-done a b = step-accepted d (closing s) (close-accepted d k s h o) refl (rw (a, b))
 

@@ -3,7 +3,8 @@ use mathlib.Core.List.{List}
 use Prim.Native.Nat.{ℕ}
 use Rattle.grid.specs.declared.Place.{Place}
 
--- Opening from a pin map, closing, placing, moving and removing a pin, undo, redo, and writing a map into lent room.
+-- Opening from a pin map, closing, placing, moving and removing a pin, undo, redo, writing a map into lent room (bytes), and wiring into
+-- lent room (legs).
 pub data Call : Type 0 where
   opening : ℕ → ℕ → List ℕ → Call
   closing : ℕ → Call
@@ -13,6 +14,7 @@ pub data Call : Type 0 where
   undoing : ℕ → Call
   redoing : ℕ → Call
   writing : ℕ → ℕ → Call
+  wiring : ℕ → ℕ → Call
 
 -- The seat that a call names.
 abbrev pub seatIn : Call → ℕ
@@ -24,3 +26,4 @@ seatIn (removing s p) = s
 seatIn (undoing s) = s
 seatIn (redoing s) = s
 seatIn (writing s room) = s
+seatIn (wiring s room) = s

@@ -10,17 +10,19 @@ use Rattle.refusal.specs.declared.Verdict.{Verdict}
 use Rattle.refusal.specs.declared.Verdict.the-variants.{Accepted, JournalFull}
 use Rattle.drawing.specs.declared.Pin.{Pin}
 use Rattle.drawing.specs.declared.Edit.{Edit}
-use Rattle.drawing.specs.Pins.{pins, absent, lawful}
+use Rattle.drawing.specs.Pins.{pins, absent, lawful, feedOf}
 use Rattle.drawing.specs.Edits.{made, unmade, placed, moved, removed}
 use Rattle.pinmap.specs.Map.{readMap, mapOf, written}
+use Rattle.wiring.specs.Answer.{wiringOf, turnedAway}
 use Rattle.journal.specs.declared.Record.{Record}
 use Rattle.journal.specs.Journal.{seats, records, blank, noEdit, own, kept, added, filled, seated, replayable, takeableAll}
 use Rattle.desk.specs.declared.Seat.{Seat}
 use Rattle.desk.specs.declared.Desk.{Desk}
 use Rattle.desk.specs.declared.Answered.{Answered}
 use Rattle.desk.specs.declared.Written.{Written}
-use Rattle.desk.specs.Calls.{Call, seatIn, opening, closing, placing, moving, removing, undoing, redoing, writing}
-use Rattle.desk.specs.Refusals.{Look, jobAmong, full, verdictOf}
+use Rattle.desk.specs.declared.Wired.{Wired}
+use Rattle.desk.specs.Calls.{Call, seatIn, opening, closing, placing, moving, removing, undoing, redoing, writing, wiring}
+use Rattle.desk.specs.Refusals.{Look, jobAmong, full, verdictOf, turnedClosing}
 
 -- A closed seat, as calls leave it.
 abbrev pub closedSeat : Seat
@@ -115,6 +117,10 @@ withSeat d s t = record { seats = set (d .seats) s t; journal = d .journal; used
 abbrev pub withRecords : Desk → ℕ → Seat → List Record → Desk
 withRecords d s t l = record { seats = set (d .seats) s t; journal = filled l; used = length l }
 
+-- The desk with a seat's records beyond its first k freed.
+abbrev pub freed : Desk → ℕ → ℕ → Desk
+freed d s k = record { seats = d .seats; journal = filled (kept s k (live d)); used = length (kept s k (live d)) }
+
 -- A seat that is open for a job with these pins and no edits.
 abbrev pub openSeat : ℕ → List Pin → Seat
 openSeat job l = record { «open» = true; job = job; pins = l; standing = 0 }
@@ -155,6 +161,7 @@ effect d (redoing s) =
     (made (seatOf d s .pins) (getD (editsOf d s) (seatOf d s .standing) noEdit))
     (seatOf d s .standing + 1))
 effect d (writing s room) = d
+effect d (wiring s room) = d
 
 -- What a call is answered on a desk.
 unfoldable pub answerOf : Desk → Call → Verdict
@@ -182,3 +189,12 @@ bufferOf d s buffer =
 -- The empty desk: eight closed seats, no record in use.
 unfoldable pub emptyDesk : Desk
 emptyDesk = record { seats = replicate seats closedSeat; journal = replicate records blank; used = 0 }
+
+-- Wiring a seat: 28, 1 and 2 as for closing; then the wiring of its drawing's feed, with room for so many legs. The desk as it is.
+unfoldable pub wiredOf : Desk → ℕ → ℕ → Wired
+wiredOf d s room =
+    record {
+      desk = d;
+      laid =
+          choose (accepted (turnedClosing (lookAt d s))) (wiringOf (feedOf (seatOf d s .pins)) room) (turnedAway (turnedClosing (lookAt d s)));
+    }

@@ -11,11 +11,12 @@ use Rattle.refusal.specs.declared.Verdict.the-variants.{Accepted, SeatAbove, No
 use Rattle.grid.specs.declared.Place.{Place}
 use Rattle.grid.specs.Place.{inside}
 use Rattle.drawing.specs.declared.Pin.{Pin}
-use Rattle.drawing.specs.Pins.{pins, absent, isThere, crowded}
+use Rattle.drawing.specs.Pins.{pins, absent, isThere, crowded, feedOf}
 use Rattle.drawing.specs.Edits.{standsAt}
 use Rattle.pinmap.specs.Map.{readMap, mapOf}
+use Rattle.wiring.specs.Answer.{wiringOf}
 use Rattle.journal.specs.Journal.{seats, records}
-use Rattle.desk.specs.Calls.{Call, opening, closing, placing, moving, removing, undoing, redoing, writing}
+use Rattle.desk.specs.Calls.{Call, opening, closing, placing, moving, removing, undoing, redoing, writing, wiring}
 
 -- What a call looks at: whether the desk is broken; of the seat that it names whether it is open, its job, pins, standing and
 -- taken-back edits; the jobs of the open seats (0 for a closed one); the used records.
@@ -128,6 +129,14 @@ turnedWriting l room =
     (turn (not (l .«open»)) NotOpen
     (turn (ltb room (length (mapOf (l .job) (l .pins)))) RoomTooSmall Accepted)))
 
+-- Wiring a seat: 28, 1, 2, 17, 18, 19.
+unfoldable pub turnedWiring : Look → ℕ → Verdict
+turnedWiring l room =
+    turn (l .broken) DeskBroken
+    (turn (seatAbove l) SeatAbove
+    (turn (not (l .«open»)) NotOpen
+    (wiringOf (feedOf (l .pins)) room .wiring .verdict)))
+
 -- What a call is answered.
 unfoldable pub verdictOf : Look → Call → Verdict
 verdictOf l (opening s job map) = turnedOpening l job map
@@ -138,3 +147,4 @@ verdictOf l (removing s p) = turnedRemoving l p
 verdictOf l (undoing s) = turnedUndoing l
 verdictOf l (redoing s) = turnedRedoing l
 verdictOf l (writing s room) = turnedWriting l room
+verdictOf l (wiring s room) = turnedWiring l room

@@ -1,9 +1,13 @@
 // The desk: its seats and its journal, whether it is broken, and the calls that take it as it stands and hand back the desk that follows.
 use drawing::Edit;
+use drawing::PINS;
 use drawing::Pin;
 use grid::Place;
+use journal::RECORDS;
 use journal::Record;
+use journal::SEATS;
 use refusal::Verdict;
+use wiring::Laid;
 ghost use mathlib.Core.Path.{_≡_};
 ghost use mathlib.Core.Bool.{true};
 ghost use mathlib.Core.List.{map};
@@ -16,20 +20,20 @@ ghost use Rattle.drawing.specs.Edits.{pinOf};
 ghost use Rattle.journal.specs.Journal.{seats, records, seated};
 ghost use Rattle.desk.specs.Calls.{opening, closing, placing, moving, removing, undoing, redoing};
 ghost use Rattle.desk.specs.Refusals.{sameJob, jobAmong};
-ghost use Rattle.desk.specs.Desk.{closedSeat, emptyDesk, seatOf, jobOf, jobsApart, soundOpen, soundClosed, soundSeat, soundTo, sound, entered, step, writtenOf, bufferOf};
+ghost use Rattle.desk.specs.Desk.{closedSeat, emptyDesk, seatOf, jobOf, jobsApart, soundOpen, soundClosed, soundSeat, soundTo, sound, freed, entered, step, writtenOf, bufferOf, wiredOf};
 
 // A seat: whether it is open, and if so its drawing's job and pins, and how many of its edits stand.
 pub struct Seat {
     pub open: bool,
     pub job: u16,
-    pub pins: [Pin; 32],
+    pub pins: [Pin; PINS],
     pub standing: usize,
 }
 
 // A desk: its seats, and the journal that they share, of which the first `used` records are in use.
 pub struct Desk {
-    pub seats: [Seat; 8],
-    pub journal: [Record; 256],
+    pub seats: [Seat; SEATS],
+    pub journal: [Record; RECORDS],
     pub used: usize,
 }
 
@@ -46,12 +50,18 @@ pub struct Written {
     pub bytes: usize,
 }
 
+// What wiring hands back: the desk as it is, and the answer with its legs.
+pub struct Wired {
+    pub desk: Desk,
+    pub laid: Laid,
+}
+
 // A closed seat, as calls leave it.
 fn closed_seat() -> Seat
     ensures { λ r. ⌜ r ≡ closedSeat ⌝ }
 {
     let blank = drawing::absent_pin();
-    let pins = [blank; 32];
+    let pins = [blank; PINS];
     Seat {
         open: false,
         job: 0,
@@ -68,12 +78,12 @@ fn job_of(seat: Seat) -> u16
 }
 
 // The jobs of the seats.
-fn jobs_of(seats: [Seat; 8]) -> [u16; 8]
+fn jobs_of(seats: [Seat; SEATS]) -> [u16; SEATS]
     ensures { λ r. ⌜ r ≡ map jobOf seats ⌝ }
 {
-    let mut jobs = [0u16; 8];
+    let mut jobs = [0u16; SEATS];
     let mut i: usize = 0;
-    while i < 8 {
+    while i < SEATS {
         let s = seats[i];
         jobs[i] = job_of(s);
         i = i + 1;
@@ -89,12 +99,12 @@ fn same_job(a: u16, b: u16) -> bool
 }
 
 // Whether a job is open at one of the seats numbered `from` and above.
-fn job_among(job: u16, jobs: [u16; 8], from: usize) -> bool
+fn job_among(job: u16, jobs: [u16; SEATS], from: usize) -> bool
     requires { ⌜ from ≤ seats ⌝ }
     ensures { λ r. ⌜ r ≡ jobAmong job (drop from jobs) ⌝ }
 {
     let mut i: usize = from;
-    while i < 8 {
+    while i < SEATS {
         if same_job(job, jobs[i]) {
             return true;
         }
@@ -104,11 +114,11 @@ fn job_among(job: u16, jobs: [u16; 8], from: usize) -> bool
 }
 
 // Whether no job is repeated.
-fn jobs_apart(jobs: [u16; 8]) -> bool
+fn jobs_apart(jobs: [u16; SEATS]) -> bool
     ensures { λ r. ⌜ r ≡ jobsApart jobs ⌝ }
 {
     let mut i: usize = 0;
-    while i < 8 {
+    while i < SEATS {
         let job = jobs[i];
         i = i + 1;
         if job_among(job, jobs, i) {
@@ -119,17 +129,17 @@ fn jobs_apart(jobs: [u16; 8]) -> bool
 }
 
 // Whether the used count is in its range, and each used record's seat too.
-fn journal_is_sound(journal: [Record; 256], used: usize) -> bool
+fn journal_is_sound(journal: [Record; RECORDS], used: usize) -> bool
     ensures { λ r. ⌜ r ≡ both (eqb (length journal) records) (both (leb used records) (seated (take used journal))) ⌝ }
 {
-    if 256 < used {
+    if RECORDS < used {
         return false;
     }
     journal::all_seated(journal, used)
 }
 
 // Whether no job of these seats is repeated.
-fn jobs_are_sound(seats: [Seat; 8]) -> bool
+fn jobs_are_sound(seats: [Seat; SEATS]) -> bool
     ensures { λ r. ⌜ r ≡ both (eqb (length seats) 8) (jobsApart (map jobOf seats)) ⌝ }
 {
     let jobs = jobs_of(seats);
@@ -143,8 +153,8 @@ impl Desk {
     {
         let seat = closed_seat();
         let record = journal::blank_record();
-        let seats = [seat; 8];
-        let records = [record; 256];
+        let seats = [seat; SEATS];
+        let records = [record; RECORDS];
         Desk {
             seats,
             journal: records,
@@ -213,7 +223,7 @@ impl Desk {
     {
         let d = self;
         let mut i: usize = 0;
-        while i < 8 {
+        while i < SEATS {
             if d.seat_is_sound(i) {
                 i = i + 1;
             } else {
@@ -250,7 +260,7 @@ impl Desk {
         ensures { λ r. ⌜ r ≡ step self (opening seat job (now (map .entry))) ⌝ }
     {
         let mut d = self;
-        if 8 <= seat {
+        if SEATS <= seat {
             return Answered {
                 desk: d,
                 verdict: Verdict::SeatAbove,
@@ -291,13 +301,28 @@ impl Desk {
         Answered { desk: d, verdict }
     }
 
+    // Frees a seat's records beyond its first `keep`.
+    fn freed(self, seat: usize, keep: usize) -> Desk
+        requires { ⌜ self .used ≤ records ⌝ }
+        ensures { λ r. ⌜ r ≡ freed self seat keep ⌝ }
+    {
+        let mut d = self;
+        let records = d.journal;
+        let used = d.used;
+        let left = journal::compact(records, used, seat, keep);
+        let remaining = left.journal;
+        d.journal = remaining;
+        d.used = left.used;
+        d
+    }
+
     // Closes a sound desk's seat, or says why not.
     fn closed(self, seat: usize) -> Answered
         requires { ⌜ sound self ≡ true ⌝ }
         ensures { λ r. ⌜ r ≡ step self (closing seat) ⌝ }
     {
-        let mut d = self;
-        if 8 <= seat {
+        let d = self;
+        if SEATS <= seat {
             return Answered {
                 desk: d,
                 verdict: Verdict::SeatAbove,
@@ -310,15 +335,10 @@ impl Desk {
                 verdict: Verdict::NotOpen,
             };
         }
-        let records = d.journal;
-        let used = d.used;
-        let left = journal::compact(records, used, seat, 0);
-        let remaining = left.journal;
-        d.seats[seat] = closed_seat();
-        d.journal = remaining;
-        d.used = left.used;
+        let mut without = d.freed(seat, 0);
+        without.seats[seat] = closed_seat();
         Answered {
-            desk: d,
+            desk: without,
             verdict: Verdict::Accepted,
         }
     }
@@ -328,29 +348,28 @@ impl Desk {
         requires { ⌜ (sound self ≡ true) × (seat < seats) × (seatOf self seat .«open» ≡ true) × (pinOf edit < pins) ⌝ }
         ensures { λ r. ⌜ r ≡ entered self seat edit ⌝ }
     {
-        let mut d = self;
-        let mut s = d.seats[seat];
+        let given = self;
+        let mut s = given.seats[seat];
         let standing = s.standing;
-        let records = d.journal;
-        let used = d.used;
-        let owned = journal::count_of(records, used, seat);
-        if 256 <= used - (owned - standing) {
+        let mut next = given.freed(seat, standing);
+        let count = next.used;
+        if RECORDS <= count {
             return Answered {
-                desk: d,
+                desk: given,
                 verdict: Verdict::JournalFull,
             };
         }
-        let left = journal::enter(records, used, seat, standing, edit);
-        let following = left.journal;
+        let records = next.journal;
+        let following = journal::append(records, count, Record { seat, edit });
         let pins = s.pins;
         let changed = drawing::make(pins, edit);
         s.pins = changed;
         s.standing = standing + 1;
-        d.seats[seat] = s;
-        d.journal = following;
-        d.used = left.used;
+        next.seats[seat] = s;
+        next.journal = following;
+        next.used = count + 1;
         Answered {
-            desk: d,
+            desk: next,
             verdict: Verdict::Accepted,
         }
     }
@@ -361,7 +380,7 @@ impl Desk {
         ensures { λ r. ⌜ r ≡ step self (placing seat pin at) ⌝ }
     {
         let d = self;
-        if 8 <= seat {
+        if SEATS <= seat {
             return Answered {
                 desk: d,
                 verdict: Verdict::SeatAbove,
@@ -374,7 +393,7 @@ impl Desk {
                 verdict: Verdict::NotOpen,
             };
         }
-        if 32 <= pin {
+        if PINS <= pin {
             return Answered {
                 desk: d,
                 verdict: Verdict::NoSuchPin,
@@ -410,7 +429,7 @@ impl Desk {
         ensures { λ r. ⌜ r ≡ step self (moving seat pin to) ⌝ }
     {
         let d = self;
-        if 8 <= seat {
+        if SEATS <= seat {
             return Answered {
                 desk: d,
                 verdict: Verdict::SeatAbove,
@@ -423,7 +442,7 @@ impl Desk {
                 verdict: Verdict::NotOpen,
             };
         }
-        if 32 <= pin {
+        if PINS <= pin {
             return Answered {
                 desk: d,
                 verdict: Verdict::NoSuchPin,
@@ -465,7 +484,7 @@ impl Desk {
         ensures { λ r. ⌜ r ≡ step self (removing seat pin) ⌝ }
     {
         let d = self;
-        if 8 <= seat {
+        if SEATS <= seat {
             return Answered {
                 desk: d,
                 verdict: Verdict::SeatAbove,
@@ -478,7 +497,7 @@ impl Desk {
                 verdict: Verdict::NotOpen,
             };
         }
-        if 32 <= pin {
+        if PINS <= pin {
             return Answered {
                 desk: d,
                 verdict: Verdict::NoSuchPin,
@@ -501,8 +520,8 @@ impl Desk {
         requires { ⌜ sound self ≡ true ⌝ }
         ensures { λ r. ⌜ r ≡ step self (undoing seat) ⌝ }
     {
-        let mut d = self;
-        if 8 <= seat {
+        let d = self;
+        if SEATS <= seat {
             return Answered {
                 desk: d,
                 verdict: Verdict::SeatAbove,
@@ -524,14 +543,16 @@ impl Desk {
         }
         let records = d.journal;
         let used = d.used;
-        let edit = journal::edit_of(records, used, seat, standing - 1);
+        let latest = standing - 1;
+        let edit = journal::edit_of(records, used, seat, latest);
         let pins = s.pins;
-        let changed = drawing::take_back(pins, edit);
-        s.pins = changed;
-        s.standing = standing - 1;
-        d.seats[seat] = s;
+        let former = drawing::take_back(pins, edit);
+        s.pins = former;
+        s.standing = latest;
+        let mut earlier = d;
+        earlier.seats[seat] = s;
         Answered {
-            desk: d,
+            desk: earlier,
             verdict: Verdict::Accepted,
         }
     }
@@ -541,8 +562,8 @@ impl Desk {
         requires { ⌜ sound self ≡ true ⌝ }
         ensures { λ r. ⌜ r ≡ step self (redoing seat) ⌝ }
     {
-        let mut d = self;
-        if 8 <= seat {
+        let d = self;
+        if SEATS <= seat {
             return Answered {
                 desk: d,
                 verdict: Verdict::SeatAbove,
@@ -567,12 +588,13 @@ impl Desk {
         }
         let edit = journal::edit_of(records, used, seat, standing);
         let pins = s.pins;
-        let changed = drawing::make(pins, edit);
-        s.pins = changed;
+        let remade = drawing::make(pins, edit);
+        s.pins = remade;
         s.standing = standing + 1;
-        d.seats[seat] = s;
+        let mut later = d;
+        later.seats[seat] = s;
         Answered {
-            desk: d,
+            desk: later,
             verdict: Verdict::Accepted,
         }
     }
@@ -584,7 +606,7 @@ impl Desk {
         ensures { λ _. ⌜ now (buffer .exit) ≡ bufferOf self seat (now (buffer .entry)) ⌝ }
     {
         let d = self;
-        if 8 <= seat {
+        if SEATS <= seat {
             return Written {
                 desk: d,
                 verdict: Verdict::SeatAbove,
@@ -607,6 +629,27 @@ impl Desk {
             verdict,
             bytes: writing.bytes,
         }
+    }
+
+    // Wires the drawing of a sound desk's seat with room for so many legs, or says why not.
+    fn wired(self, seat: usize, room: usize) -> Wired
+        requires { ⌜ sound self ≡ true ⌝ }
+        ensures { λ r. ⌜ r ≡ wiredOf self seat room ⌝ }
+    {
+        let d = self;
+        if 8 <= seat {
+            let laid = wiring::refused(Verdict::SeatAbove);
+            return Wired { desk: d, laid };
+        }
+        let s = d.seats[seat];
+        if !s.open {
+            let laid = wiring::refused(Verdict::NotOpen);
+            return Wired { desk: d, laid };
+        }
+        let pins = s.pins;
+        let feed = drawing::feed(pins);
+        let laid = wiring::wire_feed(feed, room);
+        Wired { desk: d, laid }
     }
 }
 
@@ -731,6 +774,19 @@ impl Desk {
                 verdict: Verdict::DeskBroken,
                 bytes: 0,
             }
+        }
+    }
+
+    // Wires the drawing at `seat`, with room for so many legs, or says why not. The desk stays as it is.
+    pub fn wire(self, seat: usize, room: usize) -> Wired
+        ensures { λ r. ⌜ r ≡ wiredOf self seat room ⌝ }
+    {
+        let d = self;
+        if d.is_sound() {
+            d.wired(seat, room)
+        } else {
+            let laid = wiring::refused(Verdict::DeskBroken);
+            Wired { desk: d, laid }
         }
     }
 }

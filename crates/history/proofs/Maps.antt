@@ -22,13 +22,13 @@ use Rattle.journal.specs.Journal.{seats}
 use Rattle.desk.specs.declared.Seat.{Seat}
 use Rattle.desk.specs.declared.Desk.{Desk}
 use Rattle.desk.specs.declared.Answered.{Answered}
-use Rattle.desk.specs.Calls.{Call, seatIn, opening, closing, placing, moving, removing, undoing, redoing, writing}
+use Rattle.desk.specs.Calls.{Call, seatIn, opening, closing, placing, moving, removing, undoing, redoing, writing, wiring}
 use Rattle.desk.specs.Refusals.{turnedOpening, verdictOf}
 use Rattle.desk.specs.Desk.{noSeat, seatOf, openSeat, withSeat, sound, lookAt, effect, answerOf, step, writtenOf, bufferOf}
 use Rattle.desk.proofs.Sound.{eight-seats, pins-lawful}
 use Rattle.history.specs.History.{after}
 use Rattle.history.proofs.Passed.{Opens, opens, writes}
-use Rattle.history.proofs.Untouched.{other-seats-untouched, writing-leaves-the-desk}
+use Rattle.history.proofs.Untouched.{other-seats-untouched, writing-leaves-the-desk, wiring-leaves-the-desk}
 use Rattle.history.proofs.Refused.{takingRows}
 
 -- The bytes that writing a seat wrote: so many of the lent buffer.
@@ -96,7 +96,7 @@ module _ (d e : Desk) (s t : ℕ) (buffer : List ℕ) (z : accepted (writtenOf d
 
 -- ---- opened, then written
 
--- The call edits nothing at the seat: it names another, or writes a map.
+-- The call edits nothing at the seat: it names another, or writes a map, or wires.
 abbrev pub noEditAt : ℕ → Call → Bool
 noEditAt s (opening t job map) = not (eqb s t)
 noEditAt s (closing t) = not (eqb s t)
@@ -106,6 +106,7 @@ noEditAt s (removing t p) = not (eqb s t)
 noEditAt s (undoing t) = not (eqb s t)
 noEditAt s (redoing t) = not (eqb s t)
 noEditAt s (writing t room) = true
+noEditAt s (wiring t room) = true
 
 -- None of the calls edits anything at the seat.
 unfoldable pub NoEdits : ℕ → List Call → Type 0
@@ -124,6 +125,7 @@ seat-unedited d (removing t p) s e = seat-other d (removing t p) s e
 seat-unedited d (undoing t) s e = seat-other d (undoing t) s e
 seat-unedited d (redoing t) s e = seat-other d (redoing t) s e
 seat-unedited d (writing t room) s e = ap (λ (x : Desk). seatOf x s) (writing-leaves-the-desk d t room)
+seat-unedited d (wiring t room) s e = ap (λ (x : Desk). seatOf x s) (wiring-leaves-the-desk d t room)
 
 seat-after : (calls : List Call) (d : Desk) (s : ℕ) → NoEdits s calls → seatOf (after d calls) s ≡ seatOf d s
 unfolding NoEdits after

@@ -23,8 +23,8 @@ use Rattle.drawing.specs.Edits.{heldIn, heldBy, standsIn, standsAt, makeable, p
 use Rattle.drawing.proofs.Making.{placed-makeable, moved-makeable, removed-makeable}
 use Rattle.pinmap.specs.Map.{readMap, mapOf}
 use Rattle.journal.specs.Journal.{seats}
-use Rattle.desk.specs.Calls.{Call, opening, closing, placing, moving, removing, undoing, redoing, writing}
-use Rattle.desk.specs.Refusals.{Look, seatAbove, jobAmong, pinAt, notThere, full, turnedOpening, turnedClosing, turnedPlacing, turnedMoving, turnedRemoving, turnedUndoing, turnedRedoing, turnedWriting, verdictOf}
+use Rattle.desk.specs.Calls.{Call, opening, closing, placing, moving, removing, undoing, redoing, writing, wiring}
+use Rattle.desk.specs.Refusals.{Look, seatAbove, jobAmong, pinAt, notThere, full, turnedOpening, turnedClosing, turnedPlacing, turnedMoving, turnedRemoving, turnedUndoing, turnedRedoing, turnedWriting, turnedWiring, verdictOf}
 
 -- A row that was passed: its condition does not hold, and the later rows accept.
 pub row : (b : Bool) (v w : Verdict) → accepted (turn b v w) ≡ true → eqb (toldOf v .number) 0 ≡ false → (b ≡ false) × (accepted w ≡ true)
@@ -174,6 +174,11 @@ pub writes : (l : Look) (room : ℕ) → accepted (turnedWriting l room) ≡ tru
 unfolding turnedWriting
 writes l room e = let a = reached l _ e in (a .0, ltb-false _ _ (row _ _ _ (a .1) refl .0))
 
+-- An accepted wiring reaches an open seat.
+pub wires : (l : Look) (room : ℕ) → accepted (turnedWiring l room) ≡ true → Reached l
+unfolding turnedWiring
+wires l room e = reached l _ e .0
+
 -- Every accepted call names one of the desk's seats.
 pub seat-low : (l : Look) (c : Call) → accepted (verdictOf l c) ≡ true → l .seat < seats
 unfolding verdictOf
@@ -185,3 +190,4 @@ seat-low l (removing s p) e = removes l p e .reaches .low
 seat-low l (undoing s) e = undoes l e .0 .low
 seat-low l (redoing s) e = redoes l e .0 .low
 seat-low l (writing s room) e = writes l room e .0 .low
+seat-low l (wiring s room) e = wires l room e .low

@@ -10,17 +10,25 @@ use borrow.Author.Tests.{not-true}
 use lib.Dec.{eqb, leb, ltb}
 use lib.ListN.{length}
 use Rattle.refusal.specs.Tests.{both, either, choose}
-use Rattle.refusal.specs.Refusals.{accepted}
-use Rattle.refusal.specs.declared.Verdict.the-variants.{Accepted, SeatAbove, NotOpen, OpenAlready, JobZero, JobElsewhere, NoSuchPin, PinThere, Outside, PlaceTaken, NothingStands, NothingTakenBack, JournalFull, RoomTooSmall, DeskBroken}
+use Rattle.refusal.specs.Refusals.{accepted, turn}
+use Rattle.refusal.specs.declared.Verdict.the-variants.{Accepted, SeatAbove, NotOpen, OpenAlready, JobZero, JobElsewhere, NoSuchPin, PinThere, Outside, PlaceTaken, NothingStands, NothingTakenBack, JournalFull, RoomTooSmall, DeskBroken, NoPins, BoxesMeet}
 use Rattle.refusal.proofs.Rows.{Row, firstOf, Given, NoneHolds, refusalAt, unlike, distinct, Exactly, exactly}
 use Rattle.grid.specs.declared.Place.{Place}
+use Rattle.grid.specs.declared.Spot.{Spot}
 use Rattle.grid.specs.Place.{inside}
-use Rattle.drawing.specs.Pins.{pins, isThere, crowded}
+use Rattle.drawing.specs.Pins.{pins, isThere, crowded, feedOf}
 use Rattle.drawing.specs.Edits.{standsAt}
 use Rattle.pinmap.specs.Map.{mapOf}
 use Rattle.desk.specs.declared.Desk.{Desk}
-use Rattle.desk.specs.Calls.{Call, seatIn, opening, closing, placing, moving, removing, undoing, redoing, writing}
-use Rattle.desk.specs.Refusals.{Look, seatAbove, jobAmong, pinAt, notThere, full, turnedOpening, turnedClosing, turnedPlacing, turnedMoving, turnedRemoving, turnedUndoing, turnedRedoing, turnedWriting, verdictOf}
+use Rattle.tree.specs.Growth.{pinsOf, runsOf}
+use Rattle.tree.specs.Boxes.{boxesMeet}
+use Rattle.tree.specs.Trees.{none}
+use Rattle.copper.specs.declared.Leg.{Leg}
+use Rattle.wiring.specs.declared.Laid.{Laid}
+use Rattle.wiring.specs.Choices.{bestChoice, legsOfChoice}
+use Rattle.wiring.specs.Answer.{laidWith, answerWith, turnedAway, wiringVerdict, wiringWith, wiringFavouring, wiringOf}
+use Rattle.desk.specs.Calls.{Call, seatIn, opening, closing, placing, moving, removing, undoing, redoing, writing, wiring}
+use Rattle.desk.specs.Refusals.{Look, seatAbove, jobAmong, pinAt, notThere, full, turnedOpening, turnedClosing, turnedPlacing, turnedMoving, turnedRemoving, turnedUndoing, turnedRedoing, turnedWriting, turnedWiring, verdictOf}
 use Rattle.desk.specs.Desk.{sound, lookAt, answerOf, step, emptyDesk}
 use Rattle.history.specs.History.{after}
 use Rattle.history.proofs.Ascending.{rank, Ascending, exactly-ascending}
@@ -107,6 +115,21 @@ writingRows l room =
     ∷ given (ltb room (length (mapOf (l .job) (l .pins)))) RoomTooSmall
     ∷ []
 
+-- The legs that wiring a feed needs.
+abbrev pub legsNeeded : List Spot → List Leg
+legsNeeded feed = legsOfChoice feed (runsOf feed) (bestChoice false feed (runsOf feed))
+
+-- Wiring: 28, 1, 2, 17, 18, 19.
+abbrev pub wiringRows : Look → ℕ → List Row
+wiringRows l room =
+    given (l .broken) DeskBroken
+    ∷ given (seatAbove l) SeatAbove
+    ∷ given (not (l .«open»)) NotOpen
+    ∷ given (none (pinsOf (feedOf (l .pins)))) NoPins
+    ∷ given (boxesMeet (feedOf (l .pins)) (runsOf (feedOf (l .pins)))) BoxesMeet
+    ∷ given (ltb room (length (legsNeeded (feedOf (l .pins))))) RoomTooSmall
+    ∷ []
+
 opening-ascends : (l : Look) (job : ℕ) (map : List ℕ) → Ascending 0 (openingRows l job map)
 unfolding Ascending rank choose
 opening-ascends l job map = (omega arith, (omega arith, (omega arith, (omega arith, (omega arith, map-ascends map job 10 (omega arith))))))
@@ -151,6 +174,30 @@ pub exactly-writing : (l : Look) (room : ℕ) → Exactly (writingRows l room) A
 unfolding turnedWriting firstOf distinct unlike accepted both
 exactly-writing l room = exactly (writingRows l room) Accepted refl refl
 
+-- The verdict that an answer carries is the one that decided it.
+verdict-by : (a b c : Bool) (l : Laid) → l .wiring .verdict ≡ Accepted
+    → choose (accepted (turn a NoPins (turn b BoxesMeet (turn c RoomTooSmall Accepted)))) l
+    (turnedAway (turn a NoPins (turn b BoxesMeet (turn c RoomTooSmall Accepted)))) .wiring .verdict
+    ≡ turn a NoPins (turn b BoxesMeet (turn c RoomTooSmall Accepted))
+unfolding choose accepted turn turnedAway
+verdict-by true b c l e = refl
+verdict-by false true c l e = refl
+verdict-by false false true l e = refl
+verdict-by false false false l e = e
+
+wiring-verdict : (feed : List Spot) (room : ℕ) → wiringOf feed room .wiring .verdict
+    ≡ turn (none (pinsOf feed)) NoPins
+    (turn (boxesMeet feed (runsOf feed)) BoxesMeet (turn (ltb room (length (legsNeeded feed))) RoomTooSmall Accepted))
+unfolding wiringOf wiringFavouring wiringWith wiringVerdict answerWith laidWith
+wiring-verdict feed room =
+    verdict-by (none (pinsOf feed)) (boxesMeet feed (runsOf feed)) (ltb room (length (legsNeeded feed)))
+    (answerWith feed (runsOf feed) (bestChoice false feed (runsOf feed))) refl
+
+-- Each of wiring's refusals exactly under its condition.
+pub exactly-wiring : (l : Look) (room : ℕ) → Exactly (wiringRows l room) Accepted (turnedWiring l room)
+unfolding turnedWiring firstOf distinct unlike accepted both
+exactly-wiring l room = rw (wiring-verdict (feedOf (l .pins)) room) (exactly (wiringRows l room) Accepted refl refl)
+
 -- The rows of a call.
 abbrev pub rowsOf : Look → Call → List Row
 rowsOf l (opening s job map) = openingRows l job map
@@ -161,6 +208,7 @@ rowsOf l (removing s p) = removingRows l p
 rowsOf l (undoing s) = undoingRows l
 rowsOf l (redoing s) = redoingRows l
 rowsOf l (writing s room) = writingRows l room
+rowsOf l (wiring s room) = wiringRows l room
 
 exactly-verdict : (l : Look) (c : Call) → Exactly (rowsOf l c) Accepted (verdictOf l c)
 unfolding verdictOf
@@ -172,6 +220,7 @@ exactly-verdict l (removing s p) = exactly-removing l p
 exactly-verdict l (undoing s) = exactly-undoing l
 exactly-verdict l (redoing s) = exactly-redoing l
 exactly-verdict l (writing s room) = exactly-writing l room
+exactly-verdict l (wiring s room) = exactly-wiring l room
 
 -- On any desk, each refusal of a call is given exactly where its condition holds and none before it does; where none holds, the call is accepted.
 pub each-refusal-exactly : (d : Desk) (c : Call) → Exactly (rowsOf (lookAt d (seatIn c)) c) Accepted (step d c .verdict)
@@ -208,6 +257,7 @@ broken-given d (removing s p) = each-refusal-exactly d (removing s p) .refused 0
 broken-given d (undoing s) = each-refusal-exactly d (undoing s) .refused 0 (omega arith)
 broken-given d (redoing s) = each-refusal-exactly d (redoing s) .refused 0 (omega arith)
 broken-given d (writing s room) = each-refusal-exactly d (writing s room) .refused 0 (omega arith)
+broken-given d (wiring s room) = each-refusal-exactly d (wiring s room) .refused 0 (omega arith)
 
 pub broken-exactly : (d : Desk) (c : Call) → (step d c .verdict ≡ DeskBroken) ↔ (sound d ≡ false)
 broken-exactly d c = (λ e. not-true _ (broken-given d c .0 e), λ e. broken-given d c .1 (ap not e))

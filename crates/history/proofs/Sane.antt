@@ -18,7 +18,7 @@ use Rattle.pinmap.proofs.RoundTrip.{read-lawful}
 use Rattle.journal.specs.Journal.{seats, replayable}
 use Rattle.journal.proofs.Own.{same-or-not}
 use Rattle.journal.proofs.Turns.{turn-nil, turn-first, turn-rest, turn-cons}
-use Rattle.desk.specs.Calls.{Call, seatIn, opening, closing, placing, moving, removing, undoing, redoing, writing}
+use Rattle.desk.specs.Calls.{Call, seatIn, opening, closing, placing, moving, removing, undoing, redoing, writing, wiring}
 use Rattle.desk.specs.Refusals.{sameJob, jobAmong, verdictOf}
 use Rattle.desk.specs.Desk.{jobsApart}
 use Rattle.history.specs.History.{Told, shut, opened, pinsBy, jobIn, pinsIn, toldOf, lookIn, anew, undone, redone, next, answerIn, tell, nothing, history}
@@ -111,6 +111,7 @@ module _ (h : List Told) (g : Sane h) where
   sane-next (undoing s) z = sane-undone (toldOf h s) (g .each s)
   sane-next (redoing s) z = sane-redone (toldOf h s) (g .each s)
   sane-next (writing s room) z = g .each s
+  sane-next (wiring s room) z = g .each s
 
   jobs-kept : (s : ℕ) (t : Told) → jobIn t ≡ jobIn (toldOf h s) → jobsApart (map jobIn (set h s t)) ≡ true
   jobs-kept s t e = rw (map-set-same jobIn h s t shut e) (g .jobs)
@@ -128,6 +129,7 @@ module _ (h : List Told) (g : Sane h) where
   jobs-next (undoing s) z = jobs-kept s _ (job-undone (toldOf h s))
   jobs-next (redoing s) z = jobs-kept s _ (job-redone (toldOf h s))
   jobs-next (writing s room) z = jobs-kept s _ refl
+  jobs-next (wiring s room) z = jobs-kept s _ refl
 
   each-next : (c : Call) → accepted (answerIn h c) ≡ true → seatIn c < seats → (t : ℕ)
       → sane (toldOf (set h (seatIn c) (next c (toldOf h (seatIn c)))) t)

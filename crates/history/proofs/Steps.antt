@@ -23,8 +23,8 @@ use Rattle.journal.proofs.Own.{own-kept, own-other, own-added, other-added, add
 use Rattle.journal.proofs.Seated.{seated-kept, seated-added}
 use Rattle.desk.specs.declared.Seat.{Seat}
 use Rattle.desk.specs.declared.Desk.{Desk}
-use Rattle.desk.specs.Calls.{Call, seatIn, opening, closing, placing, moving, removing, undoing, redoing, writing}
-use Rattle.desk.specs.Refusals.{Look, full, turnedOpening, turnedClosing, turnedPlacing, turnedMoving, turnedRemoving, turnedUndoing, turnedRedoing, turnedWriting, verdictOf}
+use Rattle.desk.specs.Calls.{Call, seatIn, opening, closing, placing, moving, removing, undoing, redoing, writing, wiring}
+use Rattle.desk.specs.Refusals.{Look, full, turnedOpening, turnedClosing, turnedPlacing, turnedMoving, turnedRemoving, turnedUndoing, turnedRedoing, turnedWriting, turnedWiring, verdictOf}
 use Rattle.desk.specs.Desk.{closedSeat, noSeat, seatOf, live, editsOf, openSeat, withPins, soundOpen, soundClosed, soundSeat, soundTo, sound, lookAt, edited, effect, answerOf, step}
 use Rattle.history.specs.History.{Told, shut, opened, pinsBy, isOpen, pinsIn, standingIn, takenBackIn, editsIn, toldOf, usedIn, lookIn, anew, undone, redone, next, answerIn, tell}
 use Rattle.history.proofs.Passed.{Enters, opens, closes, places, moves, removes, undoes, redoes}
@@ -152,7 +152,7 @@ module _ (d : Desk) (h : List Told) (g : Agrees d h) (f : Sane h) where
 -- At a closed seat nothing is looked at but the seat's number and the jobs.
 closed-verdict : (k m : Look) (c : Call) → k .broken ≡ false → m .broken ≡ false → k .seat ≡ m .seat → k .«open» ≡ false → m .«open» ≡ false
     → k .jobs ≡ m .jobs → verdictOf k c ≡ verdictOf m c
-unfolding verdictOf turnedOpening turnedClosing turnedPlacing turnedMoving turnedRemoving turnedUndoing turnedRedoing turnedWriting turn choose
+unfolding verdictOf turnedOpening turnedClosing turnedPlacing turnedMoving turnedRemoving turnedUndoing turnedRedoing turnedWriting turnedWiring turn choose
 closed-verdict k m (opening s job map) a b e o p j = rw (a, b, e, o, p, j)
 closed-verdict k m (closing s) a b e o p j = rw (a, b, e, o, p)
 closed-verdict k m (placing s q at) a b e o p j = rw (a, b, e, o, p)
@@ -161,6 +161,7 @@ closed-verdict k m (removing s q) a b e o p j = rw (a, b, e, o, p)
 closed-verdict k m (undoing s) a b e o p j = rw (a, b, e, o, p)
 closed-verdict k m (redoing s) a b e o p j = rw (a, b, e, o, p)
 closed-verdict k m (writing s room) a b e o p j = rw (a, b, e, o, p)
+closed-verdict k m (wiring s room) a b e o p j = rw (a, b, e, o, p)
 
 module _ (d : Desk) (h : List Told) (g : Agrees d h) (f : Sane h) where
   unbroken : not (sound d) ≡ false
@@ -275,6 +276,7 @@ module _ (d : Desk) (h : List Told) (g : Agrees d h) (f : Sane h) where
       let m = redoes (lookIn h s) z in
       agrees-seat d h s _ _ g (m .0 .low) (edits-redone (toldOf h s)) (at-redone _ _ (toldOf h s) (at-seat s (m .0 .low)) (m .1))
   agrees-next (writing s room) z = rw (set-getD h s shut) g
+  agrees-next (wiring s room) z = rw (set-getD h s shut) g
 
   agrees-by : (c : Call) (b : Bool) → accepted (answerIn h c) ≡ b
       → Agrees (choose b (effect d c) d) (choose b (set h (seatIn c) (next c (toldOf h (seatIn c)))) h)

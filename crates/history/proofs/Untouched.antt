@@ -14,8 +14,8 @@ use Rattle.journal.proofs.Own.{own-other, other-added}
 use Rattle.journal.proofs.Filled.{take-filled}
 use Rattle.desk.specs.declared.Seat.{Seat}
 use Rattle.desk.specs.declared.Desk.{Desk}
-use Rattle.desk.specs.Calls.{Call, seatIn, opening, closing, placing, moving, removing, undoing, redoing, writing}
-use Rattle.desk.specs.Desk.{noSeat, seatOf, live, editsOf, standingOf, takenBackOf, withSeat, withRecords, edited, effect, answerOf, step, writtenOf, bufferOf}
+use Rattle.desk.specs.Calls.{Call, seatIn, opening, closing, placing, moving, removing, undoing, redoing, writing, wiring}
+use Rattle.desk.specs.Desk.{noSeat, seatOf, live, editsOf, standingOf, takenBackOf, withSeat, withRecords, edited, effect, answerOf, step, writtenOf, bufferOf, wiredOf}
 
 -- A seat of a desk is the same on another: open or closed, job, pins and number of standing edits; and so are its edits, standing and taken back.
 pub record Untouched (d e : Desk) (t : ℕ) : Type 0 where
@@ -45,6 +45,7 @@ other-effect d (removing s p) t n = other-records d s t n _ _ (other-added s (se
 other-effect d (undoing s) t n = other-seat d s t n _
 other-effect d (redoing s) t n = other-seat d s t n _
 other-effect d (writing s room) t n = untouched-by d d t refl refl
+other-effect d (wiring s room) t n = untouched-by d d t refl refl
 
 other-by : (d e : Desk) (t : ℕ) (b : Bool) → Untouched d e t → Untouched d (choose b e d) t
 unfolding choose
@@ -70,6 +71,15 @@ same-either false a = refl
 pub writing-leaves-the-desk : (d : Desk) (s room : ℕ) → step d (writing s room) .desk ≡ d
 unfolding step effect
 writing-leaves-the-desk d s room = same-either (accepted (answerOf d (writing s room))) d
+
+-- Wiring leaves the desk as it is, accepted or not.
+pub wiring-leaves-the-desk : (d : Desk) (s room : ℕ) → step d (wiring s room) .desk ≡ d
+unfolding step effect
+wiring-leaves-the-desk d s room = same-either (accepted (answerOf d (wiring s room))) d
+
+pub wired-leaves-the-desk : (d : Desk) (s room : ℕ) → wiredOf d s room .desk ≡ d
+unfolding wiredOf
+wired-leaves-the-desk d s room = refl
 
 pub written-leaves-the-desk : (d : Desk) (s : ℕ) (buffer : List ℕ) → writtenOf d s buffer .desk ≡ d
 unfolding writtenOf

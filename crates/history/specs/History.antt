@@ -12,7 +12,7 @@ use Rattle.drawing.specs.Edits.{made, placed, moved, removed}
 use Rattle.pinmap.specs.Map.{readMap}
 use Rattle.journal.specs.Journal.{seats}
 use Rattle.desk.specs.declared.Desk.{Desk}
-use Rattle.desk.specs.Calls.{Call, seatIn, opening, closing, placing, moving, removing, undoing, redoing, writing}
+use Rattle.desk.specs.Calls.{Call, seatIn, opening, closing, placing, moving, removing, undoing, redoing, writing, wiring}
 use Rattle.desk.specs.Refusals.{Look, verdictOf}
 use Rattle.desk.specs.Desk.{step}
 
@@ -105,6 +105,7 @@ next (removing s p) t = anew (removed (pinsIn t) p) t
 next (undoing s) t = undone t
 next (redoing s) t = redone t
 next (writing s room) t = t
+next (wiring s room) t = t
 
 -- What a call is answered by the history.
 unfoldable pub answerIn : List Told → Call → Verdict

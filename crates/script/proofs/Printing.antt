@@ -76,9 +76,10 @@ module _ (o : List ℕ) (at n : ℕ) where
 
   pub put-large : {next : ℕ} {p : List ℕ} → 10 ≤ n → n < 18446744073709551616 → next ≡ at + length (decimal (n / 10)) → p ≡ sets o at (decimal (n / 10))
       → (next + 1 ≡ at + length (decimal n)) × (set p next (48 + n % 10) ≡ sets o at (decimal n))
-  put-large {next} {p} h k e f =
-      ( omega (arith, e, length-append (decimal (n / 10)) ((48 + n % 10) ∷ []), ap length (decimal-large n h k))
-      , rw (f, e) (sets-more o at (decimal (n / 10)) (48 + n % 10) ∙ ap (sets o at) (decimal-large n h k)))
+  put-large {next} {p} h k e f = (
+    omega (arith, e, length-append (decimal (n / 10)) ((48 + n % 10) ∷ []), ap length (decimal-large n h k)),
+    rw (f, e) (sets-more o at (decimal (n / 10)) (48 + n % 10) ∙ ap (sets o at) (decimal-large n h k)),
+  )
 
 -- Pieces put one after another.
 pub sets-append : (o : List ℕ) (at : ℕ) (p q : List ℕ) → sets (sets o at p) (at + length p) q ≡ sets o at (p ++ q)

@@ -54,11 +54,12 @@ module _ {A : Type 0} where
       let k : n < length new = omega (arith, ap length e, length-drop n new) in
       let g : getD new n d ≡ a = sym (getD-drop n new 0 d ∙ rw (add-zero n)) ∙ ap (λ (l : List A). getD l 0 d) e in
       let t : take n new ++ (a ∷ []) ≡ take (n + 1) new = rw (add-one n, take-suc new n d k, g) in
-      let m : at + n ≡ at + length (take n new) = omega (arith, length-take-le n new (omega arith)) in
-      ( ap (λ (j : ℕ). set (sets old at (take n new)) j a) m
-        ∙ sets-more old at (take n new) a
-        ∙ ap (λ (l : List A). sets old at l) t
-      , k)
+      let m : at + n ≡ at + length (take n new) = omega (arith, length-take-le n new (omega arith)) in (
+        ap (λ (j : ℕ). set (sets old at (take n new)) j a) m
+            ∙ sets-more old at (take n new) a
+            ∙ ap (λ (l : List A). sets old at l) t,
+        k,
+      )
 
   -- A buffer filled from its start on: one element more, and the end.
   pub fill-more : (d : A) (new old : List A) (n : ℕ) {a : A} {rest : List A} → drop n new ≡ a ∷ rest

@@ -407,7 +407,7 @@ pub row-done : (w : List ℕ) (at count : ℕ) (old : List ℤ) → length w < a
     → (count ≡ length (pieces 44 w)) × (over (take count (map signed (pieces 44 w))) old ≡ over (map signed (pieces 44 w)) old)
 row-done w at count old h k d =
     let f : (count ≡ length (map signed (pieces 44 w))) × (over (take count (map signed (pieces 44 w))) old ≡ over (map signed (pieces 44 w)) old) =
-        fill-done (map signed (pieces 44 w)) old count k (d ∙ ap (map signed) (row-end w at h)) in
+    fill-done (map signed (pieces 44 w)) old count k (d ∙ ap (map signed) (row-end w at h)) in
     (f .0 ∙ length-map (pieces 44 w) signed, f .1)
 
 -- A word that is a list, and what it lists.

@@ -19,8 +19,8 @@ orders (line ∷ rest) = orderOf (text line) ∷ orders rest
 
 pub each-call :
     orders
-      ("open 00 0007 -" ∷ "open 1 9 0009fF" ∷ "close 7" ∷ "  place   0 0 -0 007  " ∷ "move 3 31 -5 12" ∷ "remove 0 4294967295"
-        ∷ "undo 0" ∷ "redo 0\r" ∷ "write 1 1024" ∷ "wire 1 64" ∷ "bare 64 0,-0 1,002" ∷ "bare 0 - 5" ∷ "pins 8" ∷ [])
+    ("open 00 0007 -" ∷ "open 1 9 0009fF" ∷ "close 7" ∷ "  place   0 0 -0 007  " ∷ "move 3 31 -5 12" ∷ "remove 0 4294967295"
+    ∷ "undo 0" ∷ "redo 0\r" ∷ "write 1 1024" ∷ "wire 1 64" ∷ "bare 64 0,-0 1,002" ∷ "bare 0 - 5" ∷ "pins 8" ∷ [])
     ≡ Order.Open 0 7 0
     ∷ Order.Open 1 9 3
     ∷ Order.Close 7
@@ -41,7 +41,7 @@ each-call = refl
 -- What is no call: signs where none may stand, numbers out of range, words missing or over, odd hex digits, lists with a gap.
 pub no-calls :
     orders
-      ("place 0 1 +5 0" ∷ "place 0 1 - 0" ∷ "place 0 1 --5 0" ∷ "place -0 1 5 0" ∷ "place 0 2 99999999999999999999999999999999 0" ∷ "place 0 2 2147483648 0" ∷ "place 0 2 0 -2147483649" ∷ "place 4294967296 2 0 0" ∷ "open 2 65536 -" ∷ "undo 0 # x" ∷ "undo" ∷ "Undo 0" ∷ "\t" ∷ "place\t0 3 0 1" ∷ "open 1 9 0009Ff0" ∷ "open 1 9 0g" ∷ "open 1 9 --" ∷ "write 2 1025" ∷ "wire 1 65" ∷ "bare 64 1,,2 1,2,3" ∷ "bare 64 1, 2" ∷ "bare 64 , ," ∷ "bare 64 -,1 1,2" ∷ "bare 65 - -" ∷ [])
+    ("place 0 1 +5 0" ∷ "place 0 1 - 0" ∷ "place 0 1 --5 0" ∷ "place -0 1 5 0" ∷ "place 0 2 99999999999999999999999999999999 0" ∷ "place 0 2 2147483648 0" ∷ "place 0 2 0 -2147483649" ∷ "place 4294967296 2 0 0" ∷ "open 2 65536 -" ∷ "undo 0 # x" ∷ "undo" ∷ "Undo 0" ∷ "\t" ∷ "place\t0 3 0 1" ∷ "open 1 9 0009Ff0" ∷ "open 1 9 0g" ∷ "open 1 9 --" ∷ "write 2 1025" ∷ "wire 1 65" ∷ "bare 64 1,,2 1,2,3" ∷ "bare 64 1, 2" ∷ "bare 64 , ," ∷ "bare 64 -,1 1,2" ∷ "bare 65 - -" ∷ [])
     ≡ replicate 24 Order.NotACall
 unfolding orders both either choose same endOf longer pieces filled wordsOf between allDigits valueFrom isNumber hasMinus isCoordinate signed allCoordinates listed isRow isList isHex hexValue allPairs bytesOf isMap only seatCall pairCall isOpening isBaring opening baring lentCall isPlacing placeCall callOf isSkipped asked isLong orderOf
 no-calls = refl
@@ -49,7 +49,7 @@ no-calls = refl
 -- Lines with no word, and remarks.
 pub skipped :
     orders
-      ("" ∷ "   " ∷ "\r" ∷ "# undo 0" ∷ "  #undo 0" ∷ [])
+    ("" ∷ "   " ∷ "\r" ∷ "# undo 0" ∷ "  #undo 0" ∷ [])
     ≡ replicate 5 Order.Skip
 unfolding orders both either choose same endOf longer pieces filled wordsOf between allDigits valueFrom isNumber hasMinus isCoordinate signed allCoordinates listed isRow isList isHex hexValue allPairs bytesOf isMap only seatCall pairCall isOpening isBaring opening baring lentCall isPlacing placeCall callOf isSkipped asked isLong orderOf
 skipped = refl
@@ -57,7 +57,7 @@ skipped = refl
 -- The ends of the ranges, and leading zeros.
 pub edges :
     orders
-      ("place 0 1 5 000000000000000000000000000000005" ∷ "place 0 2 -2147483648 2147483647" ∷ "place 4294967295 2 0 0" ∷ [])
+    ("place 0 1 5 000000000000000000000000000000005" ∷ "place 0 2 -2147483648 2147483647" ∷ "place 4294967295 2 0 0" ∷ [])
     ≡ Order.Place 0 1 (record { x = pos 5; y = pos 5 })
     ∷ Order.Place 0 2 (record { x = negsuc 2147483647; y = pos 2147483647 })
     ∷ Order.Place 4294967295 2 (record { x = pos 0; y = pos 0 })

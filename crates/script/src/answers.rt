@@ -3,7 +3,6 @@ use grid::Place;
 use refusal::Carried;
 use refusal::Told;
 use refusal::Verdict;
-
 ghost use mathlib.Core.Path.{_≡_};
 ghost use mathlib.Core.List.{_++_};
 ghost use Prim.Native.Nat.{_+_, _*_, _≤_, _<_, min};
@@ -112,7 +111,13 @@ pub fn print_stray(line: usize, out: &mut [u8; 2200]) -> usize
 }
 
 // A wiring: its length, runs and legs, and the choices weighed.
-pub fn print_wired(length: usize, runs: usize, legs: usize, weighed: usize, out: &mut [u8; 2200]) -> usize
+pub fn print_wired(
+    length: usize,
+    runs: usize,
+    legs: usize,
+    weighed: usize,
+    out: &mut [u8; 2200],
+) -> usize
     ensures { λ r. ⌜ r ≡ lib.ListN.length (wiredLine length runs legs weighed) ⌝ }
     ensures { λ _. ⌜ now (out .exit) ≡ over (wiredLine length runs legs weighed) (now (out .entry)) ⌝ }
 {
@@ -157,7 +162,13 @@ pub fn print_closed(out: &mut [u8; 2200]) -> usize
 }
 
 // A drawing: its job, and how many pins, standing and taken-back edits it has.
-pub fn print_drawing(job: usize, pins: usize, standing: usize, taken: usize, out: &mut [u8; 2200]) -> usize
+pub fn print_drawing(
+    job: usize,
+    pins: usize,
+    standing: usize,
+    taken: usize,
+    out: &mut [u8; 2200],
+) -> usize
     ensures { λ r. ⌜ r ≡ length (drawingLine job pins standing taken) ⌝ }
     ensures { λ _. ⌜ now (out .exit) ≡ over (drawingLine job pins standing taken) (now (out .entry)) ⌝ }
 {

@@ -10,7 +10,6 @@ use orders::read_call;
 use words::cut;
 use words::end_of;
 use words::part;
-
 ghost use mathlib.Core.Path.{_≡_};
 ghost use Rattle.script.specs.Text.{over};
 ghost use Rattle.script.specs.Orders.{orderOf, mapOf, acrossOf, upOf};
@@ -54,17 +53,50 @@ pub enum Placing {
 pub enum Order {
     Skip,
     NotACall,
-    Open { seat: usize, job: u16, bytes: usize },
-    Close { seat: usize },
-    Place { seat: usize, pin: usize, at: Place },
-    Move { seat: usize, pin: usize, to: Place },
-    Remove { seat: usize, pin: usize },
-    Undo { seat: usize },
-    Redo { seat: usize },
-    Write { seat: usize, room: usize },
-    Wire { seat: usize, room: usize },
-    Bare { room: usize, across: usize, up: usize },
-    Pins { seat: usize },
+    Open {
+        seat: usize,
+        job: u16,
+        bytes: usize,
+    },
+    Close {
+        seat: usize,
+    },
+    Place {
+        seat: usize,
+        pin: usize,
+        at: Place,
+    },
+    Move {
+        seat: usize,
+        pin: usize,
+        to: Place,
+    },
+    Remove {
+        seat: usize,
+        pin: usize,
+    },
+    Undo {
+        seat: usize,
+    },
+    Redo {
+        seat: usize,
+    },
+    Write {
+        seat: usize,
+        room: usize,
+    },
+    Wire {
+        seat: usize,
+        room: usize,
+    },
+    Bare {
+        room: usize,
+        across: usize,
+        up: usize,
+    },
+    Pins {
+        seat: usize,
+    },
 }
 
 // Reads a line, without its newline. The map of an opening goes into `map`, the x and y of a bare wiring into `xs` and `ys`,

@@ -3,7 +3,6 @@ use crate::Coordinate;
 use crate::Number;
 use crate::words::same;
 use crate::words::stop_at;
-
 ghost use mathlib.Core.Path.{_≡_};
 ghost use mathlib.Core.Bool.{true};
 ghost use mathlib.Core.List.{map};
@@ -16,6 +15,7 @@ ghost use Rattle.script.specs.Numbers.{most, mostBytes, mostNumbers, bey
 
 // The largest number of a seat or a pin, and the number that stands for all larger ones.
 pub const MOST: usize = 4294967295;
+
 const BEYOND: usize = 4294967296;
 
 // Whether a byte lies from one to another.

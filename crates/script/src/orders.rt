@@ -12,7 +12,6 @@ use crate::numbers::is_map;
 use crate::numbers::number;
 use crate::words::same;
 use grid::Place;
-
 ghost use mathlib.Core.Path.{_≡_};
 ghost use mathlib.Core.List.{[]};
 ghost use lib.Dec.{eqb};

@@ -1,7 +1,6 @@
 // A line cut into words.
 use crate::Cut;
 use crate::Span;
-
 ghost use mathlib.Core.Path.{_≡_};
 ghost use mathlib.Core.Bool.{true};
 ghost use Prim.Native.Nat.{_-_, _≤_, min};

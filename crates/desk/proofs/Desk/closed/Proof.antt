@@ -23,20 +23,20 @@ returns-2 : tie.Need-returns-2
 unfolding accepted
 returns-2 c = step-refused (c .before .before .before .before .args .self) (closing (c .before .before .before .before .args .seat)) (shut (c .before .before .before .before .args .self) (c .before .before .before .before .pre) (closing (c .before .before .before .before .args .seat)) refl (c .before .before .before .if1 .left) (turned-on (c .if2 .taken))) refl
 
-compact-requires : tie.Need-compact-requires
-compact-requires c κs = used-within (c .before .before .before .before .before .args .self) (c .before .before .before .before .before .pre)
+freed-requires : tie.Need-freed-requires
+freed-requires c κs = used-within (c .before .before .before .before .args .self) (c .before .before .before .before .pre)
 
 closed-seat-requires : tie.Need-closed-seat-requires
 closed-seat-requires c κs = search needs
 
-mul-t12 : tie.Need-mul-t12
-mul-t12 c = search needs
+mul-t9 : tie.Need-mul-t9
+mul-t9 c = search needs
 
-element-set-from-d : tie.Need-element-set-from-d
-element-set-from-d c = search needs
+element-set-from-without : tie.Need-element-set-from-without
+element-set-from-without c = search needs
 
 returns-3 : tie.Need-returns-3
-returns-3 c = close-done (c .before .before .before .before .before .before .before .before .args .self) (c .before .before .before .before .before .before .before .before .pre) (c .before .before .before .before .before .before .before .before .args .seat) (c .before .before .before .before .before .before .before .if1 .left) (turned-off (c .before .before .before .before .if2 .left)) (c .closed-seat .ensures) (c .before .before .compact .ensures)
+returns-3 c = close-done (c .before .before .before .before .before .before .args .self) (c .before .before .before .before .before .before .pre) (c .before .before .before .before .before .before .args .seat) (c .before .before .before .before .before .if1 .left) (turned-off (c .before .before .if2 .left)) (c .closed-seat .ensures) (c .before .freed .ensures)
 
 pub closed-spec : {M : Type 1} → statement M
 closed-spec =
@@ -46,8 +46,8 @@ closed-spec =
     mul-s
     element-copy-out-s
     returns-2
-    compact-requires
+    freed-requires
     closed-seat-requires
-    mul-t12
-    element-set-from-d
+    mul-t9
+    element-set-from-without
     returns-3)

@@ -30,17 +30,14 @@ returns-3 : tie.Need-returns-3
 unfolding accepted
 returns-3 c = step-refused (c .before .before .before .before .before .args .self) (undoing (c .before .before .before .before .before .args .seat)) (undo-nothing (c .before .before .before .before .before .args .self) (c .before .before .before .before .before .pre) (c .before .before .before .before .before .args .seat) (c .before .before .before .before .if1 .left) (turned-off (c .before .if2 .left)) (c .if3 .taken)) refl
 
-sub-edit-of : tie.Need-sub-edit-of
-sub-edit-of c = search needs
+sub-latest : tie.Need-sub-latest
+sub-latest c = search needs
 
 edit-of-requires : tie.Need-edit-of-requires
 edit-of-requires c κs = used-within (c .before .before .before .before .before .before .args .self) (c .before .before .before .before .before .before .pre)
 
 take-back-requires : tie.Need-take-back-requires
 take-back-requires c κs = rw (c .before .edit-of .ensures) (undo-numbered (c .before .before .before .before .before .before .before .before .args .self) (c .before .before .before .before .before .before .before .before .pre) (c .before .before .before .before .before .before .before .before .args .seat) (c .before .before .before .before .before .before .before .if1 .left) (turned-off (c .before .before .before .before .if2 .left)) (c .before .before .before .if3 .left))
-
-sub-s : tie.Need-sub-s
-sub-s c = search needs
 
 mul-s-2 : tie.Need-mul-s-2
 mul-s-2 c = search needs
@@ -60,10 +57,9 @@ undone-spec =
     element-copy-out-s
     returns-2
     returns-3
-    sub-edit-of
+    sub-latest
     edit-of-requires
     take-back-requires
-    sub-s
     mul-s-2
     element-set-from-s
     returns-4)

@@ -28,7 +28,7 @@ read-remove-requires : tie.Need-read-remove-requires
 read-remove-requires c κs = search needs
 
 returns-2 : tie.Need-returns-2
-returns-2 c = pair-remove (c .before .before .before .before .before .before .before .before .before .before .before .args .name .now) (c .before .before .before .before .before .before .before .before .before .before .before .args .a .now) (c .before .before .before .before .before .before .before .before .before .before .before .args .b .now) (sym (c .before .before .before .before .before .seat .given .1) ∙ c .before .before .before .before .before .before .before .number .ensures)  (sym (c .before .before .same .ensures) ∙ c .before .if1 .taken) (c .read-remove .ensures)
+returns-2 c = pair-remove (c .before .before .before .before .before .before .before .before .before .before .before .args .name .now) (c .before .before .before .before .before .before .before .before .before .before .before .args .a .now) (c .before .before .before .before .before .before .before .before .before .before .before .args .b .now) (sym (c .before .before .before .before .before .seat .given .1) ∙ c .before .before .before .before .before .before .before .number .ensures) (sym (c .before .before .same .ensures) ∙ c .before .if1 .taken) (c .read-remove .ensures)
 
 slice-aggregate-same-2 : tie.Need-slice-aggregate-same-2
 slice-aggregate-same-2 c = search needs

@@ -25,7 +25,7 @@ same-requires : tie.Need-same-requires
 same-requires c κs = search needs
 
 returns-2 : tie.Need-returns-2
-returns-2 c = seat-close (c .before .before .before .before .before .before .before .before .before .args .name .now) (c .before .before .before .before .before .before .before .before .before .args .a .now) (sym (c .before .before .before .before .seat .given .1) ∙ c .before .before .before .before .before .before .number .ensures)  (sym (c .before .same .ensures) ∙ c .if1 .taken)
+returns-2 c = seat-close (c .before .before .before .before .before .before .before .before .before .args .name .now) (c .before .before .before .before .before .before .before .before .before .args .a .now) (sym (c .before .before .before .before .seat .given .1) ∙ c .before .before .before .before .before .before .number .ensures) (sym (c .before .same .ensures) ∙ c .if1 .taken)
 
 slice-aggregate-same-2 : tie.Need-slice-aggregate-same-2
 slice-aggregate-same-2 c = search needs
