@@ -1,28 +1,26 @@
 -- What each call is answered, row by row of its refusals, and what a step is once its answer is known. From the definitions of the desk; assumes nothing.
-use mathlib.Core.Path.{_≡_, refl, ap, sym, _∙_}
-use mathlib.Core.Bool.{Bool, true, false, not, false≢true}
-use mathlib.Core.List.{List, [], _∷_}
-use Prim.Native.Nat.{ℕ, _+_, _-_, _<_, _≤_}
+use mathlib.Core.Path.{_≡_, refl, sym}
+use mathlib.Core.Bool.{Bool, true, false, false≢true}
+use mathlib.Core.List.{List}
+use Prim.Native.Nat.{ℕ, _-_, _<_, _≤_}
 use borrow.Author.Tests.{eq-eqb, ne-eqb, le-leb, lt-leb}
-use lib.Dec.{eqb, leb}
 use lib.ListN.{length, getD}
-use Rattle.refusal.specs.Tests.{both, either, choose}
+use Rattle.refusal.specs.Tests.{either, choose}
 use Rattle.refusal.specs.Refusals.{accepted, turn}
 use Rattle.refusal.specs.declared.Verdict.{Verdict}
-use Rattle.refusal.specs.declared.Verdict.the-variants.{Accepted, SeatAbove, NotOpen, OpenAlready, JobZero, JobElsewhere, NoSuchPin, PinThere, Outside, PlaceTaken, NothingStands, NothingTakenBack, JournalFull, RoomTooSmall, DeskBroken}
+use Rattle.refusal.specs.declared.Verdict.the-variants.{Accepted, SeatAbove, NotOpen, OpenAlready, JobZero, JobElsewhere, NoSuchPin, PinThere, Outside, PlaceTaken, NothingStands, NothingTakenBack, JournalFull, DeskBroken}
 use Rattle.grid.specs.declared.Place.{Place}
 use Rattle.grid.specs.Place.{inside}
-use Rattle.drawing.specs.declared.Pin.{Pin}
 use Rattle.drawing.specs.declared.Edit.{Edit}
 use Rattle.drawing.specs.Pins.{pins, absent, isThere, crowded}
 use Rattle.drawing.specs.Edits.{standsAt, placed, moved, removed}
 use Rattle.pinmap.specs.Map.{readMap}
-use Rattle.journal.specs.Journal.{seats, records}
+use Rattle.journal.specs.Journal.{seats}
 use Rattle.desk.specs.declared.Desk.{Desk}
 use Rattle.desk.specs.declared.Answered.{Answered}
 use Rattle.desk.specs.Calls.{Call, seatIn, opening, closing, placing, moving, removing, undoing, redoing, writing, wiring}
-use Rattle.desk.specs.Refusals.{Look, jobAmong, full, turnedOpening, turnedClosing, turnedPlacing, turnedMoving, turnedRemoving, turnedUndoing, turnedRedoing, turnedWriting, turnedWiring, verdictOf}
-use Rattle.desk.specs.Desk.{seatOf, live, editsOf, jobsOf, lookAt, sound, edited, entered, effect, answerOf, step}
+use Rattle.desk.specs.Refusals.{jobAmong, full, turnedOpening, turnedClosing, turnedPlacing, turnedMoving, turnedRemoving, turnedUndoing, turnedRedoing, turnedWriting, turnedWiring, verdictOf}
+use Rattle.desk.specs.Desk.{seatOf, editsOf, jobsOf, lookAt, sound, edited, entered, effect, answerOf, step}
 
 -- A step whose answer is known: refused, the desk as it was; accepted, what the call makes of it.
 module _ (d : Desk) (c : Call) {v : Verdict} (e : answerOf d c ≡ v) where

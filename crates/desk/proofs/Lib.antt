@@ -6,4 +6,5 @@ mod Tests
 mod Steps
 mod Writing
 mod Wiring
+mod Lent
 mod Worked

@@ -1,24 +1,21 @@
 -- What a sound desk says of its parts: each test that `sound` joins, as a fact. Assumes nothing.
 use mathlib.Core.Path.{_≡_, refl, ap, sym, _∙_}
 use mathlib.Core.Bool.{Bool, true, false, not}
-use mathlib.Core.List.{List, [], _∷_, reverse, reverse-append}
-use Prim.Native.Nat.{ℕ, zero, suc, _+_, _-_, _<_, _≤_}
+use mathlib.Core.List.{_∷_, reverse, reverse-append}
+use Prim.Native.Nat.{ℕ, zero, suc, _-_, _<_, _≤_}
 use native.Mathlib.Omega.{arith}
 use borrow.Author.Tests.{eqb-true, eqb-false, leb-true}
-use lib.Dec.{eqb, leb}
+use lib.Dec.{eqb}
 use lib.ListN.{length, take, drop, getD}
 use lib.Seq.{take-suc, drop-cons, length-take-le}
-use Rattle.refusal.specs.Tests.{both, choose}
-use Rattle.refusal.proofs.Tests.{both-left, both-right, choose-yes, choose-no}
-use Rattle.drawing.specs.declared.Pin.{Pin}
-use Rattle.drawing.specs.declared.Edit.{Edit}
+use Rattle.refusal.specs.Tests.{choose}
+use Rattle.refusal.proofs.Tests.{both-left, both-right}
 use Rattle.drawing.specs.Pins.{pins, lawful}
 use Rattle.drawing.specs.Edits.{pinOf, makeable, made, takeable, unmade}
 use Rattle.drawing.proofs.Numbered.{makeable-numbered, takeable-numbered}
-use Rattle.journal.specs.declared.Record.{Record}
 use Rattle.journal.proofs.Own.{own-length}
 use Rattle.journal.proofs.Turns.{turn-first}
-use Rattle.journal.specs.Journal.{seats, records, noEdit, own, seated, inTurn, replayable, takeableAll}
+use Rattle.journal.specs.Journal.{seats, records, noEdit, seated, replayable, takeableAll}
 use Rattle.desk.specs.declared.Desk.{Desk}
 use Rattle.desk.specs.Desk.{seatOf, live, editsOf, standingOf, takenBackOf, jobsOf, jobsApart, soundOpen, soundClosed, soundSeat, soundTo, sound}
 

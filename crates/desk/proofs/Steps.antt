@@ -5,10 +5,9 @@ use mathlib.Core.List.{List}
 use Prim.Native.Nat.{ℕ, _+_, _-_, _<_, _≤_}
 use native.Mathlib.Omega.{arith}
 use borrow.Author.Tests.{le-leb, lt-leb}
-use lib.ListN.{length, take, getD, set}
+use lib.ListN.{length, getD, set}
 use Rattle.refusal.specs.Tests.{choose}
 use Rattle.refusal.specs.Refusals.{accepted, turn}
-use Rattle.refusal.specs.declared.Verdict.{Verdict}
 use Rattle.refusal.specs.declared.Verdict.the-variants.{Accepted, JournalFull}
 use Rattle.drawing.specs.declared.Pin.{Pin}
 use Rattle.drawing.specs.declared.Edit.{Edit}
@@ -17,14 +16,14 @@ use Rattle.pinmap.specs.declared.Reading.{Reading}
 use Rattle.pinmap.specs.Map.{readMap}
 use Rattle.journal.specs.declared.Record.{Record}
 use Rattle.journal.specs.declared.Compacted.{Compacted}
-use Rattle.journal.specs.Journal.{seats, records, noEdit, recorded, kept, added, compacted}
+use Rattle.journal.specs.Journal.{seats, records, noEdit, recorded, kept, compacted}
 use Rattle.journal.proofs.Own.{kept-length, added-length}
 use Rattle.journal.proofs.Filled.{filled-set}
 use Rattle.desk.specs.declared.Seat.{Seat}
 use Rattle.desk.specs.declared.Desk.{Desk}
 use Rattle.desk.specs.declared.Answered.{Answered}
 use Rattle.desk.specs.Calls.{opening, closing, undoing, redoing}
-use Rattle.desk.specs.Desk.{closedSeat, seatOf, live, editsOf, sound, withSeat, freed, openSeat, withPins, edited, entered, effect, answerOf, step}
+use Rattle.desk.specs.Desk.{closedSeat, seatOf, live, editsOf, sound, withSeat, freed, openSeat, withPins, edited, entered, effect, step}
 use Rattle.desk.proofs.Sound.{live-length}
 use Rattle.desk.proofs.Answers.{step-accepted, close-accepted, undo-accepted, redo-accepted}
 

@@ -1,7 +1,7 @@
 -- The tests of a desk put together, by the way that the code takes through them. Assumes nothing.
-use mathlib.Core.Path.{_≡_, refl, ap, sym, _∙_}
-use mathlib.Core.Bool.{Bool, true, false, not, true≢false}
-use mathlib.Core.List.{List, map}
+use mathlib.Core.Path.{_≡_, refl, sym, _∙_}
+use mathlib.Core.Bool.{Bool, true, false, true≢false}
+use mathlib.Core.List.{List}
 use Prim.Native.Nat.{ℕ, _+_, _<_, _≤_}
 use native.Mathlib.Numerals.{add-one}
 use borrow.Author.Tests.{eq-eqb, ne-eqb, le-leb, lt-leb, leb-true}
@@ -11,7 +11,7 @@ use Rattle.refusal.specs.Tests.{both, choose}
 use Rattle.refusal.proofs.Tests.{both-left, both-right, both-arm, both-stop}
 use Rattle.drawing.specs.Pins.{lawful}
 use Rattle.journal.specs.declared.Record.{Record}
-use Rattle.journal.specs.Journal.{seats, records, own, seated, replayable, takeableAll}
+use Rattle.journal.specs.Journal.{seats, records, seated, replayable, takeableAll}
 use Rattle.desk.specs.declared.Desk.{Desk}
 use Rattle.desk.specs.Desk.{seatOf, live, editsOf, standingOf, takenBackOf, jobsOf, jobsApart, soundOpen, soundClosed, soundSeat, soundTo, sound}
 use Rattle.desk.proofs.Sound.{seat-among}

@@ -1,16 +1,16 @@
 -- Worked cases of the desk, each computed: D1, D2 and D3 from the empty desk, a move to its own place, and desks broken in each way. Assumes nothing.
 use mathlib.Core.Path.{_≡_, refl}
-use mathlib.Core.Bool.{Bool, true, false, not}
-use mathlib.Core.List.{List, [], _∷_, _++_, map, reverse}
+use mathlib.Core.Bool.{true}
+use mathlib.Core.List.{List, [], _∷_, _++_, map}
 use Prim.Native.Nat.{ℕ}
 use lib.IntN.{ℤ, pos, negsuc}
-use lib.ListN.{replicate, getD, take}
+use lib.ListN.{replicate, take}
 use Rattle.refusal.specs.Tests.{both, either, choose}
 use Rattle.refusal.specs.Refusals.{accepted, turn}
 use Rattle.refusal.specs.declared.Verdict.{Verdict}
 use Rattle.refusal.specs.declared.Verdict.the-variants.{Accepted, PlaceTaken, NothingStands, NothingTakenBack, DeskBroken}
 use Rattle.grid.specs.declared.Place.{Place}
-use Rattle.grid.specs.Number.{numberAt, first, second, third, fourth}
+use Rattle.grid.specs.Number.{first, second, third, fourth}
 use Rattle.grid.specs.Place.{onBoard, inside, difference, closer, tooNear, sameNumber, samePlace}
 use Rattle.drawing.specs.declared.Pin.{Pin}
 use Rattle.drawing.specs.Pins.{pins, absent, there, holding, isThere, sameHeld, samePin, samePins, meets, meetsAny, crowded, within, settled, allWithin, allApart, lawful}
@@ -21,7 +21,7 @@ use Rattle.journal.specs.declared.Record.{Record}
 use Rattle.journal.specs.Journal.{recorded, own, kept, filled, seated, inTurn}
 use Rattle.desk.specs.declared.Seat.{Seat}
 use Rattle.desk.specs.declared.Desk.{Desk}
-use Rattle.desk.specs.Calls.{Call, opening, closing, placing, moving, removing, undoing, redoing}
+use Rattle.desk.specs.Calls.{Call, opening, placing, moving, undoing, redoing}
 use Rattle.desk.specs.Refusals.{sameJob, jobAmong, turnedOpening, turnedClosing, turnedPlacing, turnedMoving, turnedRemoving, turnedUndoing, turnedRedoing, turnedWriting, verdictOf}
 use Rattle.desk.specs.Desk.{closedSeat, seatOf, jobOf, jobsApart, soundOpen, soundClosed, soundSeat, soundTo, sound, edited, effect, answerOf, step, emptyDesk, writtenOf, bufferOf}
 

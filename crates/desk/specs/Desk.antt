@@ -1,6 +1,6 @@
 -- The desk: when it is broken, and what each call makes of it.
 use mathlib.Core.Bool.{Bool, true, false, not}
-use mathlib.Core.List.{List, [], _∷_, _++_, map, reverse}
+use mathlib.Core.List.{List, [], _∷_, map, reverse}
 use Prim.Native.Nat.{ℕ, zero, suc, _+_, _-_}
 use lib.Dec.{eqb, leb}
 use lib.ListN.{length, replicate, take, drop, getD, set}
@@ -13,7 +13,8 @@ use Rattle.drawing.specs.declared.Edit.{Edit}
 use Rattle.drawing.specs.Pins.{pins, absent, lawful, feedOf}
 use Rattle.drawing.specs.Edits.{made, unmade, placed, moved, removed}
 use Rattle.pinmap.specs.Map.{readMap, mapOf, written}
-use Rattle.wiring.specs.Answer.{wiringOf, turnedAway}
+use Rattle.copper.specs.declared.Leg.{Leg}
+use Rattle.wiring.specs.Answer.{wiringOf, turnedAway, filledWith}
 use Rattle.journal.specs.declared.Record.{Record}
 use Rattle.journal.specs.Journal.{seats, records, blank, noEdit, own, kept, added, filled, seated, replayable, takeableAll}
 use Rattle.desk.specs.declared.Seat.{Seat}
@@ -21,6 +22,7 @@ use Rattle.desk.specs.declared.Desk.{Desk}
 use Rattle.desk.specs.declared.Answered.{Answered}
 use Rattle.desk.specs.declared.Written.{Written}
 use Rattle.desk.specs.declared.Wired.{Wired}
+use Rattle.desk.specs.declared.WiredSeat.{WiredSeat}
 use Rattle.desk.specs.Calls.{Call, seatIn, opening, closing, placing, moving, removing, undoing, redoing, writing, wiring}
 use Rattle.desk.specs.Refusals.{Look, jobAmong, full, verdictOf, turnedClosing}
 
@@ -56,6 +58,7 @@ takenBackOf d s = drop (seatOf d s .standing) (editsOf d s)
 unfoldable pub jobOf : Seat → ℕ
 jobOf t = choose (t .«open») (t .job) 0
 
+-- The jobs of all seats.
 abbrev pub jobsOf : Desk → List ℕ
 jobsOf d = map jobOf (d .seats)
 
@@ -77,6 +80,7 @@ soundOpen d s =
 unfoldable pub soundClosed : Desk → ℕ → Bool
 soundClosed d s = eqb (length (editsOf d s)) 0
 
+-- A seat is sound, as an open one or as a closed one.
 unfoldable pub soundSeat : Desk → ℕ → Bool
 soundSeat d s = choose (seatOf d s .«open») (soundOpen d s) (soundClosed d s)
 
@@ -198,3 +202,11 @@ wiredOf d s room =
       laid =
           choose (accepted (turnedClosing (lookAt d s))) (wiringOf (feedOf (seatOf d s .pins)) room) (turnedAway (turnedClosing (lookAt d s)));
     }
+
+-- Wiring into a lent list of legs: its length is the room. The desk as it is, and the answer.
+unfoldable pub wiredSeatOf : Desk → ℕ → List Leg → WiredSeat
+wiredSeatOf d s lent = record { desk = d; wiring = wiredOf d s (length lent) .laid .wiring }
+
+-- The lent list of legs after wiring: filled with the legs, entries after these as they were; where it is refused, there are none.
+unfoldable pub lentOf : Desk → ℕ → List Leg → List Leg
+lentOf d s lent = filledWith (wiredOf d s (length lent) .laid) lent

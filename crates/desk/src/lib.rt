@@ -1,4 +1,5 @@
 // The desk: its seats and its journal, whether it is broken, and the calls that take it as it stands and hand back the desk that follows.
+use copper::Leg;
 use drawing::Edit;
 use drawing::PINS;
 use drawing::Pin;
@@ -8,6 +9,7 @@ use journal::Record;
 use journal::SEATS;
 use refusal::Verdict;
 use wiring::Laid;
+use wiring::Wiring;
 ghost use mathlib.Core.Path.{_≡_};
 ghost use mathlib.Core.Bool.{true};
 ghost use mathlib.Core.List.{map};
@@ -20,7 +22,7 @@ ghost use Rattle.drawing.specs.Edits.{pinOf};
 ghost use Rattle.journal.specs.Journal.{seats, records, seated};
 ghost use Rattle.desk.specs.Calls.{opening, closing, placing, moving, removing, undoing, redoing};
 ghost use Rattle.desk.specs.Refusals.{sameJob, jobAmong};
-ghost use Rattle.desk.specs.Desk.{closedSeat, emptyDesk, seatOf, jobOf, jobsApart, soundOpen, soundClosed, soundSeat, soundTo, sound, freed, entered, step, writtenOf, bufferOf, wiredOf};
+ghost use Rattle.desk.specs.Desk.{closedSeat, emptyDesk, seatOf, jobOf, jobsApart, soundOpen, soundClosed, soundSeat, soundTo, sound, freed, entered, step, writtenOf, bufferOf, wiredOf, wiredSeatOf, lentOf};
 
 // A seat: whether it is open, and if so its drawing's job and pins, and how many of its edits stand.
 pub struct Seat {
@@ -54,6 +56,12 @@ pub struct Written {
 pub struct Wired {
     pub desk: Desk,
     pub laid: Laid,
+}
+
+// What wiring into a lent list of legs hands back: the desk as it is, and the answer.
+pub struct WiredSeat {
+    pub desk: Desk,
+    pub wiring: Wiring,
 }
 
 // A closed seat, as calls leave it.
@@ -637,7 +645,7 @@ impl Desk {
         ensures { λ r. ⌜ r ≡ wiredOf self seat room ⌝ }
     {
         let d = self;
-        if 8 <= seat {
+        if SEATS <= seat {
             let laid = wiring::refused(Verdict::SeatAbove);
             return Wired { desk: d, laid };
         }
@@ -787,6 +795,20 @@ impl Desk {
         } else {
             let laid = wiring::refused(Verdict::DeskBroken);
             Wired { desk: d, laid }
+        }
+    }
+
+    // Wires the drawing at `seat` and fills a lent list with its legs, or says why not. Entries after the legs keep what they held.
+    pub fn wire_lent(self, seat: usize, legs: &mut [Leg]) -> WiredSeat
+        ensures { λ r. ⌜ r ≡ wiredSeatOf self seat (now (legs .entry)) ⌝ }
+        ensures { λ _. ⌜ now (legs .exit) ≡ lentOf self seat (now (legs .entry)) ⌝ }
+    {
+        let wired = self.wire(seat, legs.len());
+        let laid = wired.laid;
+        wiring::lent::fill(laid, legs);
+        WiredSeat {
+            desk: wired.desk,
+            wiring: laid.wiring,
         }
     }
 }

@@ -1,36 +1,26 @@
 -- Lists that loops fill: values one after the other, entries before blanks, legs run by run; and what the small functions answer.
 -- Assumes nothing.
-use mathlib.Core.Path.{_≡_, refl, sym, ap, ap₂, _∙_, subst}
+use mathlib.Core.Path.{_≡_, refl, sym, ap, ap₂, _∙_}
 use mathlib.Core.Bool.{Bool, true, false, not}
 use mathlib.Core.List.{List, [], _∷_, _++_, append-assoc, append-nil}
 use Prim.Native.Nat.{ℕ, zero, suc, _+_, _-_, _/_, _%_, _^_, _≤_, _<_}
 use native.Mathlib.Numerals.{add-one}
 use native.Mathlib.Omega.{arith}
-use lib.IntN.{ℤ, pos}
 use lib.Dec.{eqb}
-use lib.ListN.{length, getD, set, take, drop, replicate, length-set, length-append, length-replicate, drop-of-length-le}
-use lib.Seq.{ext-getD, getD-set-same, getD-set-other, set-at, append-snoc, drop-cons, take-suc, take-all, getD-take, length-take-le}
-use mir.Syntax.{w32}
-use mir.Val.{SFits, toZ, ofZ}
-use mir.Facts.{toZ-ofZ}
+use lib.ListN.{length, getD, set, take, drop, replicate, length-set, length-append, drop-of-length-le}
+use lib.Seq.{ext-getD, getD-set-same, getD-set-other, set-at, append-snoc, drop-cons, take-suc, getD-take, length-take-le}
 use borrow.Author.Tests.{eq-eqb, ne-eqb, eqb-true, eqb-false}
-use Rattle.refusal.specs.Tests.{both, either, choose}
-use Rattle.refusal.proofs.Tests.{both-no, both-yes, either-left, either-right}
+use Rattle.refusal.specs.Tests.{choose}
 use Rattle.grid.specs.declared.Place.{Place}
 use Rattle.grid.specs.declared.Spot.{Spot}
-use Rattle.grid.specs.declared.Spot.the-variants.{Absent, At}
-use Rattle.grid.specs.Place.{inside, tooNear}
 use Rattle.tree.specs.declared.Run.{Run}
-use Rattle.tree.specs.Growth.{run, present, placeOf, spotAt, allInside}
+use Rattle.tree.specs.Growth.{run, placeOf, spotAt}
 use Rattle.copper.specs.declared.Shape.{Shape}
 use Rattle.copper.specs.declared.Shape.the-variants.{Straight, Lower, Upper}
 use Rattle.copper.specs.declared.Leg.{Leg}
 use Rattle.copper.specs.Shapes.{firstLeg, secondLeg, legCount, legsOf}
-use Rattle.least.specs.Asking.{differs}
 use Rattle.wiring.specs.declared.Shaped.{Shaped}
-use Rattle.wiring.specs.declared.Strip.{Strip}
 use Rattle.wiring.specs.Answer.{shaped, noLeg, runEntries, legEntries}
-use Rattle.wiring.specs.Bare.{crowd, crowdAny, crowded, spotsOf, feedOf}
 use Rattle.wiring.specs.Reaching.{runAt, reachedPin, reachedFrom, valuesFrom, upperIn, shapedIn, entriesIn, putLegs, legsOfEntry, legsOfEntries, strip}
 
 -- ---- values one after the other
@@ -248,107 +238,3 @@ module _ (feed : List Spot) (entries : List Shaped) (long : length entries ≡ 3
       → record { count = filled; legs = legs } ≡ strip (legsOfEntries feed (take count entries))
   unfolding strip
   put-all legs filled i count h k p = let e : i ≡ count = omega arith in rw (← e, p .are, p .many)
-
--- ---- the tests of a feed, from pin i on
-from-here : {A : Type 0} (l : List A) (i : ℕ) (d : A) → i < length l → drop i l ≡ getD l i d ∷ drop (i + 1) l
-from-here l i d h = rw add-one (drop-cons l i d h)
-
-module _ (feed : List Spot) (i : ℕ) where
-  pub inside-turn : i < length feed → inside (placeOf (spotAt feed i)) ≡ true → allInside (drop i feed) ≡ allInside (drop (i + 1) feed)
-  unfolding allInside
-  inside-turn h e = rw (from-here feed i Absent h) (both-yes (allInside (drop (i + 1) feed)) e)
-
-  pub inside-stop : i < length feed → inside (placeOf (spotAt feed i)) ≡ false → allInside (drop i feed) ≡ false
-  unfolding allInside
-  inside-stop h e = rw (from-here feed i Absent h) (both-no (allInside (drop (i + 1) feed)) e)
-
-  pub inside-end : length feed ≤ i → allInside (drop i feed) ≡ true
-  unfolding allInside
-  inside-end h = rw (drop-of-length-le feed h)
-
-  pub any-turn : (s : Spot) → i < length feed → crowd s (spotAt feed i) ≡ false → crowdAny s (drop i feed) ≡ crowdAny s (drop (i + 1) feed)
-  unfolding crowdAny
-  any-turn s h e = rw (from-here feed i Absent h) (either-right (crowdAny s (drop (i + 1) feed)) e)
-
-  pub any-stop : (s : Spot) → i < length feed → crowd s (spotAt feed i) ≡ true → crowdAny s (drop i feed) ≡ true
-  unfolding crowdAny
-  any-stop s h e = rw (from-here feed i Absent h) (either-left (crowdAny s (drop (i + 1) feed)) e)
-
-  pub any-end : (s : Spot) → length feed ≤ i → crowdAny s (drop i feed) ≡ false
-  unfolding crowdAny
-  any-end s h = rw (drop-of-length-le feed h)
-
-  pub crowded-turn : i < length feed → crowdAny (spotAt feed i) (drop (i + 1) feed) ≡ false → crowded (drop i feed) ≡ crowded (drop (i + 1) feed)
-  unfolding crowded
-  crowded-turn h e = rw (from-here feed i Absent h) (either-right (crowded (drop (i + 1) feed)) e)
-
-  pub crowded-stop : i < length feed → crowdAny (spotAt feed i) (drop (i + 1) feed) ≡ true → crowded (drop i feed) ≡ true
-  unfolding crowded
-  crowded-stop h e = rw (from-here feed i Absent h) (either-left (crowded (drop (i + 1) feed)) e)
-
-  pub crowded-end : length feed ≤ i → crowded (drop i feed) ≡ false
-  unfolding crowded
-  crowded-end h = rw (drop-of-length-le feed h)
-
--- Two pins, by which of them is there.
-module _ (s t : Spot) where
-  pub crowd-first : present s ≡ false → false ≡ crowd s t
-  unfolding crowd both
-  crowd-first e = rw e
-
-  pub crowd-second : present s ≡ true → present t ≡ false → false ≡ crowd s t
-  unfolding crowd both
-  crowd-second e f = rw (e, f)
-
-  pub crowd-both : present s ≡ true → present t ≡ true → tooNear (placeOf s) (placeOf t) ≡ crowd s t
-  unfolding crowd both
-  crowd-both e f = rw (e, f)
-
--- ---- the feed of lists of x and y
--- A place as it is read from the lists.
-pub spot-read : {a b : ℤ} → SFits w32 a → SFits w32 b → At (record { x = toZ w32 (ofZ w32 a); y = toZ w32 (ofZ w32 b) }) ≡ At (record { x = a; y = b })
-spot-read f g = rw (toZ-ofZ f, toZ-ofZ g)
-
-spots-long : (xs ys : List ℤ) → length xs ≡ length ys → length (spotsOf xs ys) ≡ length xs
-unfolding spotsOf
-spots-long [] ys e = refl
-spots-long (x ∷ xs) [] e = absurd (omega arith)
-spots-long (x ∷ xs) (y ∷ ys) e = ap suc (spots-long xs ys (let z : length xs ≡ length ys = omega arith in z))
-
-spots-next : (xs ys : List ℤ) (i : ℕ) → length xs ≡ length ys → i < length xs
-    → spotsOf (take (suc i) xs) (take (suc i) ys) ≡ spotsOf (take i xs) (take i ys) ++ (At (record { x = getD xs i (pos 0); y = getD ys i (pos 0) }) ∷ [])
-unfolding spotsOf
-spots-next [] ys i e h = absurd (omega arith)
-spots-next (x ∷ xs) [] i e h = absurd (omega arith)
-spots-next (x ∷ xs) (y ∷ ys) zero e h = refl
-spots-next (x ∷ xs) (y ∷ ys) (suc i) e h =
-    ap (λ (l : List Spot). At (record { x = x; y = y }) ∷ l) (spots-next xs ys i (let z : length xs ≡ length ys = omega arith in z) (omega arith))
-
--- The first i pins are in the feed.
-module _ (xs ys : List ℤ) (same : length xs ≡ length ys) (few : length xs ≤ 32) where
-  abbrev spotsTo : ℕ → List Spot
-  spotsTo i = spotsOf (take i xs) (take i ys)
-
-  spots-to : (i : ℕ) → i ≤ length xs → length (spotsTo i) ≡ i
-  spots-to i h =
-      let a : length (take i xs) ≡ i = length-take-le i xs h in
-      let b : length (take i ys) ≡ i = length-take-le i ys (omega arith) in
-      spots-long (take i xs) (take i ys) (a ∙ sym b) ∙ a
-
-  pub feed-none : replicate 32 Absent ≡ spotsTo 0 ++ replicate (32 - length (spotsTo 0)) Absent
-  unfolding spotsOf
-  feed-none = refl
-
-  pub feed-turn : (feed : List Spot) (i : ℕ) (s : Spot) → i < length xs → feed ≡ spotsTo i ++ replicate (32 - length (spotsTo i)) Absent
-      → s ≡ At (record { x = getD xs i (pos 0); y = getD ys i (pos 0) }) → set feed i s ≡ spotsTo (i + 1) ++ replicate (32 - length (spotsTo (i + 1))) Absent
-  feed-turn feed i s h e g =
-      let n : length (spotsTo i) ≡ i = spots-to i (omega arith) in
-      let t : spotsTo (i + 1) ≡ spotsTo i ++ (s ∷ []) = ap spotsTo (add-one i) ∙ spots-next xs ys i same h ∙ ap (λ (z : Spot). spotsTo i ++ (z ∷ [])) (sym g) in
-      ap (λ (l : List Spot). set l i s) e
-      ∙ ap (λ (k : ℕ). set (spotsTo i ++ replicate (32 - length (spotsTo i)) Absent) k s) (sym n)
-      ∙ pad-more 32 Absent (spotsTo i) s (let z : length (spotsTo i) < 32 = omega arith in z)
-      ∙ ap (λ (l : List Spot). l ++ replicate (32 - length l) Absent) (sym t)
-
-  pub feed-all : (feed : List Spot) (i : ℕ) → length xs ≤ i → feed ≡ spotsTo i ++ replicate (32 - length (spotsTo i)) Absent → feed ≡ feedOf xs ys
-  unfolding feedOf
-  feed-all feed i h e = rw (take-all i xs h, take-all i ys (omega arith)) at e

@@ -8,4 +8,3 @@ pub mod Best
 pub mod Weighed
 pub mod Filling
 pub mod Answering
-pub mod Bareness

@@ -2,9 +2,9 @@
 use mathlib.Core.Bool.{Bool, true, false}
 use mathlib.Core.List.{List, [], _∷_, _++_}
 use Prim.Native.Nat.{ℕ, _-_}
-use lib.IntN.{ℤ}
+use lib.IntN.{ℤ, pos}
 use lib.Dec.{eqb, ltb}
-use lib.ListN.{length, replicate}
+use lib.ListN.{length, getD, replicate}
 use Rattle.refusal.specs.Tests.{both, either, choose}
 use Rattle.refusal.specs.Refusals.{accepted, turn}
 use Rattle.refusal.specs.declared.Verdict.{Verdict}
@@ -41,6 +41,10 @@ unfoldable pub spotsOf : List ℤ → List ℤ → List Spot
 spotsOf [] ys = []
 spotsOf (x ∷ xs) [] = []
 spotsOf (x ∷ xs) (y ∷ ys) = At (record { x = x; y = y }) ∷ spotsOf xs ys
+
+-- The pin at one position of the lists.
+unfoldable pub pinAt : List ℤ → List ℤ → ℕ → Spot
+pinAt xs ys pin = At (record { x = getD xs pin (pos 0); y = getD ys pin (pos 0) })
 
 -- Its pins are numbered by position.
 unfoldable pub feedOf : List ℤ → List ℤ → List Spot

@@ -1,4 +1,7 @@
 // Wiring: the best shapes of the runs, the answer, choices weighed, bare wiring, and the legs that a host lends.
+pub mod bare;
+pub mod lent;
+
 use copper::Leg;
 use copper::Shape;
 use grid::Place;
@@ -9,10 +12,10 @@ ghost use mathlib.Core.Path.{_≡_};
 ghost use mathlib.Core.Bool.{true, false};
 ghost use Prim.Native.Nat.{_+_, _≤_, _<_};
 ghost use lib.ListN.{length, take, drop};
-ghost use Rattle.tree.specs.Growth.{present, placeOf, spotAt, allInside};
+ghost use Rattle.tree.specs.Growth.{placeOf, spotAt, allInside};
 ghost use Rattle.wiring.specs.Answer.{noLeg, turnedAway, wiringFavouring, wiringOf};
 ghost use Rattle.wiring.specs.Reaching.{reachedPin, reachedPlace, reachedFrom, xsOf, ysOf, nearsOf, upperIn, shapedIn, entriesIn, putLegs, legsOfEntry, legsOfEntries, strip};
-ghost use Rattle.wiring.specs.Bare.{crowd, crowdAny, crowded, feedOf, bareOf};
+ghost use Rattle.wiring.specs.Bare.{crowded};
 
 // A run entry of the answer: near, far, shape.
 pub struct Shaped {
@@ -311,115 +314,4 @@ pub fn wire_feed(feed: [Spot; 32], room: usize) -> Laid
     ensures { λ r. ⌜ r ≡ wiringOf feed room ⌝ }
 {
     wire_favouring(feed, room, false)
-}
-
-// Whether every pin stands on the board.
-fn is_all_inside(feed: [Spot; 32]) -> bool
-    ensures { λ r. ⌜ r ≡ allInside feed ⌝ }
-{
-    let mut pin = 0;
-    while pin < 32 {
-        let spot = feed[pin];
-        let place = place_of(spot);
-        if !grid::is_inside(place) {
-            return false;
-        }
-        pin += 1;
-    }
-    true
-}
-
-// Whether a pin is there.
-fn is_there(spot: Spot) -> bool
-    ensures { λ r. ⌜ r ≡ present spot ⌝ }
-{
-    match spot {
-        Spot::Absent => false,
-        Spot::At(_) => true,
-    }
-}
-
-// Whether two pins that are there are too near.
-fn do_crowd(a: Spot, b: Spot) -> bool
-    ensures { λ r. ⌜ r ≡ crowd a b ⌝ }
-{
-    if !is_there(a) {
-        return false;
-    }
-    if !is_there(b) {
-        return false;
-    }
-    let p = place_of(a);
-    let q = place_of(b);
-    grid::too_near(p, q)
-}
-
-// Whether a pin is too near one of those from number `start` on.
-fn crowds_any(feed: [Spot; 32], spot: Spot, start: usize) -> bool
-    ensures { λ r. ⌜ r ≡ crowdAny spot (drop start feed) ⌝ }
-{
-    let mut pin = start;
-    while pin < 32 {
-        let other = feed[pin];
-        if do_crowd(spot, other) {
-            return true;
-        }
-        pin += 1;
-    }
-    false
-}
-
-// Whether two pins of a feed are too near.
-fn is_crowded(feed: [Spot; 32]) -> bool
-    ensures { λ r. ⌜ r ≡ crowded feed ⌝ }
-{
-    let mut pin = 0;
-    while pin < 32 {
-        let spot = feed[pin];
-        if crowds_any(feed, spot, pin + 1) {
-            return true;
-        }
-        pin += 1;
-    }
-    false
-}
-
-// The feed of lists of x and y.
-fn feed_of(xs: &[i32], ys: &[i32]) -> [Spot; 32]
-    requires { ⌜ (length (now xs) ≡ length (now ys)) × (length (now xs) ≤ 32) ⌝ }
-    ensures { λ r. ⌜ r ≡ feedOf (now (xs .entry)) (now (ys .entry)) ⌝ }
-{
-    let mut feed = [Spot::Absent; 32];
-    let mut pin = 0;
-    while pin < xs.len() {
-        let x = xs[pin];
-        let y = ys[pin];
-        let place = Place { x, y };
-        feed[pin] = Spot::At(place);
-        pin += 1;
-    }
-    feed
-}
-
-// The wiring of bare lists of x and y, with room for so many legs.
-pub fn wire_bare(xs: &[i32], ys: &[i32], room: usize) -> Laid
-    ensures { λ r. ⌜ r ≡ bareOf (now (xs .entry)) (now (ys .entry)) room ⌝ }
-{
-    if xs.len() != ys.len() {
-        return refused(Verdict::ListLengths);
-    }
-    if 32 < xs.len() {
-        return refused(Verdict::ListLengths);
-    }
-    if xs.len() == 0 {
-        return refused(Verdict::NoPins);
-    }
-    let feed = feed_of(xs, ys);
-    if !is_all_inside(feed) {
-        return refused(Verdict::Outside);
-    }
-    if is_crowded(feed) {
-        return refused(Verdict::PlaceTaken);
-    }
-    wire_feed(feed, room)
 }

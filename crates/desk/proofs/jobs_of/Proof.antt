@@ -1,6 +1,6 @@
 -- `desk::jobs_of` meets its contract. The loop's invariant: the first `i` jobs are those of the seats.
 -- The measure is how many are left. Assumes nothing.
-use mathlib.Core.Path.{_≡_, refl, _∙_}
+use mathlib.Core.Path.{_≡_, refl}
 use mathlib.Core.List.{map}
 use Prim.Native.Nat.{_≤_, _<_, _-_}
 use native.Mathlib.Omega.{arith}

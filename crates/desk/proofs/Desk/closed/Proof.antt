@@ -1,5 +1,5 @@
 -- `desk::Desk::closed` meets its contract, row by row. Assumes nothing.
-use mathlib.Core.Path.{refl, sym, _∙_}
+use mathlib.Core.Path.{refl}
 use borrow.Author.Needs.{needs}
 use Rattle.refusal.specs.Refusals.{accepted}
 use Rattle.desk.specs.Calls.{closing}

@@ -1,5 +1,4 @@
 -- `desk::Desk::is_sound` meets its contract, test by test. Assumes nothing.
-use mathlib.Core.Path.{refl, sym, _∙_}
 use borrow.Author.Needs.{needs}
 use Rattle.desk.proofs.Tests.{journal-broken, jobs-broken, seats-decide, used-tested}
 use Rattle.desk.proofs.Desk.is_sound.Statement.{statement}

@@ -1,12 +1,10 @@
 -- `desk::Desk::undone` meets its contract, row by row. Assumes nothing.
-use mathlib.Core.Path.{refl, sym, _∙_}
-use Prim.Native.Nat.{_<_}
+use mathlib.Core.Path.{refl}
+use native.Mathlib.Omega.{arith}
 use borrow.Author.Needs.{needs}
 use Rattle.refusal.specs.Refusals.{accepted}
-use Rattle.drawing.specs.Pins.{pins}
-use Rattle.drawing.specs.Edits.{pinOf}
 use Rattle.desk.specs.Calls.{undoing}
-use Rattle.desk.proofs.Sound.{used-within, undo-numbered}
+use Rattle.desk.proofs.Sound.{used-within, owned-within, standing-within, undo-numbered}
 use Rattle.desk.proofs.Answers.{step-refused, above, shut, undo-nothing}
 use Rattle.desk.proofs.Steps.{turned-on, turned-off, undo-done}
 use Rattle.desk.proofs.Desk.undone.Statement.{statement}
@@ -31,7 +29,7 @@ unfolding accepted
 returns-3 c = step-refused (c .before .before .before .before .before .args .self) (undoing (c .before .before .before .before .before .args .seat)) (undo-nothing (c .before .before .before .before .before .args .self) (c .before .before .before .before .before .pre) (c .before .before .before .before .before .args .seat) (c .before .before .before .before .if1 .left) (turned-off (c .before .if2 .left)) (c .if3 .taken)) refl
 
 sub-latest : tie.Need-sub-latest
-sub-latest c = search needs
+sub-latest c = omega (arith, standing-within (c .before .before .before .before .before .before .args .self) (c .before .before .before .before .before .before .pre) (c .before .before .before .before .before .before .args .seat) (c .before .before .before .before .before .if1 .left) (turned-off (c .before .before .if2 .left)), owned-within (c .before .before .before .before .before .before .args .self) (c .before .before .before .before .before .before .pre) (c .before .before .before .before .before .before .args .seat))
 
 edit-of-requires : tie.Need-edit-of-requires
 edit-of-requires c κs = used-within (c .before .before .before .before .before .before .args .self) (c .before .before .before .before .before .before .pre)

@@ -1,0 +1,4 @@
+-- What the proofs of lent legs share.
+pub mod Filling
+pub mod Fitting
+pub mod Untouched

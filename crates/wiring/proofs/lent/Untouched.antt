@@ -1,0 +1,52 @@
+-- A refused wiring has no legs, and leaves the list that was lent as it was. Assumes nothing.
+use mathlib.Core.Path.{_≡_, refl, ap, _∙_}
+use mathlib.Core.Bool.{Bool, true, false, true≢false}
+use mathlib.Core.List.{List}
+use Prim.Native.Nat.{ℕ}
+use lib.IntN.{ℤ}
+use Rattle.refusal.specs.Tests.{choose}
+use Rattle.refusal.specs.Refusals.{accepted}
+use Rattle.refusal.specs.declared.Verdict.{Verdict}
+use Rattle.grid.specs.declared.Spot.{Spot}
+use Rattle.tree.specs.declared.Run.{Run}
+use Rattle.tree.specs.Growth.{runsOf}
+use Rattle.copper.specs.declared.Shape.{Shape}
+use Rattle.copper.specs.declared.Leg.{Leg}
+use Rattle.wiring.specs.declared.Laid.{Laid}
+use Rattle.wiring.specs.Choices.{bestChoice}
+use Rattle.wiring.specs.Answer.{laidWith, answerWith, turnedAway, wiringVerdict, wiringWith, wiringFavouring, wiringOf, filledWith}
+use Rattle.wiring.specs.Bare.{feedOf, bareVerdict, bareOf}
+
+-- An answer that is refused is its verdict and nothing else.
+abbrev pub Alone : Laid → Type 0
+Alone l = accepted (l .wiring .verdict) ≡ false → l ≡ turnedAway (l .wiring .verdict)
+
+turned-by : (t : Bool) (v : Verdict) (l : Laid) → Alone l → Alone (choose t l (turnedAway v))
+unfolding choose turnedAway
+turned-by true v l h e = h e
+turned-by false v l h e = refl
+
+-- An answer that is given is accepted.
+answer-given : (feed : List Spot) (runs : List Run) (shapes : List Shape) → Alone (answerWith feed runs shapes)
+unfolding answerWith laidWith accepted
+answer-given feed runs shapes e = absurd (true≢false e)
+
+pub wiring-turned : (feed : List Spot) (room : ℕ) → Alone (wiringOf feed room)
+unfolding wiringOf wiringFavouring wiringWith
+wiring-turned feed room =
+    let runs = runsOf feed in
+    let shapes = bestChoice false feed runs in
+    let v = wiringVerdict feed runs shapes room in
+    turned-by (accepted v) v (answerWith feed runs shapes) (answer-given feed runs shapes)
+
+pub bare-turned : (xs ys : List ℤ) (room : ℕ) → Alone (bareOf xs ys room)
+unfolding bareOf
+bare-turned xs ys room = turned-by (accepted (bareVerdict xs ys)) (bareVerdict xs ys) (wiringOf (feedOf xs ys) room) (wiring-turned (feedOf xs ys) room)
+
+-- Such an answer fills nothing.
+pub turned-fills : (v : Verdict) (lent : List Leg) → filledWith (turnedAway v) lent ≡ lent
+unfolding filledWith turnedAway
+turned-fills v lent = refl
+
+pub untouched : (l : Laid) (lent : List Leg) → Alone l → accepted (l .wiring .verdict) ≡ false → filledWith l lent ≡ lent
+untouched l lent h e = ap (λ (m : Laid). filledWith m lent) (h e) ∙ turned-fills (l .wiring .verdict) lent
