@@ -8,3 +8,4 @@ pub mod Best
 pub mod Weighed
 pub mod Filling
 pub mod Answering
+pub mod Shortest
