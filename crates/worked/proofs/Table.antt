@@ -1,0 +1,84 @@
+-- W1 to W8 and D1 to D3 of document 01, as one statement over a table: the boards by the definition of bare wiring, the desks by the
+-- definition of a call from the empty desk. Assumes nothing.
+use mathlib.Core.Path.{_≡_, refl}
+use mathlib.Core.Bool.{true}
+use mathlib.Core.List.{List, [], _∷_, _++_, map}
+use Prim.Native.Nat.{ℕ}
+use lib.IntN.{ℤ, pos, negsuc}
+use lib.ListN.{replicate, take}
+use Rattle.refusal.specs.Tests.{both, either, choose}
+use Rattle.refusal.specs.Refusals.{accepted, turn}
+use Rattle.refusal.specs.declared.Verdict.{Verdict}
+use Rattle.refusal.specs.declared.Verdict.the-variants.{Accepted, PlaceTaken, NothingStands, NothingTakenBack, DeskBroken}
+use Rattle.grid.specs.declared.Place.{Place}
+use Rattle.grid.specs.Number.{first, second, third, fourth}
+use Rattle.grid.specs.Place.{onBoard, inside, difference, closer, tooNear, sameNumber, samePlace}
+use Rattle.drawing.specs.declared.Pin.{Pin}
+use Rattle.drawing.specs.Pins.{pins, absent, there, holding, isThere, sameHeld, samePin, samePins, meets, meetsAny, crowded, within, settled, allWithin, allApart, lawful}
+use Rattle.drawing.specs.Edits.{movedPin, made, unmade, standsAt, fits, placeable, movable, makeable, takeable, heldBy, placed}
+use Rattle.pinmap.specs.Record.{recordBytes, pinBytes}
+use Rattle.pinmap.specs.Map.{noPins, readFrom, wrongLength, readMap, mapFrom, mapOf, written}
+use Rattle.journal.specs.Journal.{recorded, own, kept, filled, seated, inTurn}
+use Rattle.desk.specs.declared.Desk.{Desk}
+use Rattle.desk.specs.Calls.{Call, opening, placing, moving, undoing, redoing}
+use Rattle.desk.specs.Refusals.{sameJob, jobAmong, turnedOpening, turnedClosing, turnedPlacing, turnedMoving, turnedRemoving, turnedUndoing, turnedRedoing, turnedWriting, verdictOf}
+use Rattle.desk.specs.Desk.{closedSeat, seatOf, jobOf, jobsApart, soundOpen, soundClosed, soundSeat, soundTo, sound, edited, effect, answerOf, step, emptyDesk, writtenOf, bufferOf}
+use Rattle.wiring.specs.declared.Wiring.{Wiring}
+use Rattle.wiring.specs.Bare.{bareOf}
+use Rattle.wiring.proofs.Worked as boards
+use Rattle.history.specs.History.{after, answers}
+
+-- A case: boards with their answers; calls from the empty desk with what they are answered and the pins that they leave at seats 0 and 1;
+-- or calls and the map of seat 0 that they leave.
+pub data Case : Type 0 where
+  wired : List boards.Board → List Wiring → Case
+  session : List Call → List Verdict → List Pin → List Pin → Case
+  mapped : List Call → List ℕ → Case
+
+-- What a case says.
+unfoldable pub Holds : Case → Type 0
+Holds (wired l w) = map (λ (b : boards.Board). bareOf (b .xs) (b .ys) 62 .wiring) l ≡ w
+Holds (session calls told first second) =
+    (answers emptyDesk calls ≡ told) × (seatOf (after emptyDesk calls) 0 .pins ≡ first) × (seatOf (after emptyDesk calls) 1 .pins ≡ second)
+Holds (mapped calls bytes) = mapOf (seatOf (after emptyDesk calls) 0 .job) (seatOf (after emptyDesk calls) 0 .pins) ≡ bytes
+
+-- What a table of cases says.
+unfoldable pub AllHold : List Case → Type 0
+AllHold [] = Unit {0}
+AllHold (c ∷ table) = Holds c × AllHold table
+
+abbrev at : ℤ → ℤ → Place
+at a b = record { x = a; y = b }
+
+abbrev pinAt : ℤ → ℤ → Pin
+pinAt a b = there (holding (at a b))
+
+-- A drawing of these pins and no others.
+abbrev drawn : List Pin → List Pin
+drawn l = take pins (l ++ replicate pins absent)
+
+-- D1, up to the first undo: both seats opened empty, a pin placed at each, seat 0 undone.
+abbrev D1 : List Call
+D1 = opening 0 7 [] ∷ opening 1 9 [] ∷ placing 0 0 (at (pos 1) (pos 1)) ∷ placing 1 0 (at (pos 2) (pos 2)) ∷ undoing 0 ∷ []
+
+-- D2: pin 0 placed and moved, the move undone, pin 1 placed; the redo is 11.
+abbrev D2 : List Call
+D2 = opening 0 7 [] ∷ placing 0 0 (at (pos 1) (pos 1)) ∷ moving 0 0 (at (pos 4) (pos 4)) ∷ undoing 0 ∷ placing 0 1 (at (pos 2) (pos 2)) ∷ redoing 0 ∷ []
+
+-- D3: job 7, pin 0 at (1,-1).
+abbrev D3 : List Call
+D3 = opening 0 7 [] ∷ placing 0 0 (at (pos 1) (negsuc 0)) ∷ []
+
+abbrev pub table : List Case
+table =
+    wired boards.boards boards.answers
+    ∷ session D1 (Accepted ∷ Accepted ∷ Accepted ∷ Accepted ∷ Accepted ∷ []) (drawn []) (drawn (pinAt (pos 2) (pos 2) ∷ []))
+    ∷ session (D1 ++ (undoing 0 ∷ redoing 0 ∷ [])) (Accepted ∷ Accepted ∷ Accepted ∷ Accepted ∷ Accepted ∷ NothingStands ∷ Accepted ∷ []) (drawn (pinAt (pos 1) (pos 1) ∷ [])) (drawn (pinAt (pos 2) (pos 2) ∷ []))
+    ∷ session D2 (Accepted ∷ Accepted ∷ Accepted ∷ Accepted ∷ Accepted ∷ NothingTakenBack ∷ []) (drawn (pinAt (pos 1) (pos 1) ∷ pinAt (pos 2) (pos 2) ∷ [])) (drawn [])
+    ∷ mapped D3 (0 ∷ 7 ∷ 0 ∷ 0 ∷ 0 ∷ 0 ∷ 0 ∷ 1 ∷ 255 ∷ 255 ∷ 255 ∷ 255 ∷ [])
+    ∷ []
+
+-- W1 TO W8 AND D1 TO D3 HOLD.
+pub worked : AllHold table
+unfolding Holds AllHold after answers both either choose accepted turn onBoard inside difference closer tooNear sameNumber samePlace isThere sameHeld samePin samePins meets meetsAny crowded within settled allWithin allApart lawful movedPin made unmade standsAt fits placeable movable makeable takeable heldBy noPins readFrom wrongLength readMap own kept filled seated inTurn sameJob jobAmong turnedOpening turnedClosing turnedPlacing turnedMoving turnedRemoving turnedUndoing turnedRedoing verdictOf jobOf jobsApart soundOpen soundClosed soundSeat soundTo sound edited effect answerOf step emptyDesk mapFrom mapOf recordBytes pinBytes first second third fourth turnedWriting
+worked = (boards.worked, ((refl, refl, refl), ((refl, refl, refl), ((refl, refl, refl), (refl, tt)))))

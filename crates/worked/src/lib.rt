@@ -1,0 +1,1 @@
+// The boards and desks worked by hand in document 01, as one theorem over a table. There is no code here.
