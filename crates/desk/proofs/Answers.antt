@@ -77,7 +77,7 @@ module _ (d : Desk) (k : sound d ≡ true) where
   above (wiring s room) h = rw (k, le-leb seats s h)
 
   -- 2: seat not open.
-  pub shut : (c : Call) → asksOpen c ≡ true → seatIn c < seats → seatOf d (seatIn c) .«open» ≡ false → answerOf d c ≡ NotOpen
+  pub shut : (c : Call) → asksOpen c ≡ true → seatIn c < seats → seatOf d (seatIn c) .opened ≡ false → answerOf d c ≡ NotOpen
   unfolding answerOf verdictOf turnedClosing turnedPlacing turnedMoving turnedRemoving turnedUndoing turnedRedoing turnedWriting turnedWiring turn choose
   shut (opening s job map) a h o = absurd (false≢true a)
   shut (closing s) a h o = rw (k, lt-leb seats s h, o)
@@ -92,11 +92,11 @@ module _ (d : Desk) (k : sound d ≡ true) where
 -- Opening, at a seat of the desk.
 module _ (d : Desk) (k : sound d ≡ true) (s job : ℕ) (map : List ℕ) (h : s < seats) where
   -- 3: seat open already.
-  pub open-already : seatOf d s .«open» ≡ true → answerOf d (opening s job map) ≡ OpenAlready
+  pub open-already : seatOf d s .opened ≡ true → answerOf d (opening s job map) ≡ OpenAlready
   unfolding answerOf verdictOf turnedOpening turn choose
   open-already o = rw (k, lt-leb seats s h, o)
 
-  module _ (o : seatOf d s .«open» ≡ false) where
+  module _ (o : seatOf d s .opened ≡ false) where
     -- 4: job is 0.
     pub open-zero : job ≡ 0 → answerOf d (opening s job map) ≡ JobZero
     unfolding answerOf verdictOf turnedOpening turn choose
@@ -114,7 +114,7 @@ module _ (d : Desk) (k : sound d ≡ true) (s job : ℕ) (map : List ℕ) (h : s
       open-read j = rw (k, lt-leb seats s h, o, ne-eqb job 0 z, j)
 
 -- The other calls, at an open seat.
-module _ (d : Desk) (k : sound d ≡ true) (s : ℕ) (h : s < seats) (o : seatOf d s .«open» ≡ true) where
+module _ (d : Desk) (k : sound d ≡ true) (s : ℕ) (h : s < seats) (o : seatOf d s .opened ≡ true) where
   pub close-accepted : answerOf d (closing s) ≡ Accepted
   unfolding answerOf verdictOf turnedClosing turn choose
   close-accepted = rw (k, lt-leb seats s h, o)

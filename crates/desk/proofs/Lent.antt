@@ -32,7 +32,7 @@ unfolding turnedClosing accepted
 feed-whole d s e =
     let p = passed (not (sound d)) DeskBroken _ refl e in
     let q = passed (leb seats s) SeatAbove _ refl (p .1) in
-    let r = passed (not (seatOf d s .«open»)) NotOpen _ refl (q .1) in
+    let r = passed (not (seatOf d s .opened)) NotOpen _ refl (q .1) in
     feed-long _ (pins-lawful d (turned-off (p .0)) s (leb-false seats s (q .0)) (turned-off (r .0)))
 
 -- Legs that fit where a seat is wired fit where it may be turned away, which has none.

@@ -68,11 +68,11 @@ module _ (d : Desk) (h : sound d ≡ true) where
   owned-within s = omega (arith, own-length s (live d), live-length)
 
   -- A closed seat owns none.
-  pub closed-owns-none : (s : ℕ) → s < seats → seatOf d s .«open» ≡ false → length (editsOf d s) ≡ 0
+  pub closed-owns-none : (s : ℕ) → s < seats → seatOf d s .opened ≡ false → length (editsOf d s) ≡ 0
   unfolding soundSeat soundClosed choose
   closed-owns-none s k o = eqb-true _ _ (rw o at (seat-sound s k))
 
-  module _ (s : ℕ) (k : s < seats) (o : seatOf d s .«open» ≡ true) where
+  module _ (s : ℕ) (k : s < seats) (o : seatOf d s .opened ≡ true) where
     opened : soundOpen d s ≡ true
     unfolding soundSeat choose
     opened = rw o at (seat-sound s k)

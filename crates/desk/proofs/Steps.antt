@@ -87,7 +87,7 @@ pub open-effect : (d : Desk) (s job : ℕ) (map : List ℕ) {r : Reading} → r 
 unfolding effect
 open-effect d s job map e = rw e
 
-module _ (d : Desk) (k : sound d ≡ true) (s : ℕ) (h : s < seats) (o : seatOf d s .«open» ≡ true) where
+module _ (d : Desk) (k : sound d ≡ true) (s : ℕ) (h : s < seats) (o : seatOf d s .opened ≡ true) where
   -- Closing frees the seat's records.
   pub close-done : {t : Seat} {x : Desk} → t ≡ closedSeat → x ≡ freed d s 0
       → _≡_ {A = Answered} (record { desk = withSeat x s t; verdict = Accepted }) (step d (closing s))

@@ -58,11 +58,11 @@ module _ (d : Desk) (s : ℕ) where
         can-redo u i = rw (ne-eqb _ _ z, ← e, le-leb _ _ h, ← f, t, ← g, u) i
 
   -- A seat, open or closed.
-  pub seat-open : {r : Bool} → seatOf d s .«open» ≡ true → r ≡ soundOpen d s → r ≡ soundSeat d s
+  pub seat-open : {r : Bool} → seatOf d s .opened ≡ true → r ≡ soundOpen d s → r ≡ soundSeat d s
   unfolding soundSeat choose
   seat-open o e = rw o e
 
-  pub seat-closed : {r : Bool} → seatOf d s .«open» ≡ false → r ≡ soundClosed d s → r ≡ soundSeat d s
+  pub seat-closed : {r : Bool} → seatOf d s .opened ≡ false → r ≡ soundClosed d s → r ≡ soundSeat d s
   unfolding soundSeat choose
   seat-closed o e = rw o e
 

@@ -40,7 +40,7 @@ unfolding wiredOf choose
 wire-refused d s room e f g = rw (sym (as-closing d s) ∙ e, f, g)
 
 -- At an open seat: the wiring of its feed.
-pub wire-done : (d : Desk) → sound d ≡ true → (s : ℕ) → s < seats → seatOf d s .«open» ≡ true → (room : ℕ) {w : Laid}
+pub wire-done : (d : Desk) → sound d ≡ true → (s : ℕ) → s < seats → seatOf d s .opened ≡ true → (room : ℕ) {w : Laid}
     → w ≡ wiringOf (feedOf (seatOf d s .pins)) room → _≡_ {A = Wired} (record { desk = d; laid = w }) (wiredOf d s room)
 unfolding wiredOf turnedClosing accepted turn choose
 wire-done d k s h o room e = rw (k, lt-leb seats s h, o, e)

@@ -78,7 +78,7 @@ D3-holds = (refl, refl)
 
 -- A seat open for a job, with these pins and so many standing edits.
 abbrev opened : ℕ → List Pin → ℕ → Seat
-opened job l n = record { «open» = true; job = job; pins = drawn l; standing = n }
+opened job l n = record { opened = true; job = job; pins = drawn l; standing = n }
 
 -- A desk with these first seats, the others closed, and these records.
 abbrev deskOf : List Seat → List Record → ℕ → Desk

@@ -25,7 +25,7 @@ module _ (d : Desk) (s : ℕ) (b : List ℕ) {v : Verdict} (e : answerOf d (writ
   write-refused = (rw (e, f), rw (e, f))
 
 -- At an open seat: 19, or accepted.
-module _ (d : Desk) (k : sound d ≡ true) (s : ℕ) (h : s < seats) (o : seatOf d s .«open» ≡ true) (b : List ℕ) where
+module _ (d : Desk) (k : sound d ≡ true) (s : ℕ) (h : s < seats) (o : seatOf d s .opened ≡ true) (b : List ℕ) where
   pub write-answer : answerOf d (writing s (length b)) ≡ turn (noRoom (seatOf d s .pins) (seatOf d s .job) b) RoomTooSmall Accepted
   unfolding answerOf verdictOf turnedWriting noRoom turn choose
   write-answer = rw (k, lt-leb seats s h, o)

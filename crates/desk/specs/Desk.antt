@@ -28,11 +28,11 @@ use Rattle.desk.specs.Refusals.{Look, jobAmong, full, verdictOf, turnedC
 
 -- A closed seat, as calls leave it.
 abbrev pub closedSeat : Seat
-closedSeat = record { «open» = false; job = 0; pins = replicate pins absent; standing = 0 }
+closedSeat = record { opened = false; job = 0; pins = replicate pins absent; standing = 0 }
 
 -- What a list of seats has past its end.
 abbrev pub noSeat : Seat
-noSeat = record { «open» = false; job = 0; pins = []; standing = 0 }
+noSeat = record { opened = false; job = 0; pins = []; standing = 0 }
 
 -- The seat of that number.
 abbrev pub seatOf : Desk → ℕ → Seat
@@ -56,7 +56,7 @@ takenBackOf d s = drop (seatOf d s .standing) (editsOf d s)
 
 -- The job of an open seat, 0 for a closed one.
 unfoldable pub jobOf : Seat → ℕ
-jobOf t = choose (t .«open») (t .job) 0
+jobOf t = choose (t .opened) (t .job) 0
 
 -- The jobs of all seats.
 abbrev pub jobsOf : Desk → List ℕ
@@ -82,7 +82,7 @@ soundClosed d s = eqb (length (editsOf d s)) 0
 
 -- A seat is sound, as an open one or as a closed one.
 unfoldable pub soundSeat : Desk → ℕ → Bool
-soundSeat d s = choose (seatOf d s .«open») (soundOpen d s) (soundClosed d s)
+soundSeat d s = choose (seatOf d s .opened) (soundOpen d s) (soundClosed d s)
 
 -- The first n seats are sound.
 unfoldable pub soundTo : ℕ → Desk → Bool
@@ -104,7 +104,7 @@ lookAt d s =
     record {
       broken = not (sound d);
       seat = s;
-      «open» = seatOf d s .«open»;
+      opened = seatOf d s .opened;
       job = seatOf d s .job;
       pins = seatOf d s .pins;
       standing = seatOf d s .standing;
@@ -127,11 +127,11 @@ freed d s k = record { seats = d .seats; journal = filled (kept s k (live d)); u
 
 -- A seat that is open for a job with these pins and no edits.
 abbrev pub openSeat : ℕ → List Pin → Seat
-openSeat job l = record { «open» = true; job = job; pins = l; standing = 0 }
+openSeat job l = record { opened = true; job = job; pins = l; standing = 0 }
 
 -- A seat with other pins and another number of standing edits.
 abbrev pub withPins : Seat → List Pin → ℕ → Seat
-withPins t l n = record { «open» = t .«open»; job = t .job; pins = l; standing = n }
+withPins t l n = record { opened = t .opened; job = t .job; pins = l; standing = n }
 
 -- A new edit first frees the taken-back records of its own seat, then takes a record.
 unfoldable pub edited : Desk → ℕ → Edit → Desk

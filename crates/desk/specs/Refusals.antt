@@ -23,7 +23,7 @@ use Rattle.desk.specs.Calls.{Call, opening, closing, placing, moving, re
 pub record Look : Type 0 where
   pub broken : Bool
   pub seat : ℕ
-  pub «open» : Bool
+  pub opened : Bool
   pub job : ℕ
   pub pins : List Pin
   pub standing : ℕ
@@ -61,7 +61,7 @@ unfoldable pub turnedOpening : Look → ℕ → List ℕ → Verdict
 turnedOpening l job map =
     turn (l .broken) DeskBroken
     (turn (seatAbove l) SeatAbove
-    (turn (l .«open») OpenAlready
+    (turn (l .opened) OpenAlready
     (turn (eqb job 0) JobZero
     (turn (jobAmong job (l .jobs)) JobElsewhere
     (readMap map job .verdict)))))
@@ -71,14 +71,14 @@ unfoldable pub turnedClosing : Look → Verdict
 turnedClosing l =
     turn (l .broken) DeskBroken
     (turn (seatAbove l) SeatAbove
-    (turn (not (l .«open»)) NotOpen Accepted))
+    (turn (not (l .opened)) NotOpen Accepted))
 
 -- Placing: 28, 1, 2, 6, 7, 8, 9, 12.
 unfoldable pub turnedPlacing : Look → ℕ → Place → Verdict
 turnedPlacing l p at =
     turn (l .broken) DeskBroken
     (turn (seatAbove l) SeatAbove
-    (turn (not (l .«open»)) NotOpen
+    (turn (not (l .opened)) NotOpen
     (turn (leb pins p) NoSuchPin
     (turn (isThere (pinAt l p)) PinThere
     (turn (not (inside at)) Outside
@@ -90,7 +90,7 @@ unfoldable pub turnedMoving : Look → ℕ → Place → Verdict
 turnedMoving l p at =
     turn (l .broken) DeskBroken
     (turn (seatAbove l) SeatAbove
-    (turn (not (l .«open»)) NotOpen
+    (turn (not (l .opened)) NotOpen
     (turn (notThere l p) NoSuchPin
     (turn (not (inside at)) Outside
     (turn (either (standsAt (pinAt l p) at) (crowded (l .pins) p at)) PlaceTaken
@@ -101,7 +101,7 @@ unfoldable pub turnedRemoving : Look → ℕ → Verdict
 turnedRemoving l p =
     turn (l .broken) DeskBroken
     (turn (seatAbove l) SeatAbove
-    (turn (not (l .«open»)) NotOpen
+    (turn (not (l .opened)) NotOpen
     (turn (notThere l p) NoSuchPin
     (turn (full l) JournalFull Accepted))))
 
@@ -110,7 +110,7 @@ unfoldable pub turnedUndoing : Look → Verdict
 turnedUndoing l =
     turn (l .broken) DeskBroken
     (turn (seatAbove l) SeatAbove
-    (turn (not (l .«open»)) NotOpen
+    (turn (not (l .opened)) NotOpen
     (turn (eqb (l .standing) 0) NothingStands Accepted)))
 
 -- Redo: 28, 1, 2, 11.
@@ -118,7 +118,7 @@ unfoldable pub turnedRedoing : Look → Verdict
 turnedRedoing l =
     turn (l .broken) DeskBroken
     (turn (seatAbove l) SeatAbove
-    (turn (not (l .«open»)) NotOpen
+    (turn (not (l .opened)) NotOpen
     (turn (eqb (l .takenBack) 0) NothingTakenBack Accepted)))
 
 -- Writing: 28, 1, 2, 19.
@@ -126,7 +126,7 @@ unfoldable pub turnedWriting : Look → ℕ → Verdict
 turnedWriting l room =
     turn (l .broken) DeskBroken
     (turn (seatAbove l) SeatAbove
-    (turn (not (l .«open»)) NotOpen
+    (turn (not (l .opened)) NotOpen
     (turn (ltb room (length (mapOf (l .job) (l .pins)))) RoomTooSmall Accepted)))
 
 -- Wiring a seat: 28, 1, 2, 17, 18, 19.
@@ -134,7 +134,7 @@ unfoldable pub turnedWiring : Look → ℕ → Verdict
 turnedWiring l room =
     turn (l .broken) DeskBroken
     (turn (seatAbove l) SeatAbove
-    (turn (not (l .«open»)) NotOpen
+    (turn (not (l .opened)) NotOpen
     (wiringOf (feedOf (l .pins)) room .wiring .verdict)))
 
 -- What a call is answered.

@@ -26,7 +26,7 @@ ghost use Rattle.desk.specs.Desk.{closedSeat, emptyDesk, seatOf, jobOf, 
 
 // A seat: whether it is open, and if so its drawing's job and pins, and how many of its edits stand.
 pub struct Seat {
-    pub open: bool,
+    pub opened: bool,
     pub job: u16,
     pub pins: [Pin; PINS],
     pub standing: usize,
@@ -71,7 +71,7 @@ fn closed_seat() -> Seat
     let blank = drawing::absent_pin();
     let pins = [blank; PINS];
     Seat {
-        open: false,
+        opened: false,
         job: 0,
         pins,
         standing: 0,
@@ -82,7 +82,7 @@ fn closed_seat() -> Seat
 fn job_of(seat: Seat) -> u16
     ensures { λ r. ⌜ r ≡ jobOf seat ⌝ }
 {
-    if seat.open { seat.job } else { 0 }
+    if seat.opened { seat.job } else { 0 }
 }
 
 // The jobs of the seats.
@@ -217,7 +217,7 @@ impl Desk {
     {
         let d = self;
         let s = d.seats[seat];
-        if s.open {
+        if s.opened {
             d.open_is_sound(seat)
         } else {
             d.closed_is_sound(seat)
@@ -275,7 +275,7 @@ impl Desk {
             };
         }
         let s = d.seats[seat];
-        if s.open {
+        if s.opened {
             return Answered {
                 desk: d,
                 verdict: Verdict::OpenAlready,
@@ -300,7 +300,7 @@ impl Desk {
         if refusal::is_accepted(verdict) {
             let pins = reading.pins;
             d.seats[seat] = Seat {
-                open: true,
+                opened: true,
                 job,
                 pins,
                 standing: 0,
@@ -337,7 +337,7 @@ impl Desk {
             };
         }
         let s = d.seats[seat];
-        if !s.open {
+        if !s.opened {
             return Answered {
                 desk: d,
                 verdict: Verdict::NotOpen,
@@ -353,7 +353,7 @@ impl Desk {
 
     // Makes and records an edit that no refusal before 12 meets, unless the journal is full.
     fn entered(self, seat: usize, edit: Edit) -> Answered
-        requires { ⌜ (sound self ≡ true) × (seat < seats) × (seatOf self seat .«open» ≡ true) × (pinOf edit < pins) ⌝ }
+        requires { ⌜ (sound self ≡ true) × (seat < seats) × (seatOf self seat .opened ≡ true) × (pinOf edit < pins) ⌝ }
         ensures { λ r. ⌜ r ≡ entered self seat edit ⌝ }
     {
         let given = self;
@@ -395,7 +395,7 @@ impl Desk {
             };
         }
         let s = d.seats[seat];
-        if !s.open {
+        if !s.opened {
             return Answered {
                 desk: d,
                 verdict: Verdict::NotOpen,
@@ -444,7 +444,7 @@ impl Desk {
             };
         }
         let s = d.seats[seat];
-        if !s.open {
+        if !s.opened {
             return Answered {
                 desk: d,
                 verdict: Verdict::NotOpen,
@@ -499,7 +499,7 @@ impl Desk {
             };
         }
         let s = d.seats[seat];
-        if !s.open {
+        if !s.opened {
             return Answered {
                 desk: d,
                 verdict: Verdict::NotOpen,
@@ -536,7 +536,7 @@ impl Desk {
             };
         }
         let mut s = d.seats[seat];
-        if !s.open {
+        if !s.opened {
             return Answered {
                 desk: d,
                 verdict: Verdict::NotOpen,
@@ -578,7 +578,7 @@ impl Desk {
             };
         }
         let mut s = d.seats[seat];
-        if !s.open {
+        if !s.opened {
             return Answered {
                 desk: d,
                 verdict: Verdict::NotOpen,
@@ -622,7 +622,7 @@ impl Desk {
             };
         }
         let s = d.seats[seat];
-        if !s.open {
+        if !s.opened {
             return Written {
                 desk: d,
                 verdict: Verdict::NotOpen,
@@ -650,7 +650,7 @@ impl Desk {
             return Wired { desk: d, laid };
         }
         let s = d.seats[seat];
-        if !s.open {
+        if !s.opened {
             let laid = wiring::refused(Verdict::NotOpen);
             return Wired { desk: d, laid };
         }

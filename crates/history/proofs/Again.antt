@@ -28,11 +28,11 @@ use Rattle.history.proofs.Passed.{undoes, redoes}
 use Rattle.history.proofs.Sounding.{sound-step}
 
 -- Undo and redo are accepted where no row applies.
-undo-accepted : (l : Look) → l .broken ≡ false → l .seat < seats → l .«open» ≡ true → (l .standing ≡ 0 → ⊥) → turnedUndoing l ≡ Accepted
+undo-accepted : (l : Look) → l .broken ≡ false → l .seat < seats → l .opened ≡ true → (l .standing ≡ 0 → ⊥) → turnedUndoing l ≡ Accepted
 unfolding turnedUndoing turn choose
 undo-accepted l a b c n = rw (a, lt-leb seats (l .seat) b, c, ne-eqb _ _ n)
 
-redo-accepted : (l : Look) → l .broken ≡ false → l .seat < seats → l .«open» ≡ true → (l .takenBack ≡ 0 → ⊥) → turnedRedoing l ≡ Accepted
+redo-accepted : (l : Look) → l .broken ≡ false → l .seat < seats → l .opened ≡ true → (l .takenBack ≡ 0 → ⊥) → turnedRedoing l ≡ Accepted
 unfolding turnedRedoing turn choose
 redo-accepted l a b c n = rw (a, lt-leb seats (l .seat) b, c, ne-eqb _ _ n)
 
@@ -47,14 +47,14 @@ desk-is d c z = choose-yes _ _ z
 
 -- A seat changed and changed back.
 seat-back : (q : Seat) (l : List Pin) (n : ℕ) → l ≡ q .pins → n ≡ q .standing → withPins q l n ≡ q
-seat-back q l n e f = λ i. record { «open» = q .«open»; job = q .job; pins = e i; standing = f i }
+seat-back q l n e f = λ i. record { opened = q .opened; job = q .job; pins = e i; standing = f i }
 
 desk-back : (d : Desk) (s : ℕ) (r q : Seat) → q ≡ seatOf d s → withSeat (withSeat d s r) s q ≡ d
 desk-back d s r q e =
     let p : set (set (d .seats) s r) s q ≡ d .seats = rw (set-set, e, set-getD) in
     λ i. record { seats = p i; journal = d .journal; used = d .used }
 
-module _ (d : Desk) (s : ℕ) (h : sound d ≡ true) (k : s < seats) (o : seatOf d s .«open» ≡ true) where
+module _ (d : Desk) (s : ℕ) (h : sound d ≡ true) (k : s < seats) (o : seatOf d s .opened ≡ true) where
   abbrev latest : Edit
   latest = getD (editsOf d s) (seatOf d s .standing - 1) noEdit
 
@@ -74,7 +74,7 @@ module _ (d : Desk) (s : ℕ) (h : sound d ≡ true) (k : s < seats) (o : seatOf
     here : seatOf (withSeat d s r) s ≡ r
     here = getD-set-same (d .seats) s r noSeat low
 
-    redo-here : r .«open» ≡ true → (length (editsOf d s) - r .standing ≡ 0 → ⊥)
+    redo-here : r .opened ≡ true → (length (editsOf d s) - r .standing ≡ 0 → ⊥)
         → withPins r (made (r .pins) (getD (editsOf d s) (r .standing) noEdit)) (r .standing + 1) ≡ seatOf d s
         → step (withSeat d s r) (redoing s) ≡ record { desk = d; verdict = Accepted }
     unfolding answerOf verdictOf effect
@@ -83,7 +83,7 @@ module _ (d : Desk) (s : ℕ) (h : sound d ≡ true) (k : s < seats) (o : seatOf
         (redo-accepted (lookAt (withSeat d s r) s) (ap not g) k (rw here p) (rw here n))
         ∙ ap (λ (x : Desk). record { desk = x; verdict = Accepted }) (rw here (desk-back d s r _ e))
 
-    undo-here : r .«open» ≡ true → (r .standing ≡ 0 → ⊥)
+    undo-here : r .opened ≡ true → (r .standing ≡ 0 → ⊥)
         → withPins r (unmade (r .pins) (getD (editsOf d s) (r .standing - 1) noEdit)) (r .standing - 1) ≡ seatOf d s
         → step (withSeat d s r) (undoing s) ≡ record { desk = d; verdict = Accepted }
     unfolding answerOf verdictOf effect

@@ -45,7 +45,7 @@ answers-after (c ∷ calls) d h g f =
 
 -- A seat is as told: open exactly when told open, then with the job and the pins told; its standing and taken-back edits are those told.
 pub record AsTold (d : Desk) (s : ℕ) (t : Told) : Type 0 where
-  pub «open» : seatOf d s .«open» ≡ isOpen t
+  pub opened : seatOf d s .opened ≡ isOpen t
   pub job : isOpen t ≡ true → seatOf d s .job ≡ jobIn t
   pub pins : isOpen t ≡ true → seatOf d s .pins ≡ pinsIn t
   pub standing : standingOf d s ≡ standingIn t
@@ -65,7 +65,7 @@ seats-as-told d h g f =
       seat = λ s k.
           let a : At (seatOf d s) (editsOf d s) (toldOf h s) = g .holds .at s k in
           record {
-            «open» = shown-open _ _ _ a;
+            opened = shown-open _ _ _ a;
             job = shown-job _ _ _ a;
             pins = shown-pins _ _ _ a;
             standing = shown-standing _ _ _ a;

@@ -69,7 +69,7 @@ taking-low e t job n =
     omega (arith, eight-seats e h)
 
 -- The map of an open seat of a sound desk opens under its job at any seat of any desk that can take it (28, 1, 3, 4 and 5 do not apply), with the same pins.
-pub map-of-a-seat-opens : (d e : Desk) (s t : ℕ) → sound d ≡ true → s < seats → seatOf d s .«open» ≡ true → seatOf d s .job < 65536
+pub map-of-a-seat-opens : (d e : Desk) (s t : ℕ) → sound d ≡ true → s < seats → seatOf d s .opened ≡ true → seatOf d s .job < 65536
     → NoneHolds (takingRows (lookAt e t) (seatOf d s .job))
     → step e (opening t (seatOf d s .job) (mapOf (seatOf d s .job) (seatOf d s .pins)))
     ≡ record { desk = withSeat e t (openSeat (seatOf d s .job) (seatOf d s .pins)); verdict = Accepted }

@@ -46,9 +46,9 @@ neither-right false b e = e
 pub record Reached (l : Look) : Type 0 where
   pub unbroken : l .broken ≡ false
   pub low : l .seat < seats
-  pub shown : l .«open» ≡ true
+  pub shown : l .opened ≡ true
 
-reached : (l : Look) (w : Verdict) → accepted (turn (l .broken) DeskBroken (turn (seatAbove l) SeatAbove (turn (not (l .«open»)) NotOpen w))) ≡ true
+reached : (l : Look) (w : Verdict) → accepted (turn (l .broken) DeskBroken (turn (seatAbove l) SeatAbove (turn (not (l .opened)) NotOpen w))) ≡ true
     → Reached l × (accepted w ≡ true)
 reached l w e =
     let a = row _ _ _ e refl in
@@ -60,7 +60,7 @@ reached l w e =
 pub record Opens (l : Look) (job : ℕ) (map : List ℕ) : Type 0 where
   pub unbroken : l .broken ≡ false
   pub low : l .seat < seats
-  pub shown : l .«open» ≡ false
+  pub shown : l .opened ≡ false
   pub set : job ≡ 0 → ⊥
   pub fresh : jobAmong job (l .jobs) ≡ false
   pub read : accepted (readMap map job .verdict) ≡ true

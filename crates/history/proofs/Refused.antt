@@ -40,7 +40,7 @@ abbrev pub takingRows : Look → ℕ → List Row
 takingRows l job =
     given (l .broken) DeskBroken
     ∷ given (seatAbove l) SeatAbove
-    ∷ given (l .«open») OpenAlready
+    ∷ given (l .opened) OpenAlready
     ∷ given (eqb job 0) JobZero
     ∷ given (jobAmong job (l .jobs)) JobElsewhere
     ∷ []
@@ -51,14 +51,14 @@ openingRows l job map = takingRows l job ++ mapRows map job
 
 -- Closing: 28, 1, 2.
 abbrev pub closingRows : Look → List Row
-closingRows l = given (l .broken) DeskBroken ∷ given (seatAbove l) SeatAbove ∷ given (not (l .«open»)) NotOpen ∷ []
+closingRows l = given (l .broken) DeskBroken ∷ given (seatAbove l) SeatAbove ∷ given (not (l .opened)) NotOpen ∷ []
 
 -- Placing: 28, 1, 2, 6, 7, 8, 9, 12.
 abbrev pub placingRows : Look → ℕ → Place → List Row
 placingRows l p at =
     given (l .broken) DeskBroken
     ∷ given (seatAbove l) SeatAbove
-    ∷ given (not (l .«open»)) NotOpen
+    ∷ given (not (l .opened)) NotOpen
     ∷ given (leb pins p) NoSuchPin
     ∷ given (isThere (pinAt l p)) PinThere
     ∷ given (not (inside at)) Outside
@@ -71,7 +71,7 @@ abbrev pub movingRows : Look → ℕ → Place → List Row
 movingRows l p at =
     given (l .broken) DeskBroken
     ∷ given (seatAbove l) SeatAbove
-    ∷ given (not (l .«open»)) NotOpen
+    ∷ given (not (l .opened)) NotOpen
     ∷ given (notThere l p) NoSuchPin
     ∷ given (not (inside at)) Outside
     ∷ given (either (standsAt (pinAt l p) at) (crowded (l .pins) p at)) PlaceTaken
@@ -83,7 +83,7 @@ abbrev pub removingRows : Look → ℕ → List Row
 removingRows l p =
     given (l .broken) DeskBroken
     ∷ given (seatAbove l) SeatAbove
-    ∷ given (not (l .«open»)) NotOpen
+    ∷ given (not (l .opened)) NotOpen
     ∷ given (notThere l p) NoSuchPin
     ∷ given (full l) JournalFull
     ∷ []
@@ -93,7 +93,7 @@ abbrev pub undoingRows : Look → List Row
 undoingRows l =
     given (l .broken) DeskBroken
     ∷ given (seatAbove l) SeatAbove
-    ∷ given (not (l .«open»)) NotOpen
+    ∷ given (not (l .opened)) NotOpen
     ∷ given (eqb (l .standing) 0) NothingStands
     ∷ []
 
@@ -102,7 +102,7 @@ abbrev pub redoingRows : Look → List Row
 redoingRows l =
     given (l .broken) DeskBroken
     ∷ given (seatAbove l) SeatAbove
-    ∷ given (not (l .«open»)) NotOpen
+    ∷ given (not (l .opened)) NotOpen
     ∷ given (eqb (l .takenBack) 0) NothingTakenBack
     ∷ []
 
@@ -111,7 +111,7 @@ abbrev pub writingRows : Look → ℕ → List Row
 writingRows l room =
     given (l .broken) DeskBroken
     ∷ given (seatAbove l) SeatAbove
-    ∷ given (not (l .«open»)) NotOpen
+    ∷ given (not (l .opened)) NotOpen
     ∷ given (ltb room (length (mapOf (l .job) (l .pins)))) RoomTooSmall
     ∷ []
 
@@ -124,7 +124,7 @@ abbrev pub wiringRows : Look → ℕ → List Row
 wiringRows l room =
     given (l .broken) DeskBroken
     ∷ given (seatAbove l) SeatAbove
-    ∷ given (not (l .«open»)) NotOpen
+    ∷ given (not (l .opened)) NotOpen
     ∷ given (none (pinsOf (feedOf (l .pins)))) NoPins
     ∷ given (boxesMeet (feedOf (l .pins)) (runsOf (feedOf (l .pins)))) BoxesMeet
     ∷ given (ltb room (length (legsNeeded (feedOf (l .pins))))) RoomTooSmall

@@ -23,7 +23,7 @@ use Rattle.history.specs.History.{Told, shut, opened, pinsBy, isOpen, jo
 
 -- An open seat with its own edits of the journal holds what is told of it.
 pub record Held (q : Seat) (l : List Edit) (j : ℕ) (p : List Pin) (standing takenBack : List Edit) : Type 0 where
-  pub shown : q .«open» ≡ true
+  pub shown : q .opened ≡ true
   pub job : q .job ≡ j
   pub pins : q .pins ≡ p
   pub count : q .standing ≡ length standing
@@ -31,7 +31,7 @@ pub record Held (q : Seat) (l : List Edit) (j : ℕ) (p : List Pin) (standing ta
 
 -- A seat holds what is told of it; a closed one owns no records.
 unfoldable pub At : Seat → List Edit → Told → Type 0
-At q l shut = (q .«open» ≡ false) × (l ≡ [])
+At q l shut = (q .opened ≡ false) × (l ≡ [])
 At q l (opened job first standing takenBack) = Held q l job (pinsBy first standing) standing takenBack
 
 -- Seats and records in use hold a history.
@@ -60,7 +60,7 @@ zip-drop l st bk n e f = rw (e ∙ reverseAux-eq st bk) (drop-at (reverse st) bk
 pub zip-at : (l st bk : List Edit) (x : Edit) (n : ℕ) → l ≡ reverseAux st (x ∷ bk) → n ≡ length st → getD l n noEdit ≡ x
 zip-at l st bk x n e f = rw (e ∙ reverseAux-eq st (x ∷ bk)) (getD-at (reverse st) x bk noEdit n (length-reverse st ∙ sym f))
 
-pub shown-open : (q : Seat) (l : List Edit) (t : Told) → At q l t → q .«open» ≡ isOpen t
+pub shown-open : (q : Seat) (l : List Edit) (t : Told) → At q l t → q .opened ≡ isOpen t
 unfolding At
 shown-open q l shut a = a .0
 shown-open q l (opened job first standing takenBack) a = a .shown

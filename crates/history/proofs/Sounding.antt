@@ -28,7 +28,7 @@ use Rattle.history.proofs.Demand.{DeskAsTold, seats-as-told, agrees-aft
 -- What a seat of a desk tells: the pins before its standing edits, these edits, and those taken back.
 unfoldable pub toldBy : Desk → ℕ → Told
 toldBy d s =
-    choose (seatOf d s .«open»)
+    choose (seatOf d s .opened)
     (opened (seatOf d s .job) (pinsBefore (seatOf d s .pins) (standingOf d s)) (standingOf d s) (takenBackOf d s)) shut
 
 -- What the first n seats tell.
@@ -47,7 +47,7 @@ nil-of [] h = refl
 nil-of (e ∷ l) h = absurd (omega arith)
 
 module _ (d : Desk) (h : sound d ≡ true) (s : ℕ) (k : s < seats) where
-  told-by : (b : Bool) → seatOf d s .«open» ≡ b
+  told-by : (b : Bool) → seatOf d s .opened ≡ b
       → At (seatOf d s) (editsOf d s) (choose b (opened (seatOf d s .job) (pinsBefore (seatOf d s .pins) (standingOf d s)) (standingOf d s) (takenBackOf d s)) shut)
       × sane (choose b (opened (seatOf d s .job) (pinsBefore (seatOf d s .pins) (standingOf d s)) (standingOf d s) (takenBackOf d s)) shut)
   unfolding choose At sane
@@ -72,11 +72,11 @@ module _ (d : Desk) (h : sound d ≡ true) (s : ℕ) (k : s < seats) where
 
   told-at : At (seatOf d s) (editsOf d s) (toldBy d s)
   unfolding toldBy
-  told-at = told-by (seatOf d s .«open») refl .0
+  told-at = told-by (seatOf d s .opened) refl .0
 
   told-sane : sane (toldBy d s)
   unfolding toldBy
-  told-sane = told-by (seatOf d s .«open») refl .1
+  told-sane = told-by (seatOf d s .opened) refl .1
 
 -- ---- all seats
 

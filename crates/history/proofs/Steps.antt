@@ -150,7 +150,7 @@ module _ (d : Desk) (h : List Told) (g : Agrees d h) (f : Sane h) where
 -- ---- it answers as the history does
 
 -- At a closed seat nothing is looked at but the seat's number and the jobs.
-closed-verdict : (k m : Look) (c : Call) → k .broken ≡ false → m .broken ≡ false → k .seat ≡ m .seat → k .«open» ≡ false → m .«open» ≡ false
+closed-verdict : (k m : Look) (c : Call) → k .broken ≡ false → m .broken ≡ false → k .seat ≡ m .seat → k .opened ≡ false → m .opened ≡ false
     → k .jobs ≡ m .jobs → verdictOf k c ≡ verdictOf m c
 unfolding verdictOf turnedOpening turnedClosing turnedPlacing turnedMoving turnedRemoving turnedUndoing turnedRedoing turnedWriting turnedWiring turn choose
 closed-verdict k m (opening s job map) a b e o p j = rw (a, b, e, o, p, j)
@@ -183,7 +183,7 @@ module _ (d : Desk) (h : List Told) (g : Agrees d h) (f : Sane h) where
       λ i. record {
         broken = z i;
         seat = s;
-        «open» = p i;
+        opened = p i;
         job = q i;
         pins = r i;
         standing = c i;
@@ -206,7 +206,7 @@ module _ (d : Desk) (h : List Told) (g : Agrees d h) (f : Sane h) where
       let n : length (d .seats) ≤ seatIn c = omega (arith, g .holds .eight) in
       let m : length h ≤ seatIn c = omega (arith, g .holds .told) in
       closed-verdict (lookAt d (seatIn c)) (lookIn h (seatIn c)) c unbroken refl refl
-      (ap (λ (q : Seat). q .«open») (List·getD-eq-default (d .seats) noSeat n)) (ap isOpen (List·getD-eq-default h shut m)) (jobs-same d h g)
+      (ap (λ (q : Seat). q .opened) (List·getD-eq-default (d .seats) noSeat n)) (ap isOpen (List·getD-eq-default h shut m)) (jobs-same d h g)
 
   pub answer-same : (c : Call) → answerOf d c ≡ answerIn h c
   answer-same c =

@@ -69,7 +69,7 @@ lookIn h s =
     record {
       broken = false;
       seat = s;
-      «open» = isOpen (toldOf h s);
+      opened = isOpen (toldOf h s);
       job = jobIn (toldOf h s);
       pins = pinsIn (toldOf h s);
       standing = length (standingIn (toldOf h s));
