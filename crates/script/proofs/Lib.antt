@@ -4,4 +4,5 @@ pub mod Cutting
 pub mod Values
 pub mod Asking
 pub mod Printing
+pub mod Clipping
 pub mod Worked

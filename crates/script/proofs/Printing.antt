@@ -7,20 +7,20 @@ use native.Mathlib.Nat.{add-zero, pow-suc}
 use native.Mathlib.Omega.{arith}
 use lib.IntN.{ℤ, pos, negsuc, natAbs}
 use lib.Signed.{ltZ}
-use lib.Dec.{ltb, eqb, lit<}
+use lib.Dec.{ltb, lit<}
 use borrow.Author.Needs.{sfits-of}
-use lib.ListN.{length, take, drop, getD, set, length-append}
+use lib.ListN.{length, take, getD, set, length-append}
 use lib.Seq.{sets, take-suc, take-all, length-take-le}
 use native.Mathlib.Numerals.{add-one}
 use mir.Syntax.{w32}
 use mir.Val.{ofZ, SFits}
 use borrow.Author.Tests.{lt-ltb, le-ltb, ltb-true, eq-eqb, ne-eqb}
 use Rattle.refusal.specs.Tests.{choose}
-use Rattle.grid.proofs.Signed.{rd, lt-rd, I32}
+use Rattle.grid.proofs.Signed.{rd, lt-rd}
 use Rattle.script.specs.Text.{text, over}
 use Rattle.refusal.specs.declared.Told.{Told}
 use Rattle.script.specs.Answers.{shown, decimal, integer, field, hexDigit, hex, hexPart, carriedText, toldLine}
-use Rattle.script.proofs.Steps.{order, front, sets-more}
+use Rattle.script.proofs.Steps.{order, sets-more}
 use mathlib.Core.Logic.{_⊎_, inl, inr}
 
 -- A number of one digit, and one of more.

@@ -1,12 +1,11 @@
 -- Numbers, lists of numbers and bytes as they are written in a line.
 use mathlib.Core.Bool.{Bool, true, false}
 use mathlib.Core.List.{List, [], _∷_, map}
-use Prim.Native.Nat.{ℕ, zero, suc, _+_, _-_, _*_}
+use Prim.Native.Nat.{ℕ, _+_, _-_, _*_}
 use lib.IntN.{ℤ, pos, negℤ}
 use lib.Dec.{leb, ltb, eqb}
 use lib.ListN.{length, drop, getD}
 use Rattle.refusal.specs.Tests.{both, either, choose}
-use Rattle.grid.specs.declared.Place.{Place}
 use Rattle.script.specs.Text.{text, same}
 use Rattle.script.specs.Words.{minus, comma, pieces}
 use Rattle.script.specs.declared.Number.{Number}

@@ -17,6 +17,10 @@ use Rattle.script.specs.declared.Placing.{Placing}
 abbrev pub mostLine : ℕ
 mostLine = 16384
 
+-- Of a longer line it is enough to keep so many bytes: with or without a carriage return they are too many.
+abbrev pub mostKept : ℕ
+mostKept = 16386
+
 -- The most bytes and the most legs that a call lends.
 abbrev pub mostRoom : ℕ
 mostRoom = 1024

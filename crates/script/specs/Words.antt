@@ -1,5 +1,4 @@
 -- A line cut into its words.
-use mathlib.Core.Bool.{Bool}
 use mathlib.Core.List.{List, [], _∷_}
 use Prim.Native.Nat.{ℕ, zero, suc, _+_, _-_, min}
 use lib.Dec.{eqb}
@@ -9,9 +8,12 @@ use Rattle.refusal.specs.Tests.{choose}
 use Rattle.script.specs.declared.Span.{Span}
 use Rattle.script.specs.declared.Cut.{Cut}
 
--- Bytes with a meaning of their own: space, carriage return, comma, minus, and the sign before a remark.
+-- Bytes with a meaning of their own: space, newline, carriage return, comma, minus, and the sign before a remark.
 abbrev pub space : ℕ
 space = 32
+
+abbrev pub newline : ℕ
+newline = 10
 
 abbrev pub return : ℕ
 return = 13

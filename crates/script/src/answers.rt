@@ -1,11 +1,12 @@
 // Answers printed from the start of a lent buffer on, a line each; every function answers how many bytes it printed.
+use crate::feed::least;
 use grid::Place;
 use refusal::Carried;
 use refusal::Told;
 use refusal::Verdict;
 ghost use mathlib.Core.Path.{_≡_};
 ghost use mathlib.Core.List.{_++_};
-ghost use Prim.Native.Nat.{_+_, _*_, _≤_, _<_, min};
+ghost use Prim.Native.Nat.{_+_, _*_, _≤_, _<_};
 ghost use lib.IntN.{natAbs};
 ghost use lib.ListN.{length, take};
 ghost use lib.Seq.{sets};
@@ -246,11 +247,4 @@ pub fn print_written(bytes: usize, buffer: &[u8], out: &mut [u8; 2200]) -> usize
     let one = put_field(out, 0, b"0 ", bytes);
     let two = put_lent(out, one, &buffer[..room]);
     put(out, two, b"\n")
-}
-
-// The smaller of two numbers.
-fn least(a: usize, b: usize) -> usize
-    ensures { λ r. ⌜ r ≡ min a b ⌝ }
-{
-    if a < b { a } else { b }
 }

@@ -1,8 +1,7 @@
 -- `script::put_decimal`, which calls itself on all digits but the last, meets its contract. The measure is the number. Assumes nothing.
-use mathlib.Core.Path.{_≡_, refl, sym, _∙_, ap}
 use Prim.Native.Nat.{ℕ, _<_}
 use native.Mathlib.Omega.{arith}
-use Rattle.script.proofs.Printing.{put-small, put-large, decimal-short, decimal-rest}
+use Rattle.script.proofs.Printing.{put-small, put-large, decimal-rest}
 use borrow.Fn.Kinds.{In}
 use borrow.Fn.PlainCycle.{Measures, is, falls, and}
 use Rattle.script.proofs.answers.put_decimal.Reads as put-decimal

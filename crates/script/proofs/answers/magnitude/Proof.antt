@@ -1,8 +1,5 @@
 -- `script::magnitude` meets its contract. Assumes nothing.
-use mathlib.Core.Path.{_≡_, refl, sym, _∙_, ap}
-use Prim.Native.Nat.{_≤_, _-_, _+_, _*_}
 use native.Mathlib.Omega.{arith}
-use lib.ListN.{length, take, drop, getD}
 use Rattle.grid.proofs.Bytes.{flipped, plain}
 use mir.Facts.{fits-ofZ}
 use Rattle.script.proofs.Printing.{below-abs}

@@ -1,14 +1,10 @@
 -- `script::print_pin` meets its contract. Assumes nothing.
-use Prim.Native.Nat.{ℕ, _+_}
 use Rattle.script.proofs.Printing.{then-put, put-as, lined}
 use lib.IntN.{ℤ}
 use Rattle.grid.proofs.Signed.{held}
 use borrow.Author.Needs.{needs}
-use mathlib.Core.Path.{_≡_, refl, sym, _∙_, ap}
-use mathlib.Core.List.{List, [], _++_}
-use Prim.Native.Nat.{ℕ}
-use native.Mathlib.Omega.{arith}
-use Rattle.script.proofs.Printing.{then-put, lined}
+use mathlib.Core.Path.{ap}
+use mathlib.Core.List.{_++_}
 use Rattle.script.specs.Text.{text}
 use Rattle.script.specs.Answers.{field, signField, pinLine}
 use Rattle.script.proofs.answers.print_pin.Statement.{statement}

@@ -1,10 +1,5 @@
 -- `script::print_verdict` meets its contract. Assumes nothing.
-use mathlib.Core.Path.{_≡_, refl, sym, _∙_, ap}
-use mathlib.Core.List.{List, [], _++_}
-use Prim.Native.Nat.{ℕ, _+_}
-use native.Mathlib.Omega.{arith}
-use Rattle.script.proofs.Printing.{lined}
-use Rattle.script.specs.Text.{text}
+use mathlib.Core.Path.{_∙_, ap}
 use Rattle.script.specs.Answers.{toldLine}
 use lib.ListN.{length}
 use Rattle.script.specs.Text.{over}

@@ -1,8 +1,5 @@
 -- `script::print_wired` meets its contract. Assumes nothing.
-use mathlib.Core.Path.{_≡_, refl, sym, _∙_, ap}
-use mathlib.Core.List.{List, [], _++_}
-use Prim.Native.Nat.{ℕ}
-use native.Mathlib.Omega.{arith}
+use mathlib.Core.List.{_++_}
 use Rattle.script.proofs.Printing.{then-put, lined}
 use Rattle.script.specs.Text.{text}
 use Rattle.script.specs.Answers.{field, wiredLine}

@@ -1,12 +1,12 @@
 -- `script::print_written` meets its contract. Assumes nothing.
-use mathlib.Core.Path.{_≡_, refl, sym, _∙_, ap}
-use mathlib.Core.List.{List, [], _++_}
-use Prim.Native.Nat.{ℕ, _+_}
+use mathlib.Core.Path.{sym, _∙_, ap}
+use mathlib.Core.List.{_++_}
+use Prim.Native.Nat.{ℕ}
 use native.Mathlib.Omega.{arith}
 use Rattle.script.proofs.Printing.{then-put, put-as, lined, take-least}
 use Rattle.script.specs.Text.{text}
 use Rattle.script.specs.Answers.{field, hexPart, writtenLine}
-use lib.ListN.{length, take}
+use lib.ListN.{take}
 use lib.Seq.{length-take-le}
 use borrow.Author.Needs.{needs}
 use Rattle.script.proofs.answers.print_written.Statement.{statement}

@@ -1,10 +1,6 @@
 -- `script::put_carried` meets its contract. Assumes nothing.
-use mathlib.Core.Path.{_≡_, refl, sym, _∙_, ap}
-use mathlib.Core.List.{List, [], _++_}
-use Prim.Native.Nat.{ℕ, _+_}
+use mathlib.Core.Path.{refl}
 use native.Mathlib.Omega.{arith}
-use Rattle.script.proofs.Printing.{then-put}
-use Rattle.script.specs.Text.{text}
 use Rattle.script.specs.Answers.{carriedText}
 use borrow.Author.Needs.{needs}
 use Rattle.script.proofs.answers.put_carried.Statement.{statement}

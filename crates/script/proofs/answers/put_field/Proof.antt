@@ -1,8 +1,5 @@
 -- `script::put_field` meets its contract. Assumes nothing.
-use mathlib.Core.Path.{_≡_, refl, sym, _∙_, ap}
-use Prim.Native.Nat.{_≤_, _-_, _+_, _*_}
 use native.Mathlib.Omega.{arith}
-use lib.ListN.{length, take, drop, getD}
 use Rattle.script.proofs.Printing.{then-put}
 use Rattle.script.specs.Answers.{decimal}
 use borrow.Author.Needs.{needs}

@@ -2,8 +2,8 @@
 use lib.IntN.{natAbs}
 use Rattle.grid.proofs.Signed.{held}
 use borrow.Author.Needs.{needs}
-use mathlib.Core.Path.{_≡_, refl, sym, _∙_, ap}
-use mathlib.Core.List.{List, [], _++_}
+use mathlib.Core.Path.{_∙_, ap}
+use mathlib.Core.List.{_++_}
 use Prim.Native.Nat.{ℕ}
 use native.Mathlib.Omega.{arith}
 use Rattle.script.proofs.Printing.{then-put, put-as, integer-below, integer-above}

@@ -1,11 +1,9 @@
 -- `script::put_lent` meets its contract. Assumes nothing.
-use mathlib.Core.Path.{_≡_, refl, sym, _∙_, ap}
-use mathlib.Core.List.{List, [], _++_}
-use Prim.Native.Nat.{ℕ, _+_}
+use mathlib.Core.Path.{ap}
 use native.Mathlib.Omega.{arith}
 use Rattle.script.proofs.Printing.{then-put, put-as, lent-none, lent-some}
 use Rattle.script.specs.Text.{text}
-use Rattle.script.specs.Answers.{hex, hexPart}
+use Rattle.script.specs.Answers.{hex}
 use lib.ListN.{length}
 use lib.Seq.{sets}
 use borrow.Author.Needs.{needs}

@@ -1,9 +1,9 @@
 -- `script::all_digits` meets its contract. Assumes nothing.
-use mathlib.Core.Path.{_≡_, refl, sym, _∙_, ap}
-use Prim.Native.Nat.{_≤_, _-_, _+_, _*_, min}
+use mathlib.Core.Path.{_≡_, refl, sym, _∙_}
+use Prim.Native.Nat.{_≤_, _-_}
 use native.Mathlib.Omega.{arith}
 use borrow.Author.Needs.{needs}
-use lib.ListN.{length, take, drop, getD}
+use lib.ListN.{length, drop}
 use Rattle.script.proofs.Values.{digits-next, digits-stop, digits-end}
 use Rattle.script.specs.Numbers.{allDigits}
 use borrow.Author.Tests.{not-true, not-false}

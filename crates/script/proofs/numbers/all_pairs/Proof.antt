@@ -1,10 +1,10 @@
 -- `script::all_pairs` meets its contract. Assumes nothing.
 use borrow.Author.Tests.{not-true, not-false}
-use mathlib.Core.Path.{_≡_, refl, sym, _∙_, ap}
-use Prim.Native.Nat.{_≤_, _-_, _+_, _*_, min}
+use mathlib.Core.Path.{_≡_, refl, sym, _∙_}
+use Prim.Native.Nat.{_≤_, _-_}
 use native.Mathlib.Omega.{arith}
 use borrow.Author.Needs.{needs}
-use lib.ListN.{length, take, drop, getD}
+use lib.ListN.{length, drop}
 use Rattle.script.proofs.Values.{pairs-next, pairs-stop, pairs-stop-2, pairs-end}
 use Rattle.script.specs.Numbers.{allPairs}
 use Rattle.script.proofs.numbers.all_pairs.Statement.{statement}

@@ -1,14 +1,12 @@
 -- `script::coordinate` meets its contract. Assumes nothing.
 use Rattle.grid.proofs.Signed.{held}
 use borrow.Author.Needs.{needs, sfits-of}
-use Rattle.script.proofs.Values.{rest-whole, to-pos}
+use Rattle.script.proofs.Values.{rest-whole, to-pos, minus-some, below-read, below-unread, plain-read, plain-unread, number-read, number-top}
 use Rattle.script.specs.Numbers.{numberOf}
 use Rattle.script.specs.declared.Coordinate.{Coordinate}
-use mathlib.Core.Path.{_≡_, refl, sym, _∙_, ap}
-use Prim.Native.Nat.{_≤_, _-_, _+_, _*_, min}
+use mathlib.Core.Path.{sym, _∙_, ap}
 use native.Mathlib.Omega.{arith}
-use lib.ListN.{length, take, drop, getD}
-use Rattle.script.proofs.Values.{minus-some, below-read, below-unread, plain-read, plain-unread, number-read, number-top}
+use lib.ListN.{drop}
 use Rattle.script.proofs.numbers.coordinate.Statement.{statement}
 use Rattle.script.proofs.numbers.coordinate.Tie as tie
 

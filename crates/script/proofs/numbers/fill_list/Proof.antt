@@ -1,11 +1,10 @@
 -- `script::fill_list` meets its contract. Assumes nothing.
-use Rattle.script.proofs.Values.{listed-length}
+use Rattle.script.proofs.Values.{listed-length, list-row, listed-none, listed-row}
 use mathlib.Core.List.{List}
 use lib.IntN.{ℤ}
 use lib.ListN.{length}
 use Rattle.script.specs.Text.{over}
-use mathlib.Core.Path.{_≡_, refl, sym, _∙_, ap}
-use Rattle.script.proofs.Values.{list-row, listed-none, listed-row}
+use mathlib.Core.Path.{sym, _∙_, ap}
 use borrow.Author.Needs.{needs}
 use Rattle.script.proofs.numbers.fill_list.Statement.{statement}
 use Rattle.script.proofs.numbers.fill_list.Tie as tie

@@ -1,11 +1,10 @@
 -- `script::fill_map` meets its contract. Assumes nothing.
 use Rattle.script.specs.Text.{over}
-use mathlib.Core.Path.{_≡_, refl, sym, _∙_, ap}
-use mathlib.Core.List.{_++_}
-use Prim.Native.Nat.{_≤_, _-_, _+_, _*_, min}
+use mathlib.Core.Path.{_≡_, refl, _∙_}
+use Prim.Native.Nat.{_≤_, _-_, _*_}
 use native.Mathlib.Omega.{arith}
 use borrow.Author.Needs.{needs}
-use lib.ListN.{length, take, drop, getD}
+use lib.ListN.{length, take}
 use Rattle.script.proofs.Steps.{fill-more, fill-done}
 use Rattle.script.proofs.Values.{bytes-next, bytes-end}
 use Rattle.script.specs.Numbers.{bytesOf}

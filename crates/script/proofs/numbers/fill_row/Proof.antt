@@ -1,20 +1,16 @@
 -- `script::fill_row` meets its contract. Assumes nothing.
 use Rattle.grid.proofs.Signed.{held}
-use Rattle.script.proofs.Values.{row-coordinates, row-stored, row-after, row-done}
+use Rattle.script.proofs.Values.{row-coordinates, row-stored, row-after, row-done, rowLeft, row-start, row-numbers}
 use mathlib.Core.Path.{_≡_, refl, sym, _∙_, ap}
-use Prim.Native.Nat.{_≤_, _-_, _+_, _*_, min}
+use Prim.Native.Nat.{_≤_, _-_, _+_}
 use native.Mathlib.Omega.{arith}
-use borrow.Author.Needs.{needs}
-use lib.ListN.{length, take, drop, getD}
-use Rattle.script.proofs.Values.{rowLeft, row-start, row-next, row-end, row-numbers, coordinates-next}
+use lib.ListN.{length, take, drop}
 use Rattle.script.specs.Numbers.{signed, allCoordinates}
 use Rattle.script.proofs.Cutting.{stop-within, stop-from}
 use mathlib.Core.List.{map}
 use mathlib.Core.Bool.{true}
 use Rattle.script.specs.Text.{over}
 use Rattle.script.specs.Words.{pieces}
-use Rattle.script.proofs.Steps.{fill-more, fill-done}
-use lib.IntN.{pos}
 use Rattle.script.proofs.numbers.fill_row.Statement.{statement}
 use Rattle.script.proofs.numbers.fill_row.Tie as tie
 

@@ -1,8 +1,5 @@
 -- `script::has_minus` meets its contract. Assumes nothing.
-use mathlib.Core.Path.{_≡_, refl, sym, _∙_, ap}
-use Prim.Native.Nat.{_≤_, _-_, _+_, _*_, min}
-use native.Mathlib.Omega.{arith}
-use lib.ListN.{length, take, drop, getD}
+use mathlib.Core.Path.{refl}
 use Rattle.script.proofs.Values.{minus-none}
 use Rattle.script.specs.Numbers.{hasMinus}
 use borrow.Author.Needs.{needs}

@@ -1,8 +1,6 @@
 -- `script::hex_value` meets its contract. Assumes nothing.
-use mathlib.Core.Path.{_≡_, refl, sym, _∙_, ap}
-use Prim.Native.Nat.{_≤_, _-_, _+_, _*_, min}
+use mathlib.Core.Path.{sym, _∙_}
 use native.Mathlib.Omega.{arith}
-use lib.ListN.{length, take, drop, getD}
 use Rattle.script.proofs.Values.{between-is, hex-digit, hex-small, hex-capital, hex-none}
 use borrow.Author.Needs.{needs}
 use Rattle.script.proofs.numbers.hex_value.Statement.{statement}

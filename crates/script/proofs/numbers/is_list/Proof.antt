@@ -1,5 +1,5 @@
 -- `script::is_list` meets its contract. Assumes nothing.
-use mathlib.Core.Path.{_≡_, refl, sym, _∙_, ap}
+use mathlib.Core.Path.{sym, _∙_}
 use Rattle.script.proofs.Values.{list-none, list-row}
 use borrow.Author.Needs.{needs}
 use Rattle.script.proofs.numbers.is_list.Statement.{statement}

@@ -1,8 +1,5 @@
 -- `script::is_map` meets its contract. Assumes nothing.
-use mathlib.Core.Path.{_≡_, refl, sym, _∙_, ap}
-use Prim.Native.Nat.{_≤_, _-_, _+_, _*_, min}
-use native.Mathlib.Omega.{arith}
-use lib.ListN.{length, take, drop, getD}
+use mathlib.Core.Path.{sym, _∙_}
 use Rattle.script.proofs.Values.{map-none, map-empty, map-long, map-pairs}
 use borrow.Author.Needs.{needs}
 use Rattle.script.proofs.numbers.is_map.Statement.{statement}

@@ -1,12 +1,11 @@
 -- `script::is_row` meets its contract. Assumes nothing.
-use Rattle.script.proofs.Values.{row-bad, row-good}
-use mathlib.Core.Path.{_≡_, refl, sym, _∙_, ap}
-use Prim.Native.Nat.{_≤_, _-_, _+_, _*_, min}
+use Rattle.script.proofs.Values.{row-bad, row-good, rowLeft, judged, row-end, judged-start, judged-end}
+use mathlib.Core.Path.{_≡_, sym, _∙_, ap}
+use Prim.Native.Nat.{_≤_, _-_, _+_}
 use native.Mathlib.Omega.{arith}
 use borrow.Author.Needs.{needs}
-use lib.ListN.{length, take, drop, getD}
+use lib.ListN.{length}
 use borrow.Author.Tests.{not-true, not-false}
-use Rattle.script.proofs.Values.{rowLeft, judged, row-next, row-end, judged-start, judged-stop, judged-next, judged-end}
 use Rattle.script.specs.Numbers.{isRow}
 use Rattle.script.proofs.Cutting.{stop-within, stop-from}
 use Rattle.script.proofs.numbers.is_row.Statement.{statement}

@@ -1,8 +1,4 @@
 -- `script::negated` meets its contract. Assumes nothing.
-use mathlib.Core.Path.{_≡_, refl, sym, _∙_, ap}
-use Prim.Native.Nat.{_≤_, _-_, _+_, _*_, min}
-use native.Mathlib.Omega.{arith}
-use lib.ListN.{length, take, drop, getD}
 use Rattle.script.proofs.Values.{neg-complement}
 use borrow.Author.Needs.{needs}
 use Rattle.script.proofs.numbers.negated.Statement.{statement}

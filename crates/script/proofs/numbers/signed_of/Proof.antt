@@ -2,10 +2,8 @@
 use Rattle.grid.proofs.Signed.{held}
 use mathlib.Core.Bool.{Bool, true, false}
 use Prim.Native.Nat.{ℕ}
-use mathlib.Core.Path.{_≡_, refl, sym, _∙_, ap}
-use Prim.Native.Nat.{_≤_, _-_, _+_, _*_, min}
+use mathlib.Core.Path.{_≡_, sym, _∙_}
 use native.Mathlib.Omega.{arith}
-use lib.ListN.{length, take, drop, getD}
 use Rattle.script.proofs.Values.{coordinate-read, coordinate-unread}
 use borrow.Author.Needs.{needs}
 use Rattle.script.proofs.numbers.signed_of.Statement.{statement}

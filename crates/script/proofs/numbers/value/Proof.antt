@@ -1,9 +1,8 @@
 -- `script::value` meets its contract. Assumes nothing.
-use mathlib.Core.Path.{_≡_, refl, sym, _∙_, ap}
-use Prim.Native.Nat.{_≤_, _-_, _+_, _*_, min}
+use mathlib.Core.Path.{_≡_, refl, sym, _∙_}
+use Prim.Native.Nat.{_≤_, _-_, min}
 use native.Mathlib.Omega.{arith}
-use borrow.Author.Needs.{needs}
-use lib.ListN.{length, take, drop, getD}
+use lib.ListN.{length, drop}
 use Rattle.script.proofs.Values.{value-next, value-end}
 use Rattle.script.specs.Numbers.{valueFrom, beyond}
 use Rattle.script.proofs.numbers.value.Statement.{statement}

@@ -1,6 +1,5 @@
 -- `script::pair_call` meets its contract. Assumes nothing.
-use mathlib.Core.Path.{_≡_, refl, sym, _∙_, ap}
-use native.Mathlib.Omega.{arith}
+use mathlib.Core.Path.{sym, _∙_}
 use Rattle.script.proofs.Asking.{pair-unread, pair-remove, pair-write, pair-wire, pair-none}
 use borrow.Author.Needs.{needs}
 use Rattle.script.proofs.orders.pair_call.Statement.{statement}

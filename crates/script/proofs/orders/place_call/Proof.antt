@@ -1,6 +1,5 @@
 -- `script::place_call` meets its contract. Assumes nothing.
-use mathlib.Core.Path.{_≡_, refl, sym, _∙_, ap}
-use native.Mathlib.Omega.{arith}
+use mathlib.Core.Path.{sym, _∙_}
 use Rattle.script.proofs.Asking.{place-unread, place-place, place-move, place-none}
 use borrow.Author.Needs.{needs}
 use Rattle.script.proofs.orders.place_call.Statement.{statement}

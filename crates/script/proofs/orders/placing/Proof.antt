@@ -1,6 +1,5 @@
 -- `script::placing` meets its contract. Assumes nothing.
-use mathlib.Core.Path.{_≡_, refl, sym, _∙_, ap}
-use native.Mathlib.Omega.{arith}
+use mathlib.Core.Path.{sym, _∙_}
 use Rattle.script.proofs.Asking.{placing-seat, placing-pin, placing-x, placing-y, placing-yes}
 use Rattle.script.proofs.Values.{coordinate-read, coordinate-unread}
 use Rattle.grid.proofs.Signed.{held}

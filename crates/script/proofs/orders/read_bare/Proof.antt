@@ -1,6 +1,5 @@
 -- `script::read_bare` meets its contract. Assumes nothing.
-use mathlib.Core.Path.{_≡_, refl, sym, _∙_, ap}
-use native.Mathlib.Omega.{arith}
+use mathlib.Core.Path.{sym, _∙_}
 use Rattle.script.proofs.Asking.{bare-no, bare-room, bare-across, bare-up, bare-yes, kept, filled-by}
 use borrow.Author.Tests.{not-true, not-false}
 use borrow.Author.Needs.{needs}

@@ -1,5 +1,4 @@
 -- `script::read_call` meets its contract. Assumes nothing.
-use mathlib.Core.Path.{_≡_, refl, sym, _∙_, ap}
 use native.Mathlib.Omega.{arith}
 use Rattle.script.proofs.Asking.{call-two, call-three, call-four, call-five, call-none, kept, filled-by}
 use borrow.Author.Tests.{eq-eqb, ne-eqb}

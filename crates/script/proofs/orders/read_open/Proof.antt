@@ -1,5 +1,5 @@
 -- `script::read_open` meets its contract. Assumes nothing.
-use mathlib.Core.Path.{_≡_, refl, sym, _∙_, ap}
+use mathlib.Core.Path.{sym, _∙_}
 use native.Mathlib.Omega.{arith}
 use Rattle.script.proofs.Asking.{open-no, open-seat, open-job, open-map, open-yes, kept, filled-by}
 use Rattle.script.proofs.Values.{number-read, number-top, map-length}

@@ -1,6 +1,5 @@
 -- `script::read_remove` meets its contract. Assumes nothing.
-use mathlib.Core.Path.{_≡_, refl, sym, _∙_, ap}
-use native.Mathlib.Omega.{arith}
+use mathlib.Core.Path.{sym, _∙_, ap}
 use Rattle.script.proofs.Asking.{only-no, only-yes}
 use Rattle.script.proofs.Values.{number-read, number-unread}
 use Rattle.script.specs.declared.Order.{Order}

@@ -1,6 +1,5 @@
 -- `script::seat_call` meets its contract. Assumes nothing.
-use mathlib.Core.Path.{_≡_, refl, sym, _∙_, ap}
-use native.Mathlib.Omega.{arith}
+use mathlib.Core.Path.{sym, _∙_}
 use Rattle.script.proofs.Asking.{seat-unread, seat-close, seat-undo, seat-redo, seat-pins, seat-none}
 use borrow.Author.Needs.{needs}
 use Rattle.script.proofs.orders.seat_call.Statement.{statement}

@@ -2,7 +2,6 @@
 use mathlib.Core.Path.{_≡_, refl, sym, _∙_}
 use Prim.Native.Nat.{_≤_, _-_}
 use native.Mathlib.Omega.{arith}
-use borrow.Author.Needs.{needs}
 use lib.ListN.{length, drop}
 use Rattle.script.specs.Text.{same}
 use Rattle.script.proofs.Cutting.{same-lengths, same-next, same-stops, same-end}

@@ -1,0 +1,60 @@
+-- A line kept only as far as the room goes is read as the whole line. Assumes nothing.
+use mathlib.Core.Path.{_≡_, refl, sym, _∙_, ap}
+use mathlib.Core.Bool.{Bool, true, false}
+use mathlib.Core.List.{List, [], _++_}
+use mathlib.Core.Logic.{_⊎_, inl, inr}
+use Prim.Native.Nat.{ℕ, _+_, _-_, _≤_, _<_, min}
+use native.Mathlib.Omega.{arith}
+use lib.Dec.{eqb}
+use lib.ListN.{length, take, drop, getD, length-append, length-take}
+use lib.Seq.{take-all, length-take-le, take-at, take-append-add, sets, sets-eq}
+use Rattle.refusal.specs.Tests.{choose}
+use Rattle.script.specs.Words.{endOf}
+use Rattle.script.specs.Orders.{mostKept, orderOf, mapOf, acrossOf, upOf}
+use Rattle.script.proofs.Steps.{order}
+use Rattle.script.proofs.Asking.{long-order, long-map, long-across, long-up}
+
+-- A line ends at most one byte before its last.
+end-from : (l : List ℕ) → length l - 1 ≤ endOf l
+unfolding endOf choose
+end-from l = by (eqb (getD l (length l - 1) 0) 13)
+  where
+    by : (t : Bool) → length l - 1 ≤ choose t (length l - 1) (length l)
+    by true = omega arith
+    by false = omega arith
+
+-- Whatever long lines share, a line and what is kept of it share.
+clipped : {A : Type 0} (f : List ℕ → A) (z : A) → ((l : List ℕ) → 16384 < endOf l → z ≡ f l) → (l : List ℕ) → f (take mostKept l) ≡ f l
+clipped f z same l = by (order (length l) mostKept)
+  where
+    by : (length l ≤ mostKept) ⊎ (mostKept < length l) → f (take mostKept l) ≡ f l
+    by (inl h) = ap f (take-all mostKept l h)
+    by (inr h) =
+        sym (same (take mostKept l) (omega (arith, end-from (take mostKept l), length-take-le mostKept l (omega arith))))
+        ∙ same l (omega (arith, end-from l))
+
+pub clipped-order : (l : List ℕ) → orderOf (take mostKept l) ≡ orderOf l
+clipped-order l = clipped orderOf _ (λ l h. long-order l refl h) l
+
+pub clipped-map : (l : List ℕ) → mapOf (take mostKept l) ≡ mapOf l
+clipped-map l = clipped mapOf [] (λ l h. long-map l refl h) l
+
+pub clipped-across : (l : List ℕ) → acrossOf (take mostKept l) ≡ acrossOf l
+clipped-across l = clipped acrossOf [] (λ l h. long-across l refl h) l
+
+pub clipped-up : (l : List ℕ) → upOf (take mostKept l) ≡ upOf l
+clipped-up l = clipped upOf [] (λ l h. long-up l refl h) l
+
+-- What is kept of a line with more bytes after it.
+pub keeping : (old bytes : List ℕ) (kept : ℕ) → kept ≤ mostKept → length old ≡ mostKept
+    → take (min (kept + length bytes) mostKept) (sets old kept (take (mostKept - kept) bytes)) ≡ take mostKept (take kept old ++ bytes)
+keeping old bytes kept h e =
+    let room : ℕ = mostKept - kept in
+    let a : length (take kept old) ≡ kept = length-take-le kept old (omega arith) in
+    let b : length (take room bytes) ≡ min room (length bytes) = length-take room bytes in
+    let n : length (take kept old ++ take room bytes) ≡ min (kept + length bytes) mostKept = omega (arith, a, b, length-append (take kept old) (take room bytes)) in
+    let m : mostKept ≡ length (take kept old) + room = omega (arith, a) in
+    ap (take (min (kept + length bytes) mostKept)) (sets-eq (take room bytes) old kept (omega (arith, b)))
+    ∙ take-at (take kept old ++ take room bytes) (drop (kept + length (take room bytes)) old) (min (kept + length bytes) mostKept) n
+    ∙ sym (take-append-add (take kept old) bytes room)
+    ∙ ap (λ (k : ℕ). take k (take kept old ++ bytes)) (sym m)

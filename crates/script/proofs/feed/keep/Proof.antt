@@ -1,0 +1,74 @@
+-- `script::keep` meets its contract. Assumes nothing.
+use mathlib.Core.Path.{_≡_, refl, _∙_, ap}
+use mathlib.Core.List.{List}
+use Prim.Native.Nat.{ℕ, _≤_, _-_, min}
+use native.Mathlib.Omega.{arith}
+use lib.ListN.{length, take}
+use lib.Seq.{sets}
+use Rattle.script.proofs.Steps.{front, stored-more}
+use Rattle.script.proofs.Printing.{take-least}
+use Rattle.script.proofs.feed.keep.Statement.{statement}
+use Rattle.script.proofs.feed.keep.Tie as tie
+
+abbrev Inv-loop : tie.InvT-loop
+Inv-loop line₀ kept bytes n i₀ line i = (i ≤ n) × (line ≡ sets line₀ kept (take i bytes))
+
+abbrev μ-loop : tie.MeasureT-loop
+μ-loop line₀ kept bytes n i₀ line i = n - i
+
+sub-least : tie.Need-sub-least Inv-loop μ-loop
+sub-least c = omega arith
+
+least-requires : tie.Need-least-requires Inv-loop μ-loop
+least-requires c κs = tt
+
+loop-holds : tie.Need-loop-holds Inv-loop μ-loop
+loop-holds c = (omega arith, refl)
+
+shared-slice-read-line : tie.Need-shared-slice-read-line Inv-loop μ-loop
+shared-slice-read-line c = omega (arith, c .before .before .before .least .ensures)
+
+add-line : tie.Need-add-line Inv-loop μ-loop
+add-line c = omega (arith, c .before .before .before .least .ensures)
+
+element-write-line : tie.Need-element-write-line Inv-loop μ-loop
+element-write-line c = omega (arith, c .before .before .before .least .ensures)
+
+add-i : tie.Need-add-i Inv-loop μ-loop
+add-i c = omega arith
+
+loop-less : tie.Need-loop-less Inv-loop μ-loop
+loop-less c = omega arith
+
+loop-again : tie.Need-loop-again Inv-loop μ-loop
+loop-again c = (omega arith, rw (c .before .before .loop .inv .1) ((stored-more 0 (c .before .before .before .before .before .args .bytes .now) (c .before .before .before .before .before .args .line .now) (c .before .before .before .before .before .args .kept) (c .before .before .loop .i) (front 0 (c .before .before .before .before .before .args .bytes .now) (c .before .before .loop .i) (omega (arith, c .before .before .before .least .ensures)))) .0))
+
+add-result : tie.Need-add-result Inv-loop μ-loop
+add-result c = omega (arith, c .before .before .least .ensures)
+
+-- At the end all bytes that have room are kept.
+whole : (bytes : List ℕ) (room : ℕ) {i n : ℕ} → i ≤ n → n ≤ i → n ≡ min (length bytes) room → take i bytes ≡ take room bytes
+whole bytes room {i} {n} h k e =
+    let q : i ≡ min (length bytes) room = omega arith in
+    ap (λ (m : ℕ). take m bytes) q ∙ take-least bytes room
+
+returns : tie.Need-returns Inv-loop μ-loop
+returns c = (omega (arith, c .before .before .least .ensures), c .before .loop .inv .1 ∙ ap (sets (c .before .before .before .before .args .line .now) (c .before .before .before .before .args .kept)) (whole (c .before .before .before .before .args .bytes .now) (16386 - c .before .before .before .before .args .kept) (c .before .loop .inv .0) (c .loop-test .left) (c .before .before .least .ensures)))
+
+pub keep-spec : {M : Type 1} → statement M
+keep-spec =
+    tie.close
+    (tie.spec
+    Inv-loop
+    μ-loop
+    sub-least
+    least-requires
+    loop-holds
+    shared-slice-read-line
+    add-line
+    element-write-line
+    add-i
+    loop-less
+    loop-again
+    add-result
+    returns)

@@ -1,0 +1,39 @@
+// Input of any length taken in window by window: where a line ends in a window, and the line so far kept in a lent buffer.
+use crate::words::stop_at;
+ghost use mathlib.Core.Path.{_≡_};
+ghost use Prim.Native.Nat.{_+_, _-_, _≤_, min};
+ghost use lib.ListN.{length, take};
+ghost use lib.Seq.{sets};
+ghost use Rattle.script.specs.Words.{newline as newlineByte, stopAt};
+ghost use Rattle.script.specs.Orders.{mostKept};
+
+// Where the next newline from `at` on stands in a window, or the window's end.
+pub fn newline(window: &[u8], at: usize) -> usize
+    requires { ⌜ at ≤ length (now window) ⌝ }
+    ensures { λ r. ⌜ r ≡ stopAt newlineByte (now (window .entry)) at ⌝ }
+    ensures { λ r. ⌜ (at ≤ r) × (r ≤ length (now (window .entry))) ⌝ }
+{
+    stop_at(window, at, 10)
+}
+
+// The smaller of two numbers.
+pub(crate) fn least(a: usize, b: usize) -> usize
+    ensures { λ r. ⌜ r ≡ min a b ⌝ }
+{
+    if a < b { a } else { b }
+}
+
+// Keeps bytes of a line after those kept so far, as far as the room goes, and answers how many are kept now.
+pub fn keep(line: &mut [u8; 16386], kept: usize, bytes: &[u8]) -> usize
+    requires { ⌜ kept ≤ mostKept ⌝ }
+    ensures { λ r. ⌜ r ≡ min (kept + length (now (bytes .entry))) mostKept ⌝ }
+    ensures { λ _. ⌜ now (line .exit) ≡ sets (now (line .entry)) kept (take (mostKept - kept) (now (bytes .entry))) ⌝ }
+{
+    let n = least(bytes.len(), 16386 - kept);
+    let mut i = 0;
+    while i < n {
+        line[kept + i] = bytes[i];
+        i += 1;
+    }
+    kept + n
+}
