@@ -96,8 +96,18 @@ pub then-put : (o : List ℕ) (at : ℕ) {m n : ℕ} {u v : List ℕ} (p q : Lis
 then-put o at p q h k =
     (omega (arith, h .0, k .0, length-append p q), k .1 ∙ rw (h .1, h .0) (sets-append o at p q))
 
-pub lined : (o : List ℕ) (p : List ℕ) {n : ℕ} {v : List ℕ} → Put o 0 p n v → (n ≡ length p) × (v ≡ over p o)
-lined o p h = (omega (arith, h .0), h .1)
+pub put-all3 : (o : List ℕ) (at : ℕ) {k m n : ℕ} {u v w : List ℕ} (p q r : List ℕ) → Put o at p k u → Put u k q m v → Put v m r n w
+    → Put o at (p ++ q ++ r) n w
+put-all3 o at p q r g h i = then-put o at (p ++ q) r (then-put o at p q g h) i
+
+pub put-all5 : (o : List ℕ) (at : ℕ) {k m n i j : ℕ} {u v w x y : List ℕ} (p q r s t : List ℕ)
+    → Put o at p k u → Put u k q m v → Put v m r n w → Put w n s i x → Put x i t j y
+    → Put o at (p ++ q ++ r ++ s ++ t) j y
+put-all5 o at p q r s t a b c d e = put-all3 o at (p ++ q ++ r) s t (put-all3 o at p q r a b c) d e
+
+-- What is put from the start on.
+pub line : (o : List ℕ) (p : List ℕ) {n : ℕ} {v : List ℕ} → Put o 0 p n v → (n ≡ length p) × (v ≡ over p o)
+line o p h = (omega (arith, h .0), h .1)
 
 -- A number below zero, and how far it is.
 pub below-abs : (z : ℤ) → SFits w32 z → ltZ (rd z) (pos 0) ≡ true → 4294967295 - ofZ w32 z + 1 ≡ natAbs z

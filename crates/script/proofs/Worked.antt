@@ -9,7 +9,7 @@ use Rattle.script.specs.Text.{text, same}
 use Rattle.script.specs.Words.{endOf, longer, pieces, filled, wordsOf}
 use Rattle.script.specs.Numbers.{between, allDigits, valueFrom, isNumber, hasMinus, isCoordinate, signed, allCoordinates, listed, isRow, isList, isHex, hexValue, allPairs, bytesOf, isMap}
 use Rattle.script.specs.Orders.{only, seatCall, pairCall, isOpening, isBaring, opening, baring, lentCall, isPlacing, placeCall, callOf, isSkipped, asked, isLong, orderOf}
-use Rattle.script.specs.Answers.{shown, integer, hexDigit, hex, carriedText, toldLine, verdictLine, hexPart, writtenLine, wiredLine, runLine, legLine, closedLine, drawingLine, pinLine, strayLine}
+use Rattle.script.specs.Answers.{shown, integer, placeText, hexDigit, hex, carriedText, toldLine, verdictLine, hexPart, writtenLine, wiredLine, jobLine, runLine, legLine, closedLine, drawingLine, pinLine, strayLine}
 use Rattle.script.specs.declared.Order.{Order}
 use Rattle.refusal.specs.declared.Verdict.{Verdict}
 
@@ -78,10 +78,10 @@ too-long = refl
 -- Answers of each kind.
 pub printed :
     strayLine 5 ++ verdictLine Verdict.Accepted ++ verdictLine Verdict.MapLength ++ verdictLine (Verdict.OtherJob 2) ++ writtenLine 0 []
-    ++ writtenLine 12 (0 ∷ 9 ∷ 255 ∷ 238 ∷ []) ++ wiredLine 80000 1 2 4 ++ runLine 0 31 (text "lower")
+    ++ writtenLine 12 (0 ∷ 9 ∷ 255 ∷ 238 ∷ []) ++ wiredLine 80000 1 2 4 ++ jobLine 7 8 2 5 ++ runLine 0 31 (text "lower")
     ++ legLine (record { x = negsuc 19999; y = pos 0 }) (record { x = pos 2147483647; y = negsuc 2147483647 }) ++ closedLine
     ++ drawingLine 65535 32 0 256 ++ pinLine 31 (record { x = pos 10; y = negsuc 0 })
     ≡ text
-    "line 5: not a call\n0\nrefused 13\nrefused 14 record 2\n0 0\n0 12 0009ffee\n0 length 80000 runs 1 legs 2 weighed 4\n0 31 lower\nleg -20000 0 2147483647 -2147483648\nclosed\njob 65535 pins 32 standing 0 taken 256\npin 31 10 -1\n"
-unfolding choose shown integer hexDigit hex carriedText toldLine hexPart writtenLine wiredLine runLine legLine drawingLine pinLine strayLine
+    "line 5: not a call\n0\nrefused 13\nrefused 14 record 2\n0 0\n0 12 0009ffee\n0 length 80000 runs 1 legs 2 weighed 4\njob 7 length 8 runs 2 weighed 5\n0 31 lower\nleg -20000 0 2147483647 -2147483648\nclosed\njob 65535 pins 32 standing 0 taken 256\npin 31 10 -1\n"
+unfolding choose shown integer placeText hexDigit hex carriedText toldLine hexPart writtenLine wiredLine jobLine runLine legLine drawingLine pinLine strayLine
 printed = refl

@@ -28,62 +28,75 @@ decimal n = shown 20 n
 unfoldable pub integer : ℤ → List ℕ
 integer z = choose (ltZ z (pos 0)) (text "-" ++ decimal (natAbs z)) (decimal (natAbs z))
 
--- A label and a number after it, without and with a sign.
+-- A label and a number after it.
 abbrev pub field : String → ℕ → List ℕ
 field label n = text label ++ decimal n
 
-abbrev pub signField : String → ℤ → List ℕ
-signField label z = text label ++ integer z
+-- A label and a place after it: x, a space, y.
+unfoldable pub placeText : List ℕ → Place → List ℕ
+placeText label p = (label ++ integer (p .x)) ++ (text " " ++ integer (p .y))
 
--- Two hex digits for each byte, in small letters.
+-- A hex digit, in small letters.
 unfoldable pub hexDigit : ℕ → ℕ
 hexDigit d = choose (ltb d 10) (48 + d) (87 + d)
 
+-- Two hex digits for each byte.
 unfoldable pub hex : List ℕ → List ℕ
 hex [] = []
 hex (b ∷ rest) = hexDigit (b / 16) ∷ hexDigit (b % 16) ∷ hex rest
 
--- `0` where a call is accepted; `refused N`, `refused N record R`.
+-- What a refusal carries: nothing, or ` record R`.
 unfoldable pub carriedText : Carried → List ℕ
 carriedText Nothing = []
 carriedText (Record r) = field " record " r
 
+-- `0` where a call is accepted; `refused N`, or `refused N record R`.
 unfoldable pub toldLine : Told → List ℕ
 toldLine t = choose (eqb (t .number) 0) (text "0\n") (field "refused " (t .number) ++ carriedText (t .carried) ++ text "\n")
 
+-- The line of a verdict.
 abbrev pub verdictLine : Verdict → List ℕ
 verdictLine v = toldLine (toldOf v)
 
--- `0 BYTES HEX`, HEX the whole lent buffer; with room 0 the line ends after BYTES.
+-- A space and bytes in hex; nothing where there are none.
 unfoldable pub hexPart : List ℕ → List ℕ
 hexPart [] = []
 hexPart (b ∷ rest) = text " " ++ hex (b ∷ rest)
 
+-- An accepted writing: `0 BYTES HEX`, HEX the whole lent buffer; with room 0 the line ends after BYTES.
 unfoldable pub writtenLine : ℕ → List ℕ → List ℕ
 writtenLine bytes buffer = field "0 " bytes ++ hexPart (take 1024 buffer) ++ text "\n"
 
--- `0 length L runs R legs G weighed W`, then `near far shape` for each run and `leg AX AY BX BY` for each leg.
+-- An accepted wiring: `0 length L runs R legs G weighed W`.
 unfoldable pub wiredLine : ℕ → ℕ → ℕ → ℕ → List ℕ
 wiredLine length runs legs weighed =
     field "0 length " length ++ field " runs " runs ++ field " legs " legs ++ field " weighed " weighed ++ text "\n"
 
+-- An accepted wiring of a map: `job J length L runs R weighed W`.
+unfoldable pub jobLine : ℕ → ℕ → ℕ → ℕ → List ℕ
+jobLine job length runs weighed =
+    field "job " job ++ field " length " length ++ field " runs " runs ++ field " weighed " weighed ++ text "\n"
+
+-- A run: `near far shape`.
 unfoldable pub runLine : ℕ → ℕ → List ℕ → List ℕ
 runLine near far shape = field "" near ++ field " " far ++ text " " ++ shape ++ text "\n"
 
+-- A leg: `leg AX AY BX BY`.
 unfoldable pub legLine : Place → Place → List ℕ
-legLine a b =
-    signField "leg " (a .x) ++ signField " " (a .y) ++ signField " " (b .x) ++ signField " " (b .y) ++ text "\n"
+legLine a b = placeText (text "leg ") a ++ placeText (text " ") b ++ text "\n"
 
--- `closed`, or `job J pins N standing S taken T` and `pin P X Y` for each pin.
+-- A seat that is not open: `closed`.
 abbrev pub closedLine : List ℕ
 closedLine = text "closed\n"
 
+-- A drawing: `job J pins N standing S taken T`.
 unfoldable pub drawingLine : ℕ → ℕ → ℕ → ℕ → List ℕ
 drawingLine job pins standing taken =
     field "job " job ++ field " pins " pins ++ field " standing " standing ++ field " taken " taken ++ text "\n"
 
+-- A pin of a drawing: `pin P X Y`.
 unfoldable pub pinLine : ℕ → Place → List ℕ
-pinLine pin at = field "pin " pin ++ signField " " (at .x) ++ signField " " (at .y) ++ text "\n"
+pinLine pin place = field "pin " pin ++ placeText (text " ") place ++ text "\n"
 
 -- What is not a call: `line K: not a call`.
 unfoldable pub strayLine : ℕ → List ℕ

@@ -24,3 +24,7 @@ same (a ∷ u) (b ∷ v) = both (eqb a b) (same u v)
 -- A buffer with something stored in it, one after the other, from its start on; what lies after that stays.
 abbrev pub over : {A : Type 0} → List A → List A → List A
 over new old = sets old 0 new
+
+-- An answer has room for so many bytes.
+abbrev pub room : ℕ
+room = 8192

@@ -1,4 +1,4 @@
-// Answers printed from the start of a lent buffer on, a line each; every function answers how many bytes it printed.
+// Answers printed into a lent buffer, a line each: from its start on, with the bytes printed told, or from a position on, with the position after them told.
 use crate::feed::least;
 use grid::Place;
 use refusal::Carried;
@@ -10,12 +10,15 @@ ghost use Prim.Native.Nat.{_+_, _*_, _≤_, _<_};
 ghost use lib.IntN.{natAbs};
 ghost use lib.ListN.{length, take};
 ghost use lib.Seq.{sets};
-ghost use Rattle.script.specs.Text.{over};
-ghost use Rattle.script.specs.Answers.{decimal, integer, hexDigit, hex, hexPart, carriedText, toldLine, verdictLine, writtenLine, wiredLine, runLine, legLine, closedLine, drawingLine, pinLine, strayLine};
+ghost use Rattle.script.specs.Text.{text, over, room};
+ghost use Rattle.script.specs.Answers.{decimal, integer, placeText, hexDigit, hex, hexPart, carriedText, toldLine, verdictLine, writtenLine, wiredLine, jobLine, runLine, legLine, closedLine, drawingLine, pinLine, strayLine};
+
+// An answer has room for so many bytes.
+pub const ROOM: usize = 8192;
 
 // Puts bytes at a position, and answers the position after them.
-fn put(out: &mut [u8; 2200], at: usize, bytes: &[u8]) -> usize
-    requires { ⌜ at + length (now bytes) ≤ 2200 ⌝ }
+fn put(out: &mut [u8; ROOM], at: usize, bytes: &[u8]) -> usize
+    requires { ⌜ at + length (now bytes) ≤ room ⌝ }
     ensures { λ r. ⌜ r ≡ at + length (now (bytes .entry)) ⌝ }
     ensures { λ _. ⌜ now (out .exit) ≡ sets (now (out .entry)) at (now (bytes .entry)) ⌝ }
 {
@@ -28,8 +31,8 @@ fn put(out: &mut [u8; 2200], at: usize, bytes: &[u8]) -> usize
 }
 
 // Puts the decimal digits of a number at a position.
-fn put_decimal(out: &mut [u8; 2200], at: usize, n: usize) -> usize
-    requires { ⌜ at + 20 ≤ 2200 ⌝ }
+fn put_decimal(out: &mut [u8; ROOM], at: usize, n: usize) -> usize
+    requires { ⌜ at + 20 ≤ room ⌝ }
     ensures { λ r. ⌜ (r ≡ at + length (decimal n)) × (r ≤ at + 20) ⌝ }
     ensures { λ _. ⌜ now (out .exit) ≡ sets (now (out .entry)) at (decimal n) ⌝ }
 {
@@ -43,8 +46,8 @@ fn put_decimal(out: &mut [u8; 2200], at: usize, n: usize) -> usize
 }
 
 // Puts a label and a number after it.
-fn put_field(out: &mut [u8; 2200], at: usize, label: &[u8], n: usize) -> usize
-    requires { ⌜ at + length (now label) + 20 ≤ 2200 ⌝ }
+fn put_field(out: &mut [u8; ROOM], at: usize, label: &[u8], n: usize) -> usize
+    requires { ⌜ at + length (now label) + 20 ≤ room ⌝ }
     ensures { λ r. ⌜ (r ≡ at + length (now (label .entry) ++ decimal n)) × (r ≤ at + length (now (label .entry)) + 20) ⌝ }
     ensures { λ _. ⌜ now (out .exit) ≡ sets (now (out .entry)) at (now (label .entry) ++ decimal n) ⌝ }
 {
@@ -63,8 +66,8 @@ fn magnitude(z: i32) -> usize
 }
 
 // Puts a label and a number with its sign after it.
-fn put_integer(out: &mut [u8; 2200], at: usize, label: &[u8], z: i32) -> usize
-    requires { ⌜ at + length (now label) + 21 ≤ 2200 ⌝ }
+fn put_integer(out: &mut [u8; ROOM], at: usize, label: &[u8], z: i32) -> usize
+    requires { ⌜ at + length (now label) + 21 ≤ room ⌝ }
     ensures { λ r. ⌜ (r ≡ at + length (now (label .entry) ++ integer z)) × (r ≤ at + length (now (label .entry)) + 21) ⌝ }
     ensures { λ _. ⌜ now (out .exit) ≡ sets (now (out .entry)) at (now (label .entry) ++ integer z) ⌝ }
 {
@@ -87,8 +90,8 @@ fn hex_digit(d: u8) -> u8
 }
 
 // Puts two hex digits for each byte at a position.
-fn put_hex(out: &mut [u8; 2200], at: usize, bytes: &[u8]) -> usize
-    requires { ⌜ at + length (now bytes) * 2 ≤ 2200 ⌝ }
+fn put_hex(out: &mut [u8; ROOM], at: usize, bytes: &[u8]) -> usize
+    requires { ⌜ at + length (now bytes) * 2 ≤ room ⌝ }
     ensures { λ r. ⌜ (r ≡ at + length (hex (now (bytes .entry)))) × (r ≡ at + length (now (bytes .entry)) * 2) ⌝ }
     ensures { λ _. ⌜ now (out .exit) ≡ sets (now (out .entry)) at (hex (now (bytes .entry))) ⌝ }
 {
@@ -102,9 +105,42 @@ fn put_hex(out: &mut [u8; 2200], at: usize, bytes: &[u8]) -> usize
     at + bytes.len() * 2
 }
 
+// Puts a label, x, a space and y.
+fn put_place(out: &mut [u8; ROOM], at: usize, label: &[u8], place: Place) -> usize
+    requires { ⌜ at + length (now label) + 43 ≤ room ⌝ }
+    ensures { λ r. ⌜ (r ≡ at + length (placeText (now (label .entry)) place)) × (r ≤ at + length (now (label .entry)) + 43) ⌝ }
+    ensures { λ _. ⌜ now (out .exit) ≡ sets (now (out .entry)) at (placeText (now (label .entry)) place) ⌝ }
+{
+    let next = put_integer(out, at, label, place.x);
+    put_integer(out, next, b" ", place.y)
+}
+
+// Prints four labels with a number after each, and ends the line.
+fn print_fields(
+    a: &[u8],
+    k: usize,
+    b: &[u8],
+    l: usize,
+    c: &[u8],
+    m: usize,
+    d: &[u8],
+    n: usize,
+    out: &mut [u8; ROOM],
+) -> usize
+    requires { ⌜ length (now a) + length (now b) + length (now c) + length (now d) ≤ 100 ⌝ }
+    ensures { λ r. ⌜ (r ≡ length ((now (a .entry) ++ decimal k) ++ (now (b .entry) ++ decimal l) ++ (now (c .entry) ++ decimal m) ++ (now (d .entry) ++ decimal n) ++ text "\n")) × (r ≤ 200) ⌝ }
+    ensures { λ _. ⌜ now (out .exit) ≡ over ((now (a .entry) ++ decimal k) ++ (now (b .entry) ++ decimal l) ++ (now (c .entry) ++ decimal m) ++ (now (d .entry) ++ decimal n) ++ text "\n") (now (out .entry)) ⌝ }
+{
+    let one = put_field(out, 0, a, k);
+    let two = put_field(out, one, b, l);
+    let three = put_field(out, two, c, m);
+    let four = put_field(out, three, d, n);
+    put(out, four, b"\n")
+}
+
 // What is not a call: its line, counted from 1.
-pub fn print_stray(line: usize, out: &mut [u8; 2200]) -> usize
-    ensures { λ r. ⌜ r ≡ length (strayLine line) ⌝ }
+pub fn print_stray(line: usize, out: &mut [u8; ROOM]) -> usize
+    ensures { λ r. ⌜ (r ≡ length (strayLine line)) × (r ≤ 200) ⌝ }
     ensures { λ _. ⌜ now (out .exit) ≡ over (strayLine line) (now (out .entry)) ⌝ }
 {
     let next = put_field(out, 0, b"line ", line);
@@ -117,46 +153,75 @@ pub fn print_wired(
     runs: usize,
     legs: usize,
     weighed: usize,
-    out: &mut [u8; 2200],
+    out: &mut [u8; ROOM],
 ) -> usize
-    ensures { λ r. ⌜ r ≡ lib.ListN.length (wiredLine length runs legs weighed) ⌝ }
+    ensures { λ r. ⌜ (r ≡ lib.ListN.length (wiredLine length runs legs weighed)) × (r ≤ 200) ⌝ }
     ensures { λ _. ⌜ now (out .exit) ≡ over (wiredLine length runs legs weighed) (now (out .entry)) ⌝ }
 {
-    let one = put_field(out, 0, b"0 length ", length);
-    let two = put_field(out, one, b" runs ", runs);
-    let three = put_field(out, two, b" legs ", legs);
-    let four = put_field(out, three, b" weighed ", weighed);
-    put(out, four, b"\n")
+    print_fields(
+        b"0 length ",
+        length,
+        b" runs ",
+        runs,
+        b" legs ",
+        legs,
+        b" weighed ",
+        weighed,
+        out,
+    )
 }
 
-// A run: its ends, and the word of its shape.
-pub fn print_run(near: usize, far: usize, shape: &[u8], out: &mut [u8; 2200]) -> usize
-    requires { ⌜ length (now shape) ≤ 100 ⌝ }
-    ensures { λ r. ⌜ r ≡ length (runLine near far (now (shape .entry))) ⌝ }
-    ensures { λ _. ⌜ now (out .exit) ≡ over (runLine near far (now (shape .entry))) (now (out .entry)) ⌝ }
+// The wiring of a map: its job, length and runs, and the choices weighed.
+pub fn print_job(
+    job: usize,
+    length: usize,
+    runs: usize,
+    weighed: usize,
+    out: &mut [u8; ROOM],
+) -> usize
+    ensures { λ r. ⌜ (r ≡ lib.ListN.length (jobLine job length runs weighed)) × (r ≤ 200) ⌝ }
+    ensures { λ _. ⌜ now (out .exit) ≡ over (jobLine job length runs weighed) (now (out .entry)) ⌝ }
 {
-    let one = put_decimal(out, 0, near);
+    print_fields(
+        b"job ",
+        job,
+        b" length ",
+        length,
+        b" runs ",
+        runs,
+        b" weighed ",
+        weighed,
+        out,
+    )
+}
+
+// A run, from a position on: its ends, and the word of its shape.
+pub fn print_run(near: usize, far: usize, shape: &[u8], out: &mut [u8; ROOM], at: usize) -> usize
+    requires { ⌜ (length (now shape) ≤ 8) × (at + 51 ≤ room) ⌝ }
+    ensures { λ r. ⌜ (r ≡ at + length (runLine near far (now (shape .entry)))) × (r ≤ at + 51) ⌝ }
+    ensures { λ _. ⌜ now (out .exit) ≡ sets (now (out .entry)) at (runLine near far (now (shape .entry))) ⌝ }
+{
+    let one = put_decimal(out, at, near);
     let two = put_field(out, one, b" ", far);
     let three = put(out, two, b" ");
     let four = put(out, three, shape);
     put(out, four, b"\n")
 }
 
-// A leg: its two ends.
-pub fn print_leg(a: Place, b: Place, out: &mut [u8; 2200]) -> usize
-    ensures { λ r. ⌜ r ≡ length (legLine a b) ⌝ }
-    ensures { λ _. ⌜ now (out .exit) ≡ over (legLine a b) (now (out .entry)) ⌝ }
+// A leg, from a position on: its two ends.
+pub fn print_leg(a: Place, b: Place, out: &mut [u8; ROOM], at: usize) -> usize
+    requires { ⌜ at + 92 ≤ room ⌝ }
+    ensures { λ r. ⌜ (r ≡ at + length (legLine a b)) × (r ≤ at + 92) ⌝ }
+    ensures { λ _. ⌜ now (out .exit) ≡ sets (now (out .entry)) at (legLine a b) ⌝ }
 {
-    let one = put_integer(out, 0, b"leg ", a.x);
-    let two = put_integer(out, one, b" ", a.y);
-    let three = put_integer(out, two, b" ", b.x);
-    let four = put_integer(out, three, b" ", b.y);
-    put(out, four, b"\n")
+    let one = put_place(out, at, b"leg ", a);
+    let two = put_place(out, one, b" ", b);
+    put(out, two, b"\n")
 }
 
 // A seat that is not open.
-pub fn print_closed(out: &mut [u8; 2200]) -> usize
-    ensures { λ r. ⌜ r ≡ length closedLine ⌝ }
+pub fn print_closed(out: &mut [u8; ROOM]) -> usize
+    ensures { λ r. ⌜ (r ≡ length closedLine) × (r ≤ 200) ⌝ }
     ensures { λ _. ⌜ now (out .exit) ≡ over closedLine (now (out .entry)) ⌝ }
 {
     put(out, 0, b"closed\n")
@@ -168,32 +233,38 @@ pub fn print_drawing(
     pins: usize,
     standing: usize,
     taken: usize,
-    out: &mut [u8; 2200],
+    out: &mut [u8; ROOM],
 ) -> usize
-    ensures { λ r. ⌜ r ≡ length (drawingLine job pins standing taken) ⌝ }
+    ensures { λ r. ⌜ (r ≡ length (drawingLine job pins standing taken)) × (r ≤ 200) ⌝ }
     ensures { λ _. ⌜ now (out .exit) ≡ over (drawingLine job pins standing taken) (now (out .entry)) ⌝ }
 {
-    let one = put_field(out, 0, b"job ", job);
-    let two = put_field(out, one, b" pins ", pins);
-    let three = put_field(out, two, b" standing ", standing);
-    let four = put_field(out, three, b" taken ", taken);
-    put(out, four, b"\n")
+    print_fields(
+        b"job ",
+        job,
+        b" pins ",
+        pins,
+        b" standing ",
+        standing,
+        b" taken ",
+        taken,
+        out,
+    )
 }
 
-// A pin of a drawing and its place.
-pub fn print_pin(pin: usize, at: Place, out: &mut [u8; 2200]) -> usize
-    ensures { λ r. ⌜ r ≡ length (pinLine pin at) ⌝ }
-    ensures { λ _. ⌜ now (out .exit) ≡ over (pinLine pin at) (now (out .entry)) ⌝ }
+// A pin of a drawing and its place, from a position on.
+pub fn print_pin(pin: usize, place: Place, out: &mut [u8; ROOM], at: usize) -> usize
+    requires { ⌜ at + 69 ≤ room ⌝ }
+    ensures { λ r. ⌜ (r ≡ at + length (pinLine pin place)) × (r ≤ at + 69) ⌝ }
+    ensures { λ _. ⌜ now (out .exit) ≡ sets (now (out .entry)) at (pinLine pin place) ⌝ }
 {
-    let one = put_field(out, 0, b"pin ", pin);
-    let two = put_integer(out, one, b" ", at.x);
-    let three = put_integer(out, two, b" ", at.y);
-    put(out, three, b"\n")
+    let one = put_field(out, at, b"pin ", pin);
+    let two = put_place(out, one, b" ", place);
+    put(out, two, b"\n")
 }
 
 // What a refusal carries.
-fn put_carried(out: &mut [u8; 2200], at: usize, carried: Carried) -> usize
-    requires { ⌜ at + 30 ≤ 2200 ⌝ }
+fn put_carried(out: &mut [u8; ROOM], at: usize, carried: Carried) -> usize
+    requires { ⌜ at + 30 ≤ room ⌝ }
     ensures { λ r. ⌜ (r ≡ at + length (carriedText carried)) × (r ≤ at + 30) ⌝ }
     ensures { λ _. ⌜ now (out .exit) ≡ sets (now (out .entry)) at (carriedText carried) ⌝ }
 {
@@ -204,8 +275,8 @@ fn put_carried(out: &mut [u8; 2200], at: usize, carried: Carried) -> usize
 }
 
 // What a host is told of a call: accepted, or the number of its refusal and what it carries.
-fn print_told(told: Told, out: &mut [u8; 2200]) -> usize
-    ensures { λ r. ⌜ r ≡ length (toldLine told) ⌝ }
+fn print_told(told: Told, out: &mut [u8; ROOM]) -> usize
+    ensures { λ r. ⌜ (r ≡ length (toldLine told)) × (r ≤ 200) ⌝ }
     ensures { λ _. ⌜ now (out .exit) ≡ over (toldLine told) (now (out .entry)) ⌝ }
 {
     let carried = told.carried;
@@ -218,15 +289,15 @@ fn print_told(told: Told, out: &mut [u8; 2200]) -> usize
 }
 
 // The verdict of a call.
-pub fn print_verdict(verdict: Verdict, out: &mut [u8; 2200]) -> usize
-    ensures { λ r. ⌜ r ≡ length (verdictLine verdict) ⌝ }
+pub fn print_verdict(verdict: Verdict, out: &mut [u8; ROOM]) -> usize
+    ensures { λ r. ⌜ (r ≡ length (verdictLine verdict)) × (r ≤ 200) ⌝ }
     ensures { λ _. ⌜ now (out .exit) ≡ over (verdictLine verdict) (now (out .entry)) ⌝ }
 {
     print_told(refusal::tell(verdict), out)
 }
 
 // Puts a space and the bytes in hex, or nothing where there are none.
-fn put_lent(out: &mut [u8; 2200], at: usize, bytes: &[u8]) -> usize
+fn put_lent(out: &mut [u8; ROOM], at: usize, bytes: &[u8]) -> usize
     requires { ⌜ (at ≤ 30) × (length (now bytes) ≤ 1024) ⌝ }
     ensures { λ r. ⌜ (r ≡ at + length (hexPart (now (bytes .entry)))) × (r ≤ at + 2049) ⌝ }
     ensures { λ _. ⌜ now (out .exit) ≡ sets (now (out .entry)) at (hexPart (now (bytes .entry))) ⌝ }
@@ -239,12 +310,12 @@ fn put_lent(out: &mut [u8; 2200], at: usize, bytes: &[u8]) -> usize
 }
 
 // An accepted writing: the bytes written, and the lent buffer after the call, of which at most 1,024 bytes are printed.
-pub fn print_written(bytes: usize, buffer: &[u8], out: &mut [u8; 2200]) -> usize
-    ensures { λ r. ⌜ r ≡ length (writtenLine bytes (now (buffer .entry))) ⌝ }
+pub fn print_written(bytes: usize, buffer: &[u8], out: &mut [u8; ROOM]) -> usize
+    ensures { λ r. ⌜ (r ≡ length (writtenLine bytes (now (buffer .entry)))) × (r ≤ room) ⌝ }
     ensures { λ _. ⌜ now (out .exit) ≡ over (writtenLine bytes (now (buffer .entry))) (now (out .entry)) ⌝ }
 {
-    let room = least(buffer.len(), 1024);
+    let shown = least(buffer.len(), 1024);
     let one = put_field(out, 0, b"0 ", bytes);
-    let two = put_lent(out, one, &buffer[..room]);
+    let two = put_lent(out, one, &buffer[..shown]);
     put(out, two, b"\n")
 }

@@ -1,38 +1,23 @@
 -- `script::print_leg` meets its contract. Assumes nothing.
-use Rattle.script.proofs.Printing.{then-put, put-as, lined}
-use lib.IntN.{ℤ}
-use Rattle.grid.proofs.Signed.{held}
-use borrow.Author.Needs.{needs}
-use mathlib.Core.Path.{ap}
-use mathlib.Core.List.{_++_}
+use native.Mathlib.Omega.{arith}
+use Rattle.script.proofs.Printing.{put-all3}
 use Rattle.script.specs.Text.{text}
-use Rattle.script.specs.Answers.{signField, legLine}
+use Rattle.script.specs.Answers.{placeText, legLine}
+use borrow.Author.Needs.{needs}
 use Rattle.script.proofs.answers.print_leg.Statement.{statement}
 use Rattle.script.proofs.answers.print_leg.Tie as tie
 
-slice-aggregate-put-integer : tie.Need-slice-aggregate-put-integer
-slice-aggregate-put-integer c = search needs
+slice-aggregate-put-place : tie.Need-slice-aggregate-put-place
+slice-aggregate-put-place c = search needs
 
-put-integer-requires : tie.Need-put-integer-requires
-put-integer-requires c κs = search needs
+put-place-requires : tie.Need-put-place-requires
+put-place-requires c κs = search needs
 
-slice-aggregate-put-integer-2 : tie.Need-slice-aggregate-put-integer-2
-slice-aggregate-put-integer-2 c = search needs
+slice-aggregate-put-place-2 : tie.Need-slice-aggregate-put-place-2
+slice-aggregate-put-place-2 c = search needs
 
-put-integer-requires-2 : tie.Need-put-integer-requires-2
-put-integer-requires-2 c κs = search needs
-
-slice-aggregate-put-integer-3 : tie.Need-slice-aggregate-put-integer-3
-slice-aggregate-put-integer-3 c = search needs
-
-put-integer-requires-3 : tie.Need-put-integer-requires-3
-put-integer-requires-3 c κs = search needs
-
-slice-aggregate-put-integer-4 : tie.Need-slice-aggregate-put-integer-4
-slice-aggregate-put-integer-4 c = search needs
-
-put-integer-requires-4 : tie.Need-put-integer-requires-4
-put-integer-requires-4 c κs = search needs
+put-place-requires-2 : tie.Need-put-place-requires-2
+put-place-requires-2 c κs = search needs
 
 slice-aggregate-put : tie.Need-slice-aggregate-put
 slice-aggregate-put c = search needs
@@ -42,20 +27,29 @@ put-requires c κs = search needs
 
 returns : tie.Need-returns
 unfolding legLine
-returns c = lined (c .before .before .before .before .before .before .before .before .before .before .before .before .before .before .before .before .before .before .before .args .out .now) (signField "leg " (c .before .before .before .before .before .before .before .before .before .before .before .before .before .before .before .before .before .before .before .args .a .x) ++ signField " " (c .before .before .before .before .before .before .before .before .before .before .before .before .before .before .before .before .before .before .before .args .a .y) ++ signField " " (c .before .before .before .before .before .before .before .before .before .before .before .before .before .before .before .before .before .before .before .args .b .x) ++ signField " " (c .before .before .before .before .before .before .before .before .before .before .before .before .before .before .before .before .before .before .before .args .b .y) ++ text "\n") (then-put (c .before .before .before .before .before .before .before .before .before .before .before .before .before .before .before .before .before .before .before .args .out .now) 0 (signField "leg " (c .before .before .before .before .before .before .before .before .before .before .before .before .before .before .before .before .before .before .before .args .a .x) ++ signField " " (c .before .before .before .before .before .before .before .before .before .before .before .before .before .before .before .before .before .before .before .args .a .y) ++ signField " " (c .before .before .before .before .before .before .before .before .before .before .before .before .before .before .before .before .before .before .before .args .b .x) ++ signField " " (c .before .before .before .before .before .before .before .before .before .before .before .before .before .before .before .before .before .before .before .args .b .y)) (text "\n") (then-put (c .before .before .before .before .before .before .before .before .before .before .before .before .before .before .before .before .before .before .before .args .out .now) 0 (signField "leg " (c .before .before .before .before .before .before .before .before .before .before .before .before .before .before .before .before .before .before .before .args .a .x) ++ signField " " (c .before .before .before .before .before .before .before .before .before .before .before .before .before .before .before .before .before .before .before .args .a .y) ++ signField " " (c .before .before .before .before .before .before .before .before .before .before .before .before .before .before .before .before .before .before .before .args .b .x)) (signField " " (c .before .before .before .before .before .before .before .before .before .before .before .before .before .before .before .before .before .before .before .args .b .y)) (then-put (c .before .before .before .before .before .before .before .before .before .before .before .before .before .before .before .before .before .before .before .args .out .now) 0 (signField "leg " (c .before .before .before .before .before .before .before .before .before .before .before .before .before .before .before .before .before .before .before .args .a .x) ++ signField " " (c .before .before .before .before .before .before .before .before .before .before .before .before .before .before .before .before .before .before .before .args .a .y)) (signField " " (c .before .before .before .before .before .before .before .before .before .before .before .before .before .before .before .before .before .before .before .args .b .x)) (then-put (c .before .before .before .before .before .before .before .before .before .before .before .before .before .before .before .before .before .before .before .args .out .now) 0 (signField "leg " (c .before .before .before .before .before .before .before .before .before .before .before .before .before .before .before .before .before .before .before .args .a .x)) (signField " " (c .before .before .before .before .before .before .before .before .before .before .before .before .before .before .before .before .before .before .before .args .a .y)) (put-as (c .before .before .before .before .before .before .before .before .before .before .before .before .before .before .before .before .before .before .before .args .out .now) 0 (ap (λ (z : ℤ). signField "leg " z) (held (c .before .before .before .before .before .before .before .before .before .before .before .before .before .before .before .before .before .before .before .args .a .x) (c .before .before .before .before .before .before .before .before .before .before .before .before .before .before .before .before .struct-told .given .0 .1))) (c .before .before .before .before .before .before .before .before .before .before .before .before .before .before .before .put-integer .ensures .0 .0, c .before .before .before .before .before .before .before .before .before .before .before .before .before .before .before .put-integer .ensures .1)) (put-as (c .before .before .before .before .before .before .before .before .before .before .before .before .before .before .before .put-integer .last .0) (c .before .before .before .before .before .before .before .before .before .before .before .before .before .before .before .put-integer .result) (ap (λ (z : ℤ). signField " " z) (held (c .before .before .before .before .before .before .before .before .before .before .before .before .before .before .before .before .before .before .before .args .a .y) (c .before .before .before .before .before .before .before .before .before .before .before .before .before .before .before .before .struct-told .given .1 .0 .1))) (c .before .before .before .before .before .before .before .before .before .before .before .put-integer2 .ensures .0 .0, c .before .before .before .before .before .before .before .before .before .before .before .put-integer2 .ensures .1))) (put-as (c .before .before .before .before .before .before .before .before .before .before .before .put-integer2 .last .0) (c .before .before .before .before .before .before .before .before .before .before .before .put-integer2 .result) (ap (λ (z : ℤ). signField " " z) (held (c .before .before .before .before .before .before .before .before .before .before .before .before .before .before .before .before .before .before .before .args .b .x) (c .before .before .before .before .before .before .before .before .struct-told3 .given .0 .1))) (c .before .before .before .before .before .before .before .put-integer3 .ensures .0 .0, c .before .before .before .before .before .before .before .put-integer3 .ensures .1))) (put-as (c .before .before .before .before .before .before .before .put-integer3 .last .0) (c .before .before .before .before .before .before .before .put-integer3 .result) (ap (λ (z : ℤ). signField " " z) (held (c .before .before .before .before .before .before .before .before .before .before .before .before .before .before .before .before .before .before .before .args .b .y) (c .before .before .before .before .before .before .before .before .struct-told3 .given .1 .0 .1))) (c .before .before .before .put-integer4 .ensures .0 .0, c .before .before .before .put-integer4 .ensures .1))) (c .put .ensures))
+returns c =
+    let s = c .before .before .before .before .before .before .before .before .before .args in
+    let a = c .before .before .before .before .before .before .put-place .ensures in
+    let b = c .before .before .before .put-place2 .ensures in
+    let d = c .put .ensures in
+    let h =
+    put-all3 (s .out .now) (s .at)
+    (placeText (text "leg ") (s .a))
+    (placeText (text " ") (s .b))
+    (text "\n")
+    (a .0 .0, a .1)
+    (b .0 .0, b .1)
+    d in
+    ((h .0, omega (arith, a .0 .1, b .0 .1, d .0)), h .1)
 
 pub print-leg-spec : {M : Type 1} → statement M
 print-leg-spec =
     tie.close
     (tie.spec
-    slice-aggregate-put-integer
-    put-integer-requires
-    slice-aggregate-put-integer-2
-    put-integer-requires-2
-    slice-aggregate-put-integer-3
-    put-integer-requires-3
-    slice-aggregate-put-integer-4
-    put-integer-requires-4
+    slice-aggregate-put-place
+    put-place-requires
+    slice-aggregate-put-place-2
+    put-place-requires-2
     slice-aggregate-put
     put-requires
     returns)

@@ -1,12 +1,9 @@
 -- `script::print_pin` meets its contract. Assumes nothing.
-use Rattle.script.proofs.Printing.{then-put, put-as, lined}
-use lib.IntN.{ℤ}
-use Rattle.grid.proofs.Signed.{held}
-use borrow.Author.Needs.{needs}
-use mathlib.Core.Path.{ap}
-use mathlib.Core.List.{_++_}
+use native.Mathlib.Omega.{arith}
+use Rattle.script.proofs.Printing.{put-all3}
 use Rattle.script.specs.Text.{text}
-use Rattle.script.specs.Answers.{field, signField, pinLine}
+use Rattle.script.specs.Answers.{field, placeText, pinLine}
+use borrow.Author.Needs.{needs}
 use Rattle.script.proofs.answers.print_pin.Statement.{statement}
 use Rattle.script.proofs.answers.print_pin.Tie as tie
 
@@ -16,17 +13,11 @@ slice-aggregate-put-field c = search needs
 put-field-requires : tie.Need-put-field-requires
 put-field-requires c κs = search needs
 
-slice-aggregate-put-integer : tie.Need-slice-aggregate-put-integer
-slice-aggregate-put-integer c = search needs
+slice-aggregate-put-place : tie.Need-slice-aggregate-put-place
+slice-aggregate-put-place c = search needs
 
-put-integer-requires : tie.Need-put-integer-requires
-put-integer-requires c κs = search needs
-
-slice-aggregate-put-integer-2 : tie.Need-slice-aggregate-put-integer-2
-slice-aggregate-put-integer-2 c = search needs
-
-put-integer-requires-2 : tie.Need-put-integer-requires-2
-put-integer-requires-2 c κs = search needs
+put-place-requires : tie.Need-put-place-requires
+put-place-requires c κs = search needs
 
 slice-aggregate-put : tie.Need-slice-aggregate-put
 slice-aggregate-put c = search needs
@@ -36,7 +27,20 @@ put-requires c κs = search needs
 
 returns : tie.Need-returns
 unfolding pinLine
-returns c = lined (c .before .before .before .before .before .before .before .before .before .before .before .before .before .before .args .out .now) (field "pin " (c .before .before .before .before .before .before .before .before .before .before .before .before .before .before .args .pin) ++ signField " " (c .before .before .before .before .before .before .before .before .before .before .before .before .before .before .args .at .x) ++ signField " " (c .before .before .before .before .before .before .before .before .before .before .before .before .before .before .args .at .y) ++ text "\n") (then-put (c .before .before .before .before .before .before .before .before .before .before .before .before .before .before .args .out .now) 0 (field "pin " (c .before .before .before .before .before .before .before .before .before .before .before .before .before .before .args .pin) ++ signField " " (c .before .before .before .before .before .before .before .before .before .before .before .before .before .before .args .at .x) ++ signField " " (c .before .before .before .before .before .before .before .before .before .before .before .before .before .before .args .at .y)) (text "\n") (then-put (c .before .before .before .before .before .before .before .before .before .before .before .before .before .before .args .out .now) 0 (field "pin " (c .before .before .before .before .before .before .before .before .before .before .before .before .before .before .args .pin) ++ signField " " (c .before .before .before .before .before .before .before .before .before .before .before .before .before .before .args .at .x)) (signField " " (c .before .before .before .before .before .before .before .before .before .before .before .before .before .before .args .at .y)) (then-put (c .before .before .before .before .before .before .before .before .before .before .before .before .before .before .args .out .now) 0 (field "pin " (c .before .before .before .before .before .before .before .before .before .before .before .before .before .before .args .pin)) (signField " " (c .before .before .before .before .before .before .before .before .before .before .before .before .before .before .args .at .x)) (c .before .before .before .before .before .before .before .before .before .before .before .put-field .ensures .0 .0, c .before .before .before .before .before .before .before .before .before .before .before .put-field .ensures .1) (put-as (c .before .before .before .before .before .before .before .before .before .before .before .put-field .last .0) (c .before .before .before .before .before .before .before .before .before .before .before .put-field .result) (ap (λ (z : ℤ). signField " " z) (held (c .before .before .before .before .before .before .before .before .before .before .before .before .before .before .args .at .x) (c .before .before .before .before .before .before .before .before .struct-told .given .0 .1))) (c .before .before .before .before .before .before .before .put-integer .ensures .0 .0, c .before .before .before .before .before .before .before .put-integer .ensures .1))) (put-as (c .before .before .before .before .before .before .before .put-integer .last .0) (c .before .before .before .before .before .before .before .put-integer .result) (ap (λ (z : ℤ). signField " " z) (held (c .before .before .before .before .before .before .before .before .before .before .before .before .before .before .args .at .y) (c .before .before .before .before .before .before .before .before .struct-told .given .1 .0 .1))) (c .before .before .before .put-integer2 .ensures .0 .0, c .before .before .before .put-integer2 .ensures .1))) (c .put .ensures))
+returns c =
+    let s = c .before .before .before .before .before .before .before .before .before .args in
+    let a = c .before .before .before .before .before .before .put-field .ensures in
+    let b = c .before .before .before .put-place .ensures in
+    let d = c .put .ensures in
+    let h =
+    put-all3 (s .out .now) (s .at)
+    (field "pin " (s .pin))
+    (placeText (text " ") (s .place))
+    (text "\n")
+    (a .0 .0, a .1)
+    (b .0 .0, b .1)
+    d in
+    ((h .0, omega (arith, a .0 .1, b .0 .1, d .0)), h .1)
 
 pub print-pin-spec : {M : Type 1} → statement M
 print-pin-spec =
@@ -44,10 +48,8 @@ print-pin-spec =
     (tie.spec
     slice-aggregate-put-field
     put-field-requires
-    slice-aggregate-put-integer
-    put-integer-requires
-    slice-aggregate-put-integer-2
-    put-integer-requires-2
+    slice-aggregate-put-place
+    put-place-requires
     slice-aggregate-put
     put-requires
     returns)

@@ -1,9 +1,9 @@
 -- `script::print_run` meets its contract. Assumes nothing.
-use borrow.Author.Needs.{needs}
-use mathlib.Core.List.{_++_}
-use Rattle.script.proofs.Printing.{then-put, lined}
+use native.Mathlib.Omega.{arith}
+use Rattle.script.proofs.Printing.{put-all5}
 use Rattle.script.specs.Text.{text}
 use Rattle.script.specs.Answers.{field, runLine}
+use borrow.Author.Needs.{needs}
 use Rattle.script.proofs.answers.print_run.Statement.{statement}
 use Rattle.script.proofs.answers.print_run.Tie as tie
 
@@ -33,7 +33,26 @@ put-requires-3 c κs = search needs
 
 returns : tie.Need-returns
 unfolding runLine
-returns c = lined (c .before .before .before .before .before .before .before .before .before .before .before .before .before .before .args .out .now) (field "" (c .before .before .before .before .before .before .before .before .before .before .before .before .before .before .args .near) ++ field " " (c .before .before .before .before .before .before .before .before .before .before .before .before .before .before .args .far) ++ text " " ++ c .before .before .before .before .before .before .before .before .before .before .before .before .before .before .args .shape .now ++ text "\n") (then-put (c .before .before .before .before .before .before .before .before .before .before .before .before .before .before .args .out .now) 0 (field "" (c .before .before .before .before .before .before .before .before .before .before .before .before .before .before .args .near) ++ field " " (c .before .before .before .before .before .before .before .before .before .before .before .before .before .before .args .far) ++ text " " ++ c .before .before .before .before .before .before .before .before .before .before .before .before .before .before .args .shape .now) (text "\n") (then-put (c .before .before .before .before .before .before .before .before .before .before .before .before .before .before .args .out .now) 0 (field "" (c .before .before .before .before .before .before .before .before .before .before .before .before .before .before .args .near) ++ field " " (c .before .before .before .before .before .before .before .before .before .before .before .before .before .before .args .far) ++ text " ") (c .before .before .before .before .before .before .before .before .before .before .before .before .before .before .args .shape .now) (then-put (c .before .before .before .before .before .before .before .before .before .before .before .before .before .before .args .out .now) 0 (field "" (c .before .before .before .before .before .before .before .before .before .before .before .before .before .before .args .near) ++ field " " (c .before .before .before .before .before .before .before .before .before .before .before .before .before .before .args .far)) (text " ") (then-put (c .before .before .before .before .before .before .before .before .before .before .before .before .before .before .args .out .now) 0 (field "" (c .before .before .before .before .before .before .before .before .before .before .before .before .before .before .args .near)) (field " " (c .before .before .before .before .before .before .before .before .before .before .before .before .before .before .args .far)) (c .before .before .before .before .before .before .before .before .before .before .before .put-decimal .ensures .0 .0, c .before .before .before .before .before .before .before .before .before .before .before .put-decimal .ensures .1) (c .before .before .before .before .before .before .before .before .put-field .ensures .0 .0, c .before .before .before .before .before .before .before .before .put-field .ensures .1)) (c .before .before .before .before .before .put .ensures)) (c .before .before .before .put2 .ensures)) (c .put3 .ensures))
+returns c =
+    let s = c .before .before .before .before .before .before .before .before .before .before .before .before .before .before .args in
+    let a = c .before .before .before .before .before .before .before .before .before .before .before .put-decimal .ensures in
+    let b = c .before .before .before .before .before .before .before .before .put-field .ensures in
+    let d = c .before .before .before .before .before .put .ensures in
+    let e = c .before .before .before .put2 .ensures in
+    let f = c .put3 .ensures in
+    let h =
+    put-all5 (s .out .now) (s .at)
+    (field "" (s .near))
+    (field " " (s .far))
+    (text " ")
+    (s .shape .now)
+    (text "\n")
+    (a .0 .0, a .1)
+    (b .0 .0, b .1)
+    d
+    e
+    f in
+    ((h .0, omega (arith, a .0 .1, b .0 .1, d .0, e .0, f .0)), h .1)
 
 pub print-run-spec : {M : Type 1} → statement M
 print-run-spec =

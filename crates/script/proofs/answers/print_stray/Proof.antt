@@ -1,6 +1,7 @@
 -- `script::print_stray` meets its contract. Assumes nothing.
 use mathlib.Core.List.{_++_}
-use Rattle.script.proofs.Printing.{then-put, lined}
+use native.Mathlib.Omega.{arith}
+use Rattle.script.proofs.Printing.{then-put, line}
 use Rattle.script.specs.Text.{text}
 use Rattle.script.specs.Answers.{field, strayLine}
 use borrow.Author.Needs.{needs}
@@ -21,7 +22,14 @@ put-requires c κs = search needs
 
 returns : tie.Need-returns
 unfolding strayLine
-returns c = lined (c .before .before .before .before .before .before .args .out .now) (field "line " (c .before .before .before .before .before .before .args .line) ++ text ": not a call\n") (then-put (c .before .before .before .before .before .before .args .out .now) 0 (field "line " (c .before .before .before .before .before .before .args .line)) (text ": not a call\n") (c .before .before .before .put-field .ensures .0 .0, c .before .before .before .put-field .ensures .1) (c .put .ensures))
+returns c =
+    let s = c .before .before .before .before .before .before .args in
+    let a = c .before .before .before .put-field .ensures in
+    let b = c .put .ensures in
+    let h =
+    line (s .out .now) (field "line " (s .line) ++ text ": not a call\n")
+    (then-put (s .out .now) 0 (field "line " (s .line)) (text ": not a call\n") (a .0 .0, a .1) b) in
+    ((h .0, omega (arith, a .0 .1, b .0)), h .1)
 
 pub print-stray-spec : {M : Type 1} → statement M
 print-stray-spec =

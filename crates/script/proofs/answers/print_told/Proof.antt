@@ -1,6 +1,6 @@
 -- `script::print_told` meets its contract. Assumes nothing.
-use mathlib.Core.List.{_++_}
-use Rattle.script.proofs.Printing.{then-put, put-as, lined, told-zero, told-refused}
+use native.Mathlib.Omega.{arith}
+use Rattle.script.proofs.Printing.{put-as, put-all3, line, told-zero, told-refused}
 use Rattle.script.specs.Text.{text}
 use Rattle.script.specs.Answers.{field, carriedText, toldLine}
 use borrow.Author.Needs.{needs}
@@ -14,7 +14,11 @@ put-requires : tie.Need-put-requires
 put-requires c κs = search needs
 
 returns : tie.Need-returns
-returns c = lined (c .before .before .before .before .before .args .out .now) (toldLine (c .before .before .before .before .before .args .told)) (put-as (c .before .before .before .before .before .args .out .now) 0 (told-zero (c .before .before .before .before .before .args .told) (c .before .before .before .if1 .taken)) (c .put .ensures))
+returns c =
+    let s = c .before .before .before .before .before .args in
+    let a = c .put .ensures in
+    let h = line (s .out .now) (toldLine (s .told)) (put-as (s .out .now) 0 (told-zero (s .told) (c .before .before .before .if1 .taken)) a) in
+    ((h .0, omega (arith, a .0)), h .1)
 
 slice-aggregate-put-field : tie.Need-slice-aggregate-put-field
 slice-aggregate-put-field c = search needs
@@ -35,7 +39,22 @@ put-requires-2 : tie.Need-put-requires-2
 put-requires-2 c κs = search needs
 
 returns-2 : tie.Need-returns-2
-returns-2 c = lined (c .before .before .before .before .before .before .before .before .before .before .before .args .out .now) (toldLine (c .before .before .before .before .before .before .before .before .before .before .before .args .told)) (put-as (c .before .before .before .before .before .before .before .before .before .before .before .args .out .now) 0 (told-refused (c .before .before .before .before .before .before .before .before .before .before .before .args .told) (c .before .before .before .before .before .before .before .before .before .if1 .left)) (then-put (c .before .before .before .before .before .before .before .before .before .before .before .args .out .now) 0 (field "refused " (c .before .before .before .before .before .before .before .before .before .before .before .args .told .number) ++ carriedText (c .before .before .before .before .before .before .before .before .before .before .before .args .told .carried)) (text "\n") (then-put (c .before .before .before .before .before .before .before .before .before .before .before .args .out .now) 0 (field "refused " (c .before .before .before .before .before .before .before .before .before .before .before .args .told .number)) (carriedText (c .before .before .before .before .before .before .before .before .before .before .before .args .told .carried)) (c .before .before .before .before .before .put-field .ensures .0 .0, c .before .before .before .before .before .put-field .ensures .1) (c .before .before .before .put-carried .ensures .0 .0, c .before .before .before .put-carried .ensures .1)) (c .put2 .ensures)))
+returns-2 c =
+    let s = c .before .before .before .before .before .before .before .before .before .before .before .args in
+    let a = c .before .before .before .before .before .put-field .ensures in
+    let b = c .before .before .before .put-carried .ensures in
+    let d = c .put2 .ensures in
+    let h =
+    line (s .out .now) (toldLine (s .told))
+    (put-as (s .out .now) 0 (told-refused (s .told) (c .before .before .before .before .before .before .before .before .before .if1 .left))
+    (put-all3 (s .out .now) 0
+    (field "refused " (s .told .number))
+    (carriedText (s .told .carried))
+    (text "\n")
+    (a .0 .0, a .1)
+    (b .0 .0, b .1)
+    d)) in
+    ((h .0, omega (arith, a .0 .1, b .0 .1, d .0)), h .1)
 
 pub print-told-spec : {M : Type 1} → statement M
 print-told-spec =

@@ -15,7 +15,10 @@ print-told-requires : tie.Need-print-told-requires
 print-told-requires c κs = search needs
 
 returns : tie.Need-returns
-returns c = (c .print-told .ensures .0 ∙ ap (λ (t : Told). length (toldLine t)) (c .before .before .tell .ensures), c .print-told .ensures .1 ∙ ap (λ (t : Told). over (toldLine t) (c .before .before .before .args .out .now)) (c .before .before .tell .ensures))
+returns c =
+    let t = c .before .before .tell .ensures in
+    let a = c .print-told .ensures in
+    ((a .0 .0 ∙ ap (λ (t : Told). length (toldLine t)) t, a .0 .1), a .1 ∙ ap (λ (t : Told). over (toldLine t) (c .before .before .before .args .out .now)) t)
 
 pub print-verdict-spec : {M : Type 1} → statement M
 print-verdict-spec = tie.close (tie.spec tell-requires print-told-requires returns)

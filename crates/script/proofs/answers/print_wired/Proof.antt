@@ -1,58 +1,35 @@
 -- `script::print_wired` meets its contract. Assumes nothing.
-use mathlib.Core.List.{_++_}
-use Rattle.script.proofs.Printing.{then-put, lined}
-use Rattle.script.specs.Text.{text}
-use Rattle.script.specs.Answers.{field, wiredLine}
+use Rattle.script.specs.Answers.{wiredLine}
 use borrow.Author.Needs.{needs}
 use Rattle.script.proofs.answers.print_wired.Statement.{statement}
 use Rattle.script.proofs.answers.print_wired.Tie as tie
 
-slice-aggregate-put-field : tie.Need-slice-aggregate-put-field
-slice-aggregate-put-field c = search needs
+slice-aggregate-print-fields : tie.Need-slice-aggregate-print-fields
+slice-aggregate-print-fields c = search needs
 
-put-field-requires : tie.Need-put-field-requires
-put-field-requires c κs = search needs
+slice-aggregate-print-fields-2 : tie.Need-slice-aggregate-print-fields-2
+slice-aggregate-print-fields-2 c = search needs
 
-slice-aggregate-put-field-2 : tie.Need-slice-aggregate-put-field-2
-slice-aggregate-put-field-2 c = search needs
+slice-aggregate-print-fields-3 : tie.Need-slice-aggregate-print-fields-3
+slice-aggregate-print-fields-3 c = search needs
 
-put-field-requires-2 : tie.Need-put-field-requires-2
-put-field-requires-2 c κs = search needs
+slice-aggregate-print-fields-4 : tie.Need-slice-aggregate-print-fields-4
+slice-aggregate-print-fields-4 c = search needs
 
-slice-aggregate-put-field-3 : tie.Need-slice-aggregate-put-field-3
-slice-aggregate-put-field-3 c = search needs
-
-put-field-requires-3 : tie.Need-put-field-requires-3
-put-field-requires-3 c κs = search needs
-
-slice-aggregate-put-field-4 : tie.Need-slice-aggregate-put-field-4
-slice-aggregate-put-field-4 c = search needs
-
-put-field-requires-4 : tie.Need-put-field-requires-4
-put-field-requires-4 c κs = search needs
-
-slice-aggregate-put : tie.Need-slice-aggregate-put
-slice-aggregate-put c = search needs
-
-put-requires : tie.Need-put-requires
-put-requires c κs = search needs
+print-fields-requires : tie.Need-print-fields-requires
+print-fields-requires c κs = search needs
 
 returns : tie.Need-returns
 unfolding wiredLine
-returns c = lined (c .before .before .before .before .before .before .before .before .before .before .before .before .before .before .before .args .out .now) (field "0 length " (c .before .before .before .before .before .before .before .before .before .before .before .before .before .before .before .args .length) ++ field " runs " (c .before .before .before .before .before .before .before .before .before .before .before .before .before .before .before .args .runs) ++ field " legs " (c .before .before .before .before .before .before .before .before .before .before .before .before .before .before .before .args .legs) ++ field " weighed " (c .before .before .before .before .before .before .before .before .before .before .before .before .before .before .before .args .weighed) ++ text "\n") (then-put (c .before .before .before .before .before .before .before .before .before .before .before .before .before .before .before .args .out .now) 0 (field "0 length " (c .before .before .before .before .before .before .before .before .before .before .before .before .before .before .before .args .length) ++ field " runs " (c .before .before .before .before .before .before .before .before .before .before .before .before .before .before .before .args .runs) ++ field " legs " (c .before .before .before .before .before .before .before .before .before .before .before .before .before .before .before .args .legs) ++ field " weighed " (c .before .before .before .before .before .before .before .before .before .before .before .before .before .before .before .args .weighed)) (text "\n") (then-put (c .before .before .before .before .before .before .before .before .before .before .before .before .before .before .before .args .out .now) 0 (field "0 length " (c .before .before .before .before .before .before .before .before .before .before .before .before .before .before .before .args .length) ++ field " runs " (c .before .before .before .before .before .before .before .before .before .before .before .before .before .before .before .args .runs) ++ field " legs " (c .before .before .before .before .before .before .before .before .before .before .before .before .before .before .before .args .legs)) (field " weighed " (c .before .before .before .before .before .before .before .before .before .before .before .before .before .before .before .args .weighed)) (then-put (c .before .before .before .before .before .before .before .before .before .before .before .before .before .before .before .args .out .now) 0 (field "0 length " (c .before .before .before .before .before .before .before .before .before .before .before .before .before .before .before .args .length) ++ field " runs " (c .before .before .before .before .before .before .before .before .before .before .before .before .before .before .before .args .runs)) (field " legs " (c .before .before .before .before .before .before .before .before .before .before .before .before .before .before .before .args .legs)) (then-put (c .before .before .before .before .before .before .before .before .before .before .before .before .before .before .before .args .out .now) 0 (field "0 length " (c .before .before .before .before .before .before .before .before .before .before .before .before .before .before .before .args .length)) (field " runs " (c .before .before .before .before .before .before .before .before .before .before .before .before .before .before .before .args .runs)) (c .before .before .before .before .before .before .before .before .before .before .before .before .put-field .ensures .0 .0, c .before .before .before .before .before .before .before .before .before .before .before .before .put-field .ensures .1) (c .before .before .before .before .before .before .before .before .before .put-field2 .ensures .0 .0, c .before .before .before .before .before .before .before .before .before .put-field2 .ensures .1)) (c .before .before .before .before .before .before .put-field3 .ensures .0 .0, c .before .before .before .before .before .before .put-field3 .ensures .1)) (c .before .before .before .put-field4 .ensures .0 .0, c .before .before .before .put-field4 .ensures .1)) (c .put .ensures))
+returns c = c .print-fields .ensures
 
 pub print-wired-spec : {M : Type 1} → statement M
 print-wired-spec =
     tie.close
     (tie.spec
-    slice-aggregate-put-field
-    put-field-requires
-    slice-aggregate-put-field-2
-    put-field-requires-2
-    slice-aggregate-put-field-3
-    put-field-requires-3
-    slice-aggregate-put-field-4
-    put-field-requires-4
-    slice-aggregate-put
-    put-requires
+    slice-aggregate-print-fields
+    slice-aggregate-print-fields-2
+    slice-aggregate-print-fields-3
+    slice-aggregate-print-fields-4
+    print-fields-requires
     returns)

@@ -3,7 +3,7 @@ use mathlib.Core.Path.{sym, _∙_, ap}
 use mathlib.Core.List.{_++_}
 use Prim.Native.Nat.{ℕ}
 use native.Mathlib.Omega.{arith}
-use Rattle.script.proofs.Printing.{then-put, put-as, lined, take-least}
+use Rattle.script.proofs.Printing.{put-as, put-all3, line, take-least}
 use Rattle.script.specs.Text.{text}
 use Rattle.script.specs.Answers.{field, hexPart, writtenLine}
 use lib.ListN.{take}
@@ -35,7 +35,22 @@ put-requires c κs = omega (arith, c .before .before .put-lent .ensures .0 .1, c
 
 returns : tie.Need-returns
 unfolding writtenLine
-returns c = lined (c .before .before .before .before .before .before .before .before .before .before .before .args .out .now) (field "0 " (c .before .before .before .before .before .before .before .before .before .before .before .args .bytes) ++ hexPart (take 1024 (c .before .before .before .before .before .before .before .before .before .before .before .args .buffer .now)) ++ text "\n") (then-put (c .before .before .before .before .before .before .before .before .before .before .before .args .out .now) 0 (field "0 " (c .before .before .before .before .before .before .before .before .before .before .before .args .bytes) ++ hexPart (take 1024 (c .before .before .before .before .before .before .before .before .before .before .before .args .buffer .now))) (text "\n") (then-put (c .before .before .before .before .before .before .before .before .before .before .before .args .out .now) 0 (field "0 " (c .before .before .before .before .before .before .before .before .before .before .before .args .bytes)) (hexPart (take 1024 (c .before .before .before .before .before .before .before .before .before .before .before .args .buffer .now))) (c .before .before .before .before .before .before .put-field .ensures .0 .0, c .before .before .before .before .before .before .put-field .ensures .1) (put-as (c .before .before .before .before .before .before .put-field .last .0) (c .before .before .before .before .before .before .put-field .result) (ap hexPart (ap (λ (n : ℕ). take n (c .before .before .before .before .before .before .before .before .before .before .before .args .buffer .now)) (c .before .before .before .before .before .before .before .before .before .least .ensures) ∙ take-least (c .before .before .before .before .before .before .before .before .before .before .before .args .buffer .now) 1024)) (c .before .before .before .put-lent .ensures .0 .0, c .before .before .before .put-lent .ensures .1))) (c .put .ensures))
+returns c =
+    let s = c .before .before .before .before .before .before .before .before .before .before .before .args in
+    let n = c .before .before .before .before .before .before .before .before .before .least .ensures in
+    let a = c .before .before .before .before .before .before .put-field .ensures in
+    let b = c .before .before .before .put-lent .ensures in
+    let d = c .put .ensures in
+    let h =
+    line (s .out .now) (field "0 " (s .bytes) ++ hexPart (take 1024 (s .buffer .now)) ++ text "\n")
+    (put-all3 (s .out .now) 0
+    (field "0 " (s .bytes))
+    (hexPart (take 1024 (s .buffer .now)))
+    (text "\n")
+    (a .0 .0, a .1)
+    (put-as (c .before .before .before .before .before .before .put-field .last .0) (c .before .before .before .before .before .before .put-field .result) (ap hexPart (ap (λ (n : ℕ). take n (s .buffer .now)) n ∙ take-least (s .buffer .now) 1024)) (b .0 .0, b .1))
+    d) in
+    ((h .0, omega (arith, a .0 .1, b .0 .1, d .0)), h .1)
 
 pub print-written-spec : {M : Type 1} → statement M
 print-written-spec =
