@@ -12,4 +12,5 @@ pub mod Again
 pub mod Ascending
 pub mod MapRows
 pub mod Refused
+pub mod Wired
 pub mod Maps

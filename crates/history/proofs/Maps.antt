@@ -1,15 +1,15 @@
 -- Maps across desks: a map written from a seat opens under its job, at any seat of any desk that can take it, with the same pins; a map that was opened,
--- written before any edit of its seat, gives the same bytes. From the round trip of pin maps, Refused and Untouched; assumes nothing.
-use mathlib.Core.Path.{_≡_, refl, ap, _∙_}
-use mathlib.Core.Bool.{Bool, true, not}
+-- written before any accepted edit, undo, redo or closing of its seat, gives the same bytes. From the round trip of pin maps, Refused and Untouched; assumes nothing.
+use mathlib.Core.Path.{_≡_, refl, ap, sym, _∙_}
+use mathlib.Core.Bool.{Bool, true, false, true≢false}
 use mathlib.Core.List.{List, [], _∷_, _++_}
 use Prim.Native.Nat.{ℕ, _<_}
 use native.Mathlib.Omega.{arith}
-use borrow.Author.Tests.{not-true, not-false, eqb-false, leb-false}
+use borrow.Author.Tests.{not-false, eqb-true, eqb-false, leb-false}
 use lib.Dec.{eqb}
 use lib.ListN.{length, take, drop}
 use lib.Seq.{getD-set-same, take-append-seam, drop-append-seam}
-use Rattle.refusal.specs.Tests.{choose}
+use Rattle.refusal.specs.Tests.{both, choose}
 use Rattle.refusal.specs.Refusals.{accepted, turn}
 use Rattle.refusal.specs.declared.Verdict.the-variants.{Accepted}
 use Rattle.refusal.proofs.Tests.{choose-yes}
@@ -28,7 +28,7 @@ use Rattle.desk.specs.Desk.{noSeat, seatOf, openSeat, withSeat, sound, lookAt, 
 use Rattle.desk.proofs.Sound.{eight-seats, pins-lawful}
 use Rattle.history.specs.History.{after}
 use Rattle.history.proofs.Passed.{Opens, opens, writes}
-use Rattle.history.proofs.Untouched.{other-seats-untouched, writing-leaves-the-desk, wiring-leaves-the-desk}
+use Rattle.history.proofs.Untouched.{other-seats-untouched, refused-leaves-the-desk, writing-leaves-the-desk, wiring-leaves-the-desk}
 use Rattle.history.proofs.Refused.{takingRows}
 
 -- The bytes that writing a seat wrote: so many of the lent buffer.
@@ -96,41 +96,61 @@ module _ (d e : Desk) (s t : ℕ) (buffer : List ℕ) (z : accepted (writtenOf d
 
 -- ---- opened, then written
 
--- The call edits nothing at the seat: it names another, or writes a map, or wires.
-abbrev pub noEditAt : ℕ → Call → Bool
-noEditAt s (opening t job map) = not (eqb s t)
-noEditAt s (closing t) = not (eqb s t)
-noEditAt s (placing t p at) = not (eqb s t)
-noEditAt s (moving t p at) = not (eqb s t)
-noEditAt s (removing t p) = not (eqb s t)
-noEditAt s (undoing t) = not (eqb s t)
-noEditAt s (redoing t) = not (eqb s t)
-noEditAt s (writing t room) = true
-noEditAt s (wiring t room) = true
+-- An edit, undo, redo or closing.
+abbrev pub isChange : Call → Bool
+isChange (opening t job map) = false
+isChange (closing t) = true
+isChange (placing t p at) = true
+isChange (moving t p at) = true
+isChange (removing t p) = true
+isChange (undoing t) = true
+isChange (redoing t) = true
+isChange (writing t room) = false
+isChange (wiring t room) = false
 
--- None of the calls edits anything at the seat.
-unfoldable pub NoEdits : ℕ → List Call → Type 0
-NoEdits s [] = Unit {0}
-NoEdits s (c ∷ calls) = (noEditAt s c ≡ true) × NoEdits s calls
+-- On this desk the call is an accepted edit, undo, redo or closing of the seat.
+abbrev pub changesSeat : Desk → ℕ → Call → Bool
+changesSeat d s c = both (eqb s (seatIn c)) (both (accepted (step d c .verdict)) (isChange c))
 
-seat-other : (d : Desk) (c : Call) (s : ℕ) → not (eqb s (seatIn c)) ≡ true → seatOf (step d c .desk) s ≡ seatOf d s
-seat-other d c s e = other-seats-untouched d c s (eqb-false s (seatIn c) (not-true _ e)) .seat
+-- None of the calls, made one after the other from this desk, is an accepted edit, undo, redo or closing of the seat.
+unfoldable pub NoneChanges : Desk → ℕ → List Call → Type 0
+NoneChanges d s [] = Unit {0}
+NoneChanges d s (c ∷ calls) = (changesSeat d s c ≡ false) × NoneChanges (step d c .desk) s calls
 
-seat-unedited : (d : Desk) (c : Call) (s : ℕ) → noEditAt s c ≡ true → seatOf (step d c .desk) s ≡ seatOf d s
-seat-unedited d (opening t job map) s e = seat-other d (opening t job map) s e
-seat-unedited d (closing t) s e = seat-other d (closing t) s e
-seat-unedited d (placing t p at) s e = seat-other d (placing t p at) s e
-seat-unedited d (moving t p at) s e = seat-other d (moving t p at) s e
-seat-unedited d (removing t p) s e = seat-other d (removing t p) s e
-seat-unedited d (undoing t) s e = seat-other d (undoing t) s e
-seat-unedited d (redoing t) s e = seat-other d (redoing t) s e
-seat-unedited d (writing t room) s e = ap (λ (x : Desk). seatOf x s) (writing-leaves-the-desk d t room)
-seat-unedited d (wiring t room) s e = ap (λ (x : Desk). seatOf x s) (wiring-leaves-the-desk d t room)
+-- An accepted call that is none of these leaves the desk as it is: an open seat is not opened again.
+same-accepted : (d : Desk) (c : Call) → seatOf d (seatIn c) .opened ≡ true → accepted (step d c .verdict) ≡ true → isChange c ≡ false
+    → step d c .desk ≡ d
+unfolding step answerOf verdictOf
+same-accepted d (opening t job map) o z n = absurd (true≢false (sym o ∙ opens (lookAt d t) job map z .shown))
+same-accepted d (closing t) o z n = absurd (true≢false n)
+same-accepted d (placing t p at) o z n = absurd (true≢false n)
+same-accepted d (moving t p at) o z n = absurd (true≢false n)
+same-accepted d (removing t p) o z n = absurd (true≢false n)
+same-accepted d (undoing t) o z n = absurd (true≢false n)
+same-accepted d (redoing t) o z n = absurd (true≢false n)
+same-accepted d (writing t room) o z n = writing-leaves-the-desk d t room
+same-accepted d (wiring t room) o z n = wiring-leaves-the-desk d t room
 
-seat-after : (calls : List Call) (d : Desk) (s : ℕ) → NoEdits s calls → seatOf (after d calls) s ≡ seatOf d s
-unfolding NoEdits after
-seat-after [] d s e = refl
-seat-after (c ∷ calls) d s e = seat-after calls (step d c .desk) s (e .1) ∙ seat-unedited d c s (e .0)
+same-by : (d : Desk) (c : Call) (b : Bool) → accepted (step d c .verdict) ≡ b → seatOf d (seatIn c) .opened ≡ true → both b (isChange c) ≡ false
+    → step d c .desk ≡ d
+unfolding both
+same-by d c true z o n = same-accepted d c o z n
+same-by d c false z o n = refused-leaves-the-desk d c z
+
+seat-by : (d : Desk) (c : Call) (s : ℕ) (b : Bool) → eqb s (seatIn c) ≡ b → seatOf d s .opened ≡ true
+    → both b (both (accepted (step d c .verdict)) (isChange c)) ≡ false → seatOf (step d c .desk) s ≡ seatOf d s
+unfolding both
+seat-by d c s true h o n =
+    ap (λ (x : Desk). seatOf x s) (same-by d c (accepted (step d c .verdict)) refl (rw (eqb-true s (seatIn c) h) at o) n)
+seat-by d c s false h o n = other-seats-untouched d c s (eqb-false s (seatIn c) h) .seat
+
+-- A seat that is open stays as it is under these calls.
+seat-after : (calls : List Call) (d : Desk) (s : ℕ) → seatOf d s .opened ≡ true → NoneChanges d s calls → seatOf (after d calls) s ≡ seatOf d s
+unfolding NoneChanges after
+seat-after [] d s o e = refl
+seat-after (c ∷ calls) d s o e =
+    let q : seatOf (step d c .desk) s ≡ seatOf d s = seat-by d c s (eqb s (seatIn c)) refl o (e .0) in
+    seat-after calls (step d c .desk) s (rw q o) (e .1) ∙ q
 
 -- An accepted opening leaves the seat open for the job with the map's pins.
 pub opened-seat : (d : Desk) (s job : ℕ) (map : List ℕ) → accepted (step d (opening s job map) .verdict) ≡ true
@@ -144,15 +164,15 @@ opened-seat d s job map z =
       o .read,
     )
 
--- A map that was opened, written before any edit of its seat, gives the same bytes: whatever calls at other seats, and whatever writings, came between.
+-- A map that was opened, written before any accepted edit, undo, redo or closing of its seat, gives the same bytes: whatever other calls came between.
 pub opened-map-written : (d : Desk) (s job : ℕ) (map buffer : List ℕ) (calls : List Call) → Bytes map
-    → accepted (step d (opening s job map) .verdict) ≡ true → NoEdits s calls
+    → accepted (step d (opening s job map) .verdict) ≡ true → NoneChanges (step d (opening s job map) .desk) s calls
     → accepted (writtenOf (after (step d (opening s job map) .desk) calls) s buffer .verdict) ≡ true
     → bytesFrom (after (step d (opening s job map) .desk) calls) s buffer ≡ map
 opened-map-written d s job map buffer calls b z e w =
     let o = opened-seat d s job map z in
     let q : seatOf (after (step d (opening s job map) .desk) calls) s ≡ openSeat job (readMap map job .pins) =
-    seat-after calls (step d (opening s job map) .desk) s e ∙ o .0 in
+    seat-after calls (step d (opening s job map) .desk) s (ap (λ (x : Seat). x .opened) (o .0)) e ∙ o .0 in
     writing-writes-the-map (after (step d (opening s job map) .desk) calls) s buffer w
     ∙ ap (λ (x : Seat). mapOf (x .job) (x .pins)) q
     ∙ same-bytes job map b (o .1)

@@ -21,7 +21,7 @@ use Rattle.wiring.specs.Bare.{feedOf, bareVerdict, bareOf}
 abbrev pub Alone : Laid → Type 0
 Alone l = accepted (l .wiring .verdict) ≡ false → l ≡ turnedAway (l .wiring .verdict)
 
-turned-by : (t : Bool) (v : Verdict) (l : Laid) → Alone l → Alone (choose t l (turnedAway v))
+pub turned-by : (t : Bool) (v : Verdict) (l : Laid) → Alone l → Alone (choose t l (turnedAway v))
 unfolding choose turnedAway
 turned-by true v l h e = h e
 turned-by false v l h e = refl
