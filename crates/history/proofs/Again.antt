@@ -11,7 +11,6 @@ use lib.Seq.{getD-set-same, set-set, set-getD}
 use Rattle.refusal.specs.Tests.{choose}
 use Rattle.refusal.specs.Refusals.{accepted, turn}
 use Rattle.refusal.specs.declared.Verdict.the-variants.{Accepted}
-use Rattle.refusal.proofs.Tests.{choose-yes}
 use Rattle.drawing.specs.declared.Pin.{Pin}
 use Rattle.drawing.specs.declared.Edit.{Edit}
 use Rattle.drawing.specs.Edits.{made, unmade, makeable, takeable}
@@ -25,6 +24,7 @@ use Rattle.desk.specs.Refusals.{Look, turnedUndoing, turnedRedoing, verdictOf}
 use Rattle.desk.specs.Desk.{noSeat, seatOf, editsOf, withSeat, withPins, sound, lookAt, effect, answerOf, step}
 use Rattle.desk.proofs.Sound.{eight-seats, standing-within, standing-takeable, taken-back-replayable, latest-first, next-first}
 use Rattle.history.proofs.Passed.{undoes, redoes}
+use Rattle.history.proofs.Untouched.{accepted-takes-effect}
 use Rattle.history.proofs.Sounding.{sound-step}
 
 -- Undo and redo are accepted where no row applies.
@@ -40,10 +40,6 @@ redo-accepted l a b c n = rw (a, lt-leb seats (l .seat) b, c, ne-eqb _ _ n)
 step-is : (d : Desk) (c : Call) → answerOf d c ≡ Accepted → step d c ≡ record { desk = effect d c; verdict = Accepted }
 unfolding step accepted choose
 step-is d c e = rw e
-
-desk-is : (d : Desk) (c : Call) → accepted (step d c .verdict) ≡ true → step d c .desk ≡ effect d c
-unfolding step
-desk-is d c z = choose-yes _ _ z
 
 -- A seat changed and changed back.
 seat-back : (q : Seat) (l : List Pin) (n : ℕ) → l ≡ q .pins → n ≡ q .standing → withPins q l n ≡ q
@@ -115,7 +111,7 @@ unfolding step answerOf verdictOf
 redo-after-undo d s z =
     let m = undoes (lookAt d s) z in
     let h : sound d ≡ true = not-false _ (m .0 .unbroken) in
-    let e : step d (undoing s) .desk ≡ effect d (undoing s) = desk-is d (undoing s) z in
+    let e : step d (undoing s) .desk ≡ effect d (undoing s) = accepted-takes-effect d (undoing s) z in
     rw e (redo-undone d s h (m .0 .low) (m .0 .shown) (m .1) (rw e at (sound-step d h (undoing s))))
 
 -- After an accepted redo, undo is accepted and gives the very desk before.
@@ -126,5 +122,5 @@ undo-after-redo d s z =
     let m = redoes (lookAt d s) z in
     let h : sound d ≡ true = not-false _ (m .0 .unbroken) in
     let n : length (editsOf d s) - seatOf d s .standing ≡ 0 → ⊥ = m .1 in
-    let e : step d (redoing s) .desk ≡ effect d (redoing s) = desk-is d (redoing s) z in
+    let e : step d (redoing s) .desk ≡ effect d (redoing s) = accepted-takes-effect d (redoing s) z in
     rw e (undo-redone d s h (m .0 .low) (m .0 .shown) (omega arith) (rw e at (sound-step d h (redoing s))))

@@ -7,6 +7,7 @@ mod Simulation
 mod Steps
 pub mod Demand
 pub mod Untouched
+pub mod Opened
 pub mod Sounding
 pub mod Again
 pub mod Ascending

@@ -10,7 +10,6 @@ use lib.ListN.{length, take, length-append, length-reverse, take-append-drop, Li
 use lib.Seq.{getD-at, length-take-le}
 use Rattle.refusal.specs.Tests.{choose}
 use Rattle.grid.proofs.Flat.{order}
-use Rattle.drawing.specs.declared.Edit.{Edit}
 use Rattle.journal.specs.Journal.{seats, ownedBelow}
 use Rattle.journal.proofs.Own.{same-or-not}
 use Rattle.journal.proofs.Seated.{owned-all}
@@ -23,6 +22,7 @@ use Rattle.history.proofs.Stood.{pinsBefore, Traced, traced}
 use Rattle.history.proofs.Sane.{sane, Sane, sane-tell, sane-history}
 use Rattle.history.proofs.Simulation.{At, Agrees, shown-length, jobs-same}
 use Rattle.history.proofs.Steps.{agrees-sound, step-agrees}
+use Rattle.history.proofs.Opened.{nil-of}
 use Rattle.history.proofs.Demand.{DeskAsTold, seats-as-told, agrees-after, answers-after}
 
 -- What a seat of a desk tells: the pins before its standing edits, these edits, and those taken back.
@@ -41,10 +41,6 @@ abbrev pub historyOf : Desk → List Told
 historyOf d = toldTo seats d
 
 -- ---- one seat
-
-nil-of : (l : List Edit) → length l ≡ 0 → l ≡ []
-nil-of [] h = refl
-nil-of (e ∷ l) h = absurd (omega arith)
 
 module _ (d : Desk) (h : sound d ≡ true) (s : ℕ) (k : s < seats) where
   told-by : (b : Bool) → seatOf d s .opened ≡ b

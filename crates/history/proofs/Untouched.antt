@@ -7,7 +7,7 @@ use Prim.Native.Nat.{ℕ}
 use lib.Seq.{getD-set-other}
 use Rattle.refusal.specs.Tests.{choose}
 use Rattle.refusal.specs.Refusals.{accepted}
-use Rattle.refusal.proofs.Tests.{choose-no}
+use Rattle.refusal.proofs.Tests.{choose-yes, choose-no}
 use Rattle.journal.specs.declared.Record.{Record}
 use Rattle.journal.specs.Journal.{own}
 use Rattle.journal.proofs.Own.{own-other, other-added}
@@ -56,6 +56,11 @@ other-by d e t false u = untouched-by d d t refl refl
 pub other-seats-untouched : (d : Desk) (c : Call) (t : ℕ) → (t ≡ seatIn c → ⊥) → Untouched d (step d c .desk) t
 unfolding step
 other-seats-untouched d c t n = other-by d (effect d c) t (accepted (answerOf d c)) (other-effect d c t n)
+
+-- An accepted call makes of the desk what its effect says.
+pub accepted-takes-effect : (d : Desk) (c : Call) → accepted (step d c .verdict) ≡ true → step d c .desk ≡ effect d c
+unfolding step
+accepted-takes-effect d c e = choose-yes _ _ e
 
 -- A refused call returns the very desk that it was given.
 pub refused-leaves-the-desk : (d : Desk) (c : Call) → accepted (step d c .verdict) ≡ false → step d c .desk ≡ d

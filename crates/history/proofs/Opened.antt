@@ -1,0 +1,277 @@
+-- A seat is open from an accepted opening, with the job and the pins stated there, until an accepted closing; opening begins a new history. On ANY desk.
+-- From the rows of the calls and the definition of a step; assumes nothing.
+use mathlib.Core.Path.{_≡_, refl, ap, sym, _∙_}
+use mathlib.Core.Bool.{Bool, true, false, true≢false}
+use mathlib.Core.List.{List, [], _∷_, reverse}
+use Prim.Native.Nat.{ℕ, zero, suc, _<_}
+use native.Mathlib.Omega.{arith}
+use borrow.Author.Tests.{not-false, eqb-true, eqb-false}
+use lib.Dec.{eqb}
+use lib.ListN.{length, replicate, take, drop, getD, set}
+use lib.Seq.{getD-set-same}
+use Rattle.refusal.specs.Tests.{both, choose}
+use Rattle.refusal.specs.Refusals.{accepted}
+use Rattle.drawing.specs.declared.Pin.{Pin}
+use Rattle.drawing.specs.declared.Edit.{Edit}
+use Rattle.pinmap.specs.Map.{readMap}
+use Rattle.journal.specs.Journal.{seats, own, kept}
+use Rattle.journal.proofs.Own.{own-kept}
+use Rattle.journal.proofs.Filled.{take-filled}
+use Rattle.desk.specs.declared.Seat.{Seat}
+use Rattle.desk.specs.declared.Desk.{Desk}
+use Rattle.desk.specs.Calls.{Call, seatIn, opening, closing, placing, moving, removing, undoing, redoing, writing, wiring}
+use Rattle.desk.specs.Refusals.{verdictOf}
+use Rattle.desk.specs.Desk.{closedSeat, noSeat, seatOf, live, editsOf, standingOf, takenBackOf, openSeat, withPins, sound, lookAt, edited, effect, answerOf, step, emptyDesk}
+use Rattle.desk.proofs.Sound.{eight-seats, closed-owns-none}
+use Rattle.history.specs.History.{after}
+use Rattle.history.proofs.Passed.{Opens, opens, closes, places, moves, removes, undoes, redoes, writes, wires}
+use Rattle.history.proofs.Untouched.{other-seats-untouched, accepted-takes-effect, refused-leaves-the-desk, writing-leaves-the-desk, wiring-leaves-the-desk}
+
+-- ---- calls that leave a seat as it is
+
+-- On this desk the call is an accepted one of these, and names the seat.
+abbrev pub isOneAt : (Call → Bool) → Desk → ℕ → Call → Bool
+isOneAt these d s c = both (eqb s (seatIn c)) (both (accepted (step d c .verdict)) (these c))
+
+-- None of the calls, made one after the other from this desk, is an accepted one of these that names the seat.
+unfoldable pub NoneAt : (Call → Bool) → Desk → ℕ → List Call → Type 0
+NoneAt these d s [] = Unit {0}
+NoneAt these d s (c ∷ calls) = (isOneAt these d s c ≡ false) × NoneAt these (step d c .desk) s calls
+
+-- What every accepted call at its own seat but one of these keeps, stays where none of these comes.
+module _ {A : Type 0} (part : Seat → A) (a : A) (these : Call → Bool)
+    (keeps : (d : Desk) (c : Call) → part (seatOf d (seatIn c)) ≡ a → accepted (step d c .verdict) ≡ true → these c ≡ false
+    → part (seatOf (step d c .desk) (seatIn c)) ≡ a) where
+  stays-here : (d : Desk) (c : Call) (b : Bool) → accepted (step d c .verdict) ≡ b → part (seatOf d (seatIn c)) ≡ a → both b (these c) ≡ false
+      → part (seatOf (step d c .desk) (seatIn c)) ≡ a
+  unfolding both
+  stays-here d c true z p n = keeps d c p z n
+  stays-here d c false z p n = ap (λ (x : Desk). part (seatOf x (seatIn c))) (refused-leaves-the-desk d c z) ∙ p
+
+  stays-by : (d : Desk) (c : Call) (s : ℕ) (b : Bool) → eqb s (seatIn c) ≡ b → part (seatOf d s) ≡ a
+      → both b (both (accepted (step d c .verdict)) (these c)) ≡ false → part (seatOf (step d c .desk) s) ≡ a
+  unfolding both
+  stays-by d c s true h p n =
+      let e : s ≡ seatIn c = eqb-true s (seatIn c) h in
+      rw e (stays-here d c (accepted (step d c .verdict)) refl (rw e at p) n)
+  stays-by d c s false h p n = ap part (other-seats-untouched d c s (eqb-false s (seatIn c) h) .seat) ∙ p
+
+  pub stays : (calls : List Call) (d : Desk) (s : ℕ) → part (seatOf d s) ≡ a → NoneAt these d s calls → part (seatOf (after d calls) s) ≡ a
+  unfolding NoneAt after
+  stays [] d s p n = p
+  stays (c ∷ calls) d s p n = stays calls (step d c .desk) s (stays-by d c s (eqb s (seatIn c)) refl p (n .0)) (n .1)
+
+-- ---- the calls
+
+abbrev pub isOpening : Call → Bool
+isOpening (opening t job map) = true
+isOpening (closing t) = false
+isOpening (placing t p at) = false
+isOpening (moving t p at) = false
+isOpening (removing t p) = false
+isOpening (undoing t) = false
+isOpening (redoing t) = false
+isOpening (writing t room) = false
+isOpening (wiring t room) = false
+
+abbrev pub isClosing : Call → Bool
+isClosing (opening t job map) = false
+isClosing (closing t) = true
+isClosing (placing t p at) = false
+isClosing (moving t p at) = false
+isClosing (removing t p) = false
+isClosing (undoing t) = false
+isClosing (redoing t) = false
+isClosing (writing t room) = false
+isClosing (wiring t room) = false
+
+-- An edit, undo, redo or closing.
+abbrev pub isChange : Call → Bool
+isChange (opening t job map) = false
+isChange (closing t) = true
+isChange (placing t p at) = true
+isChange (moving t p at) = true
+isChange (removing t p) = true
+isChange (undoing t) = true
+isChange (redoing t) = true
+isChange (writing t room) = false
+isChange (wiring t room) = false
+
+-- An open seat is not opened again.
+not-again : {A : Type 0} (d : Desk) (t job : ℕ) (map : List ℕ) → seatOf d t .opened ≡ true → accepted (step d (opening t job map) .verdict) ≡ true → A
+unfolding step answerOf verdictOf
+not-again d t job map o z = absurd (true≢false (sym o ∙ opens (lookAt d t) job map z .shown))
+
+-- ---- open until a closing
+
+-- A seat changed keeps what its new value keeps.
+part-set : {A : Type 0} (part : Seat → A) (l : List Seat) (s : ℕ) (q : Seat) → part q ≡ part (getD l s noSeat)
+    → part (getD (set l s q) s noSeat) ≡ part (getD l s noSeat)
+part-set part [] s q e = refl
+part-set part (r ∷ l) zero q e = e
+part-set part (r ∷ l) (suc s) q e = part-set part l s q e
+
+-- Open, and for which job.
+abbrev openFor : Seat → Bool × ℕ
+openFor q = (q .opened, q .job)
+
+module _ (d : Desk) (c : Call) (z : accepted (step d c .verdict) ≡ true) where
+  here-is : seatOf (step d c .desk) (seatIn c) ≡ seatOf (effect d c) (seatIn c)
+  here-is = ap (λ (x : Desk). seatOf x (seatIn c)) (accepted-takes-effect d c z)
+
+  same-job : (l : List Pin) (n : ℕ) → effect d c .seats ≡ set (d .seats) (seatIn c) (withPins (seatOf d (seatIn c)) l n)
+      → openFor (seatOf (step d c .desk) (seatIn c)) ≡ openFor (seatOf d (seatIn c))
+  same-job l n e = ap openFor (here-is ∙ ap (λ (x : List Seat). getD x (seatIn c) noSeat) e) ∙ part-set openFor (d .seats) (seatIn c) _ refl
+
+keeps-open : (job : ℕ) (d : Desk) (c : Call) → openFor (seatOf d (seatIn c)) ≡ (true, job) → accepted (step d c .verdict) ≡ true → isClosing c ≡ false
+    → openFor (seatOf (step d c .desk) (seatIn c)) ≡ (true, job)
+unfolding effect edited
+keeps-open job d (opening t j map) p z n = not-again d t j map (ap (λ (x : Bool × ℕ). x .0) p) z
+keeps-open job d (closing t) p z n = absurd (true≢false n)
+keeps-open job d (placing t i at) p z n = same-job d (placing t i at) z _ _ refl ∙ p
+keeps-open job d (moving t i at) p z n = same-job d (moving t i at) z _ _ refl ∙ p
+keeps-open job d (removing t i) p z n = same-job d (removing t i) z _ _ refl ∙ p
+keeps-open job d (undoing t) p z n = same-job d (undoing t) z _ _ refl ∙ p
+keeps-open job d (redoing t) p z n = same-job d (redoing t) z _ _ refl ∙ p
+keeps-open job d (writing t room) p z n = ap (λ (x : Desk). openFor (seatOf x t)) (writing-leaves-the-desk d t room) ∙ p
+keeps-open job d (wiring t room) p z n = ap (λ (x : Desk). openFor (seatOf x t)) (wiring-leaves-the-desk d t room) ∙ p
+
+-- A seat that is open stays open, for the same job, until an accepted closing.
+pub open-until-closing : (calls : List Call) (d : Desk) (s : ℕ) → seatOf d s .opened ≡ true → NoneAt isClosing d s calls
+    → (seatOf (after d calls) s .opened ≡ true) × (seatOf (after d calls) s .job ≡ seatOf d s .job)
+open-until-closing calls d s o n =
+    let e : openFor (seatOf (after d calls) s) ≡ (true, seatOf d s .job) =
+    stays openFor (true, seatOf d s .job) isClosing (keeps-open (seatOf d s .job)) calls d s (λ i. (o i, seatOf d s .job)) n in
+    (ap (λ (x : Bool × ℕ). x .0) e, ap (λ (x : Bool × ℕ). x .1) e)
+
+-- ---- as it was until a change
+
+keeps-all : (q : Seat) → q .opened ≡ true → (d : Desk) (c : Call) → seatOf d (seatIn c) ≡ q → accepted (step d c .verdict) ≡ true → isChange c ≡ false
+    → seatOf (step d c .desk) (seatIn c) ≡ q
+keeps-all q o d (opening t job map) p z n = not-again d t job map (ap (λ (x : Seat). x .opened) p ∙ o) z
+keeps-all q o d (closing t) p z n = absurd (true≢false n)
+keeps-all q o d (placing t i at) p z n = absurd (true≢false n)
+keeps-all q o d (moving t i at) p z n = absurd (true≢false n)
+keeps-all q o d (removing t i) p z n = absurd (true≢false n)
+keeps-all q o d (undoing t) p z n = absurd (true≢false n)
+keeps-all q o d (redoing t) p z n = absurd (true≢false n)
+keeps-all q o d (writing t room) p z n = ap (λ (x : Desk). seatOf x t) (writing-leaves-the-desk d t room) ∙ p
+keeps-all q o d (wiring t room) p z n = ap (λ (x : Desk). seatOf x t) (wiring-leaves-the-desk d t room) ∙ p
+
+-- A seat that is open stays as it is until an accepted edit, undo, redo or closing.
+pub same-until-change : (calls : List Call) (d : Desk) (s : ℕ) → seatOf d s .opened ≡ true → NoneAt isChange d s calls
+    → seatOf (after d calls) s ≡ seatOf d s
+same-until-change calls d s o n = stays (λ (q : Seat). q) (seatOf d s) isChange (keeps-all (seatOf d s) o) calls d s refl n
+
+-- ---- closed until an opening
+
+keeps-closed : (d : Desk) (c : Call) → seatOf d (seatIn c) .opened ≡ false → accepted (step d c .verdict) ≡ true → isOpening c ≡ false
+    → seatOf (step d c .desk) (seatIn c) .opened ≡ false
+unfolding step answerOf verdictOf
+keeps-closed d (opening t job map) p z n = absurd (true≢false n)
+keeps-closed d (closing t) p z n = absurd (true≢false (sym (closes (lookAt d t) z .shown) ∙ p))
+keeps-closed d (placing t i at) p z n = absurd (true≢false (sym (places (lookAt d t) i at z .reaches .shown) ∙ p))
+keeps-closed d (moving t i at) p z n = absurd (true≢false (sym (moves (lookAt d t) i at z .reaches .shown) ∙ p))
+keeps-closed d (removing t i) p z n = absurd (true≢false (sym (removes (lookAt d t) i z .reaches .shown) ∙ p))
+keeps-closed d (undoing t) p z n = absurd (true≢false (sym (undoes (lookAt d t) z .0 .shown) ∙ p))
+keeps-closed d (redoing t) p z n = absurd (true≢false (sym (redoes (lookAt d t) z .0 .shown) ∙ p))
+keeps-closed d (writing t room) p z n = absurd (true≢false (sym (writes (lookAt d t) room z .0 .shown) ∙ p))
+keeps-closed d (wiring t room) p z n = absurd (true≢false (sym (wires (lookAt d t) room z .shown) ∙ p))
+
+-- A seat that is closed stays closed until an accepted opening.
+pub closed-until-opening : (calls : List Call) (d : Desk) (s : ℕ) → seatOf d s .opened ≡ false → NoneAt isOpening d s calls
+    → seatOf (after d calls) s .opened ≡ false
+closed-until-opening calls d s o n = stays (λ (q : Seat). q .opened) false isOpening keeps-closed calls d s o n
+
+-- ---- opening and closing
+
+pub nil-of : (l : List Edit) → length l ≡ 0 → l ≡ []
+nil-of [] h = refl
+nil-of (e ∷ l) h = absurd (omega arith)
+
+module _ (d : Desk) (s job : ℕ) (map : List ℕ) (z : accepted (step d (opening s job map) .verdict) ≡ true) where
+  opens-here : Opens (lookAt d s) job map
+  unfolding step answerOf verdictOf
+  opens-here = opens (lookAt d s) job map z
+
+  -- The map of an accepted opening is read.
+  pub opened-map-read : accepted (readMap map job .verdict) ≡ true
+  opened-map-read = opens-here .read
+
+  -- An accepted opening leaves the seat open, with the job and the map's pins;
+  pub opened-seat : seatOf (step d (opening s job map) .desk) s ≡ openSeat job (readMap map job .pins)
+  unfolding effect
+  opened-seat =
+      let h : sound d ≡ true = not-false _ (opens-here .unbroken) in
+      let k : s < length (d .seats) = omega (arith, eight-seats d h, opens-here .low) in
+      here-is d (opening s job map) z ∙ getD-set-same (d .seats) s (openSeat job (readMap map job .pins)) noSeat k
+
+  -- it begins a new history: no edit stands, and none is taken back.
+  pub opened-anew : (standingOf (step d (opening s job map) .desk) s ≡ []) × (takenBackOf (step d (opening s job map) .desk) s ≡ [])
+  unfolding effect
+  opened-anew =
+      let e : editsOf (step d (opening s job map) .desk) s ≡ [] =
+      ap (λ (x : Desk). editsOf x s) (accepted-takes-effect d (opening s job map) z)
+      ∙ nil-of (editsOf d s) (closed-owns-none d (not-false _ (opens-here .unbroken)) s (opens-here .low) (opens-here .shown)) in
+      let n : seatOf (step d (opening s job map) .desk) s .standing ≡ 0 = ap (λ (x : Seat). x .standing) opened-seat in
+      (λ i. reverse (take (n i) (e i)), λ i. drop (n i) (e i))
+
+-- An accepted closing leaves the seat closed, and frees all of its records.
+pub closed-seat : (d : Desk) (s : ℕ) → accepted (step d (closing s) .verdict) ≡ true
+    → (seatOf (step d (closing s) .desk) s ≡ closedSeat) × (editsOf (step d (closing s) .desk) s ≡ [])
+unfolding step answerOf verdictOf effect
+closed-seat d s z =
+    let r = closes (lookAt d s) z in
+    let k : s < length (d .seats) = omega (arith, eight-seats d (not-false _ (r .unbroken)), r .low) in (
+      here-is d (closing s) z ∙ getD-set-same (d .seats) s closedSeat noSeat k,
+      ap (λ (x : Desk). editsOf x s) (accepted-takes-effect d (closing s) z) ∙ ap (own s) (take-filled (kept s 0 (live d))) ∙ own-kept s 0 (live d),
+    )
+
+-- ---- a job has two bytes
+
+-- Each job that the calls state has two bytes: a job is a u16 wherever it enters.
+unfoldable pub JobsFit : List Call → Type 0
+JobsFit [] = Unit {0}
+JobsFit (c ∷ calls) = ((t job : ℕ) (map : List ℕ) → c ≡ opening t job map → job < 65536) × JobsFit calls
+
+job-set : (l : List Seat) (s : ℕ) (q : Seat) → q .job < 65536 → ((t : ℕ) → getD l t noSeat .job < 65536) → (t : ℕ) → getD (set l s q) t noSeat .job < 65536
+job-set [] s q j h t = h t
+job-set (r ∷ l) zero q j h zero = j
+job-set (r ∷ l) zero q j h (suc t) = h (suc t)
+job-set (r ∷ l) (suc s) q j h zero = h zero
+job-set (r ∷ l) (suc s) q j h (suc t) = job-set l s q j (λ u. h (suc u)) t
+
+job-effect : (d : Desk) (c : Call) → ((t job : ℕ) (map : List ℕ) → c ≡ opening t job map → job < 65536)
+    → ((t : ℕ) → seatOf d t .job < 65536) → (t : ℕ) → seatOf (effect d c) t .job < 65536
+unfolding effect edited
+job-effect d (opening s job map) j h = job-set (d .seats) s _ (j s job map refl) h
+job-effect d (closing s) j h = job-set (d .seats) s closedSeat (omega arith) h
+job-effect d (placing s p at) j h = job-set (d .seats) s _ (h s) h
+job-effect d (moving s p at) j h = job-set (d .seats) s _ (h s) h
+job-effect d (removing s p) j h = job-set (d .seats) s _ (h s) h
+job-effect d (undoing s) j h = job-set (d .seats) s _ (h s) h
+job-effect d (redoing s) j h = job-set (d .seats) s _ (h s) h
+job-effect d (writing s room) j h = h
+job-effect d (wiring s room) j h = h
+
+job-by : (b : Bool) (d e : Desk) → ((t : ℕ) → seatOf d t .job < 65536) → ((t : ℕ) → seatOf e t .job < 65536)
+    → (t : ℕ) → seatOf (choose b e d) t .job < 65536
+unfolding choose
+job-by true d e h k = k
+job-by false d e h k = h
+
+job-after : (calls : List Call) (d : Desk) → JobsFit calls → ((t : ℕ) → seatOf d t .job < 65536) → (t : ℕ) → seatOf (after d calls) t .job < 65536
+unfolding JobsFit after step
+job-after [] d j h = h
+job-after (c ∷ calls) d j h =
+    job-after calls (step d c .desk) (j .1) (job-by (accepted (answerOf d c)) d (effect d c) h (job-effect d c (j .0) h))
+
+no-job : (n t : ℕ) → getD (replicate n closedSeat) t noSeat .job ≡ 0
+no-job zero t = refl
+no-job (suc n) zero = refl
+no-job (suc n) (suc t) = no-job n t
+
+-- After such calls from the empty desk each seat's job has two bytes.
+pub job-fits : (calls : List Call) → JobsFit calls → (s : ℕ) → seatOf (after emptyDesk calls) s .job < 65536
+unfolding emptyDesk
+job-fits calls j = job-after calls emptyDesk j (λ t. rw (no-job seats t) (omega arith))
