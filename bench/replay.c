@@ -1,0 +1,688 @@
+// A second `replay`, in plain C, written from the rules alone: it plays a log of calls on one desk and prints each answer.
+// Nothing here is proved. The proved program is compared with it, for its answers and for its time.
+// Built with -DEVERY_CHOICE it finds the shapes by trying every choice, on boards of at most EVERY_CHOICE bent runs.
+#include <stdbool.h>
+#include <stdint.h>
+#include <stdio.h>
+#include <stdlib.h>
+#include <string.h>
+
+enum { SEATS = 8, PINS = 32, RECORDS = 256, BOARD = 20000, RECORD_BYTES = 12, MAP_BYTES = 384, LEGS = 2 * (PINS - 1) };
+enum { LINE_BYTES = 16384, MAP_PAIRS = 4200, LIST_NUMBERS = 40, WRITE_ROOM = 1024, WIRE_ROOM = 64 };
+
+typedef struct { int32_t x, y; } Place;
+typedef struct { bool there; Place at; } Pin;
+typedef enum { PLACED, MOVED, REMOVED } Kind;
+typedef struct { Kind kind; uint32_t pin; Place from, to; } Edit;
+typedef struct { uint32_t seat; Edit edit; } Record;
+typedef struct { bool open; uint16_t job; unsigned standing; Pin pins[PINS]; } Seat;
+typedef struct { Seat seats[SEATS]; unsigned used; Record records[RECORDS]; } Desk;
+typedef struct { int number, record; } Verdict;
+
+static const Verdict accepted = {0, -1};
+
+static Verdict refused(int number) { return (Verdict){number, -1}; }
+
+// ---- Places and edits ----
+
+static bool same(Place a, Place b) { return a.x == b.x && a.y == b.y; }
+
+static bool outside(Place at) { return at.x < -BOARD || at.x > BOARD || at.y < -BOARD || at.y > BOARD; }
+
+static bool taken(const Pin *pins, Place at) {
+    for (int p = 0; p < PINS; p++)
+        if (pins[p].there && same(pins[p].at, at)) return true;
+    return false;
+}
+
+static bool makeable(const Pin *pins, const Edit *edit) {
+    if (edit->pin >= PINS) return false;
+    const Pin *pin = &pins[edit->pin];
+    if (edit->kind == PLACED) return !pin->there && !outside(edit->to) && !taken(pins, edit->to);
+    if (!pin->there || !same(pin->at, edit->from)) return false;
+    return edit->kind == REMOVED || (!outside(edit->to) && !taken(pins, edit->to));
+}
+
+static void make(Pin *pins, const Edit *edit) {
+    pins[edit->pin] = edit->kind == REMOVED ? (Pin){false, {0, 0}} : (Pin){true, edit->to};
+}
+
+// The edit that takes an edit back.
+static Edit flipped(const Edit *edit) {
+    Edit back = {edit->kind, edit->pin, edit->to, edit->from};
+    if (edit->kind == PLACED) back.kind = REMOVED;
+    if (edit->kind == REMOVED) back.kind = PLACED;
+    return back;
+}
+
+// ---- The desk ----
+
+static bool pins_break_rules(const Pin *pins) {
+    for (int p = 0; p < PINS; p++) {
+        if (!pins[p].there) continue;
+        if (outside(pins[p].at)) return true;
+        for (int q = 0; q < p; q++)
+            if (pins[q].there && same(pins[p].at, pins[q].at)) return true;
+    }
+    return false;
+}
+
+// The records of a seat, in the order in which they were made.
+static unsigned owned_by(const Desk *desk, uint32_t seat, const Edit **own) {
+    unsigned n = 0;
+    for (unsigned r = 0; r < desk->used; r++)
+        if (desk->records[r].seat == seat) own[n++] = &desk->records[r].edit;
+    return n;
+}
+
+static bool history_breaks(const Seat *seat, const Edit **own, unsigned n) {
+    Pin pins[PINS];
+    memcpy(pins, seat->pins, sizeof pins);
+    for (unsigned e = seat->standing; e-- > 0;) {
+        Edit back = flipped(own[e]);
+        if (!makeable(pins, &back)) return true;
+        make(pins, &back);
+        if (!makeable(pins, own[e])) return true;
+    }
+    memcpy(pins, seat->pins, sizeof pins);
+    for (unsigned e = seat->standing; e < n; e++) {
+        if (!makeable(pins, own[e])) return true;
+        make(pins, own[e]);
+    }
+    return false;
+}
+
+static bool job_elsewhere(const Desk *desk, uint16_t job, uint32_t seat) {
+    for (uint32_t s = 0; s < SEATS; s++)
+        if (s != seat && desk->seats[s].open && desk->seats[s].job == job) return true;
+    return false;
+}
+
+static bool broken(const Desk *desk) {
+    if (desk->used > RECORDS) return true;
+    for (unsigned r = 0; r < desk->used; r++)
+        if (desk->records[r].seat >= SEATS) return true;
+    for (uint32_t s = 0; s < SEATS; s++) {
+        const Seat *seat = &desk->seats[s];
+        const Edit *own[RECORDS];
+        unsigned n = owned_by(desk, s, own);
+        if (!seat->open) {
+            if (n) return true;
+            continue;
+        }
+        if (seat->job == 0 || job_elsewhere(desk, seat->job, s) || seat->standing > n) return true;
+        if (pins_break_rules(seat->pins) || history_breaks(seat, own, n)) return true;
+    }
+    return false;
+}
+
+// What every call naming a seat but opening is refused for first: 28, 1, 2.
+static Verdict seat_refusal(const Desk *desk, uint32_t seat) {
+    if (broken(desk)) return refused(28);
+    if (seat >= SEATS) return refused(1);
+    return desk->seats[seat].open ? accepted : refused(2);
+}
+
+// ---- The pin map ----
+
+static uint32_t number_at(const uint8_t *b) { return (uint32_t)b[0] << 24 | (uint32_t)b[1] << 16 | (uint32_t)b[2] << 8 | b[3]; }
+
+static Verdict read_map(const uint8_t *map, size_t bytes, uint16_t job, Pin *pins) {
+    if (bytes % RECORD_BYTES || bytes > MAP_BYTES) return refused(13);
+    int before = -1;
+    for (size_t r = 0; r < bytes / RECORD_BYTES; r++) {
+        const uint8_t *b = map + r * RECORD_BYTES;
+        Place at = {(int32_t)number_at(b + 4), (int32_t)number_at(b + 8)};
+        if ((b[0] << 8 | b[1]) != job) return (Verdict){14, (int)r};
+        if (b[2] >= PINS || b[2] <= before || b[3] != 0 || outside(at) || taken(pins, at)) return (Verdict){15, (int)r};
+        pins[b[2]] = (Pin){true, at};
+        before = b[2];
+    }
+    return accepted;
+}
+
+static void put_number(uint8_t *b, uint32_t n) {
+    b[0] = n >> 24, b[1] = n >> 16, b[2] = n >> 8, b[3] = n;
+}
+
+static size_t write_map(const Seat *seat, uint8_t *buffer) {
+    size_t n = 0;
+    for (int p = 0; p < PINS; p++) {
+        if (!seat->pins[p].there) continue;
+        uint8_t *b = buffer + n;
+        b[0] = seat->job >> 8, b[1] = seat->job & 255, b[2] = p, b[3] = 0;
+        put_number(b + 4, (uint32_t)seat->pins[p].at.x);
+        put_number(b + 8, (uint32_t)seat->pins[p].at.y);
+        n += RECORD_BYTES;
+    }
+    return n;
+}
+
+static unsigned pins_there(const Pin *pins) {
+    unsigned n = 0;
+    for (int p = 0; p < PINS; p++) n += pins[p].there;
+    return n;
+}
+
+// ---- Calls that change the desk ----
+
+static Verdict open_seat(Desk *desk, uint32_t seat, uint16_t job, const uint8_t *map, size_t bytes) {
+    if (broken(desk)) return refused(28);
+    if (seat >= SEATS) return refused(1);
+    if (desk->seats[seat].open) return refused(3);
+    if (job == 0) return refused(4);
+    if (job_elsewhere(desk, job, seat)) return refused(5);
+    Seat opened = {.open = true, .job = job};
+    Verdict v = read_map(map, bytes, job, opened.pins);
+    if (v.number == 0) desk->seats[seat] = opened;
+    return v;
+}
+
+// Frees the records of a seat after its first `kept`.
+static void free_records(Desk *desk, uint32_t seat, unsigned kept) {
+    unsigned n = 0, own = 0;
+    for (unsigned r = 0; r < desk->used; r++)
+        if (desk->records[r].seat != seat || own++ < kept) desk->records[n++] = desk->records[r];
+    desk->used = n;
+}
+
+static Verdict close_seat(Desk *desk, uint32_t seat) {
+    Verdict v = seat_refusal(desk, seat);
+    if (v.number) return v;
+    free_records(desk, seat, 0);
+    desk->seats[seat] = (Seat){0};
+    return accepted;
+}
+
+// The last test of an edit, 12, and the edit made.
+static Verdict record_edit(Desk *desk, uint32_t seat, Edit edit) {
+    Seat *s = &desk->seats[seat];
+    const Edit *own[RECORDS];
+    if (desk->used - (owned_by(desk, seat, own) - s->standing) == RECORDS) return refused(12);
+    free_records(desk, seat, s->standing);
+    desk->records[desk->used++] = (Record){seat, edit};
+    s->standing++;
+    make(s->pins, &edit);
+    return accepted;
+}
+
+static Verdict place_pin(Desk *desk, uint32_t seat, uint32_t pin, Place at) {
+    Verdict v = seat_refusal(desk, seat);
+    if (v.number) return v;
+    const Pin *pins = desk->seats[seat].pins;
+    if (pin >= PINS) return refused(6);
+    if (pins[pin].there) return refused(7);
+    if (outside(at)) return refused(8);
+    if (taken(pins, at)) return refused(9);
+    return record_edit(desk, seat, (Edit){PLACED, pin, {0, 0}, at});
+}
+
+static Verdict move_pin(Desk *desk, uint32_t seat, uint32_t pin, Place at) {
+    Verdict v = seat_refusal(desk, seat);
+    if (v.number) return v;
+    const Pin *pins = desk->seats[seat].pins;
+    if (pin >= PINS || !pins[pin].there) return refused(6);
+    if (outside(at)) return refused(8);
+    if (taken(pins, at)) return refused(9);
+    return record_edit(desk, seat, (Edit){MOVED, pin, pins[pin].at, at});
+}
+
+static Verdict remove_pin(Desk *desk, uint32_t seat, uint32_t pin) {
+    Verdict v = seat_refusal(desk, seat);
+    if (v.number) return v;
+    const Pin *pins = desk->seats[seat].pins;
+    if (pin >= PINS || !pins[pin].there) return refused(6);
+    return record_edit(desk, seat, (Edit){REMOVED, pin, pins[pin].at, {0, 0}});
+}
+
+static Verdict undo(Desk *desk, uint32_t seat) {
+    Verdict v = seat_refusal(desk, seat);
+    if (v.number) return v;
+    Seat *s = &desk->seats[seat];
+    if (s->standing == 0) return refused(10);
+    const Edit *own[RECORDS];
+    owned_by(desk, seat, own);
+    Edit back = flipped(own[--s->standing]);
+    make(s->pins, &back);
+    return accepted;
+}
+
+static Verdict redo(Desk *desk, uint32_t seat) {
+    Verdict v = seat_refusal(desk, seat);
+    if (v.number) return v;
+    Seat *s = &desk->seats[seat];
+    const Edit *own[RECORDS];
+    if (owned_by(desk, seat, own) == s->standing) return refused(11);
+    make(s->pins, own[s->standing++]);
+    return accepted;
+}
+
+// ---- Wiring ----
+
+typedef enum { STRAIGHT, LOWER, UPPER } Shape;
+typedef struct { int near, far; Shape shape; } Run;
+typedef struct { Place a, b; } Leg;
+typedef struct { int64_t length; int runs, legs; int64_t weighed; Run run[PINS - 1]; Leg leg[LEGS]; } Wiring;
+typedef struct { int64_t distance, minus_dy, minus_x; int low, high; } Weight;
+
+static int64_t gap(int32_t a, int32_t b) { return llabs((int64_t)a - b); }
+
+static Weight weigh(const Pin *pins, int p, int q) {
+    Place a = pins[p].at, b = pins[q].at;
+    return (Weight){gap(a.x, b.x) + gap(a.y, b.y), -gap(a.y, b.y), -(a.x > b.x ? a.x : b.x), p < q ? p : q, p < q ? q : p};
+}
+
+static bool before(Weight v, Weight w) {
+    if (v.distance != w.distance) return v.distance < w.distance;
+    if (v.minus_dy != w.minus_dy) return v.minus_dy < w.minus_dy;
+    if (v.minus_x != w.minus_x) return v.minus_x < w.minus_x;
+    return v.low != w.low ? v.low < w.low : v.high < w.high;
+}
+
+static bool bent(const Pin *pins, const Run *run) {
+    Place a = pins[run->near].at, b = pins[run->far].at;
+    return a.x != b.x && a.y != b.y;
+}
+
+// The runs as they are taken, growing from the lowest-numbered pin; at least one pin is there.
+static int grow(const Pin *pins, Run *run) {
+    bool reached[PINS] = {false};
+    int link[PINS], n = 0, latest = 0;
+    Weight best[PINS];
+    while (!pins[latest].there) latest++;
+    int first = latest;
+    for (;;) {
+        reached[latest] = true;
+        int next = -1;
+        for (int q = 0; q < PINS; q++) {
+            if (!pins[q].there || reached[q]) continue;
+            Weight w = weigh(pins, latest, q);
+            if (latest == first || before(w, best[q])) best[q] = w, link[q] = latest;
+            if (next < 0 || before(best[q], best[next])) next = q;
+        }
+        if (next < 0) return n;
+        run[n] = (Run){link[next], next, STRAIGHT};
+        if (bent(pins, &run[n])) run[n].shape = LOWER;
+        n++;
+        latest = next;
+    }
+}
+
+static bool ranges_meet(int32_t a, int32_t b, int32_t c, int32_t d) {
+    return (a < b ? a : b) <= (c < d ? d : c) && (c < d ? c : d) <= (a < b ? b : a);
+}
+
+static bool boxes_meet(const Pin *pins, const Run *run, int n) {
+    for (int i = 0; i < n; i++)
+        for (int j = 0; j < i; j++) {
+            Run r = run[i], s = run[j];
+            if (r.near == s.near || r.near == s.far || r.far == s.near || r.far == s.far) continue;
+            Place a = pins[r.near].at, b = pins[r.far].at, c = pins[s.near].at, d = pins[s.far].at;
+            if (ranges_meet(a.x, b.x, c.x, d.x) && ranges_meet(a.y, b.y, c.y, d.y)) return true;
+        }
+    return false;
+}
+
+static Place corner(Place a, Place b, Shape shape) {
+    bool at_b = shape == LOWER ? b.y < a.y : b.y > a.y;
+    return at_b ? (Place){a.x, b.y} : (Place){b.x, a.y};
+}
+
+static int lay_legs(const Pin *pins, const Run *run, int n, Leg *leg) {
+    int legs = 0;
+    for (int i = 0; i < n; i++) {
+        Place a = pins[run[i].near].at, b = pins[run[i].far].at;
+        if (run[i].shape != STRAIGHT) {
+            Place c = corner(a, b, run[i].shape);
+            leg[legs++] = (Leg){a, c};
+            a = c;
+        }
+        leg[legs++] = (Leg){a, b};
+    }
+    return legs;
+}
+
+// A leg as a stretch of a line: which line, and where on it.
+typedef struct { bool upright; int32_t line, from, to; } Stretch;
+
+static int in_order(const void *a, const void *b) {
+    const Stretch *s = a, *t = b;
+    if (s->upright != t->upright) return s->upright ? 1 : -1;
+    if (s->line != t->line) return s->line < t->line ? -1 : 1;
+    return s->from < t->from ? -1 : s->from > t->from;
+}
+
+// The unit steps covered by at least one leg, each counted once.
+static int64_t length_of(const Leg *leg, int legs) {
+    Stretch s[LEGS];
+    for (int i = 0; i < legs; i++) {
+        Place a = leg[i].a, b = leg[i].b;
+        bool upright = a.x == b.x;
+        int32_t f = upright ? a.y : a.x, t = upright ? b.y : b.x;
+        s[i] = (Stretch){upright, upright ? a.x : a.y, f < t ? f : t, f < t ? t : f};
+    }
+    qsort(s, legs, sizeof *s, in_order);
+    int64_t length = 0;
+    int32_t end = 0;
+    for (int i = 0; i < legs; i++) {
+        if (i == 0 || s[i].upright != s[i - 1].upright || s[i].line != s[i - 1].line || s[i].from > end) end = s[i].from;
+        if (s[i].to > end) length += s[i].to - end, end = s[i].to;
+    }
+    return length;
+}
+
+// How far the copper of a run from `at` to `other` leaves `at` straight on: to the right, up, to the left, down.
+typedef struct { int way; int64_t reach; } Arm;
+
+static Arm arm(Place at, Place other, Shape shape) {
+    Place to = shape == STRAIGHT ? other : corner(at, other, shape);
+    if (to.x != at.x) return (Arm){to.x > at.x ? 0 : 2, gap(to.x, at.x)};
+    return (Arm){to.y > at.y ? 1 : 3, gap(to.y, at.y)};
+}
+
+// A cost is a length and a choice of shapes in one number: the length above, below it a bit for each run, the first run's highest, set for upper.
+// Costs of parts add up, and the least cost is the least length with the first choice among equals.
+enum { CHOICE_BITS = 32 };
+
+static uint64_t upper_bit(int run) { return (uint64_t)1 << (CHOICE_BITS - 1 - run); }
+
+// What lies below a pin costs, given the shape of the run that reached it (-1: none did): the best over the shapes of the runs leading on.
+static uint64_t pin_cost(const Pin *pins, const Run *run, int n, int pin, int reach, Shape reach_shape, uint64_t below[][3]) {
+    int on[PINS], count = 0, bends = 0, bend[PINS];
+    for (int r = 0; r < n; r++)
+        if (run[r].near == pin) {
+            bend[count] = run[r].shape == STRAIGHT ? -1 : bends++;
+            on[count++] = r;
+        }
+    uint64_t best = UINT64_MAX;
+    for (uint32_t choice = 0; choice < (uint32_t)1 << bends; choice++) {
+        int64_t longest[4] = {0};
+        uint64_t cost = 0, sum = 0;
+        if (reach >= 0) {
+            Arm a = arm(pins[pin].at, pins[run[reach].near].at, reach_shape);
+            longest[a.way] = a.reach;
+        }
+        for (int i = 0; i < count; i++) {
+            const Run *r = &run[on[i]];
+            Shape shape = bend[i] < 0 ? STRAIGHT : choice >> bend[i] & 1 ? UPPER : LOWER;
+            Place near = pins[r->near].at, far = pins[r->far].at;
+            Arm a = arm(near, far, shape);
+            int64_t shared = a.reach < longest[a.way] ? a.reach : longest[a.way];
+            if (a.reach > longest[a.way]) longest[a.way] = a.reach;
+            sum += gap(near.x, far.x) + gap(near.y, far.y) - shared;
+            cost += below[on[i]][shape] + (shape == UPPER ? upper_bit(on[i]) : 0);
+        }
+        cost += sum << CHOICE_BITS;
+        if (cost < best) best = cost;
+    }
+    return best;
+}
+
+// The shapes of least length, the first among equals; later runs hang below earlier ones, so the last is asked first.
+static int64_t choose_shapes(const Pin *pins, Run *run, int n) {
+    uint64_t below[PINS][3] = {0};
+    for (int r = n - 1; r >= 0; r--) {
+        if (run[r].shape == STRAIGHT)
+            below[r][STRAIGHT] = pin_cost(pins, run, n, run[r].far, r, STRAIGHT, below);
+        else
+            for (Shape s = LOWER; s <= UPPER; s++) below[r][s] = pin_cost(pins, run, n, run[r].far, r, s, below);
+    }
+    uint64_t best = n ? pin_cost(pins, run, n, run[0].near, -1, STRAIGHT, below) : 0;
+    for (int r = 0; r < n; r++)
+        if (run[r].shape != STRAIGHT) run[r].shape = best & upper_bit(r) ? UPPER : LOWER;
+    return best >> CHOICE_BITS;
+}
+
+#ifdef EVERY_CHOICE
+// The same by the rule's own words: every choice in order, lower before upper, kept where it is shorter.
+static void try_every_choice(const Pin *pins, Run *run, int n) {
+    int bends[PINS], count = 0;
+    for (int r = 0; r < n; r++)
+        if (run[r].shape != STRAIGHT) bends[count++] = r;
+    if (count > EVERY_CHOICE) return;
+    int64_t least = INT64_MAX;
+    Run kept[PINS];
+    for (uint32_t choice = 0; choice < (uint32_t)1 << count; choice++) {
+        Leg leg[LEGS];
+        for (int i = 0; i < count; i++) run[bends[i]].shape = choice >> (count - 1 - i) & 1 ? UPPER : LOWER;
+        int64_t length = length_of(leg, lay_legs(pins, run, n, leg));
+        if (length < least) least = length, memcpy(kept, run, n * sizeof *run);
+    }
+    memcpy(run, kept, n * sizeof *run);
+}
+#endif
+
+// A sum over pins: 2 to the power of the bent runs leading on, doubled if the run that reached the pin is bent.
+static int64_t choices_weighed(const Pin *pins, const Run *run, int n) {
+    int64_t sum = 0;
+    for (int p = 0; p < PINS; p++) {
+        if (!pins[p].there) continue;
+        int64_t product = 1;
+        for (int r = 0; r < n; r++)
+            if (run[r].shape != STRAIGHT && (run[r].near == p || run[r].far == p)) product *= 2;
+        sum += product;
+    }
+    return sum;
+}
+
+// Wires the pins: 17, 18, 19.
+static Verdict wire_pins(const Pin *pins, unsigned room, Wiring *w) {
+    if (pins_there(pins) == 0) return refused(17);
+    w->runs = grow(pins, w->run);
+    if (boxes_meet(pins, w->run, w->runs)) return refused(18);
+    int64_t length = choose_shapes(pins, w->run, w->runs);
+#ifdef EVERY_CHOICE
+    try_every_choice(pins, w->run, w->runs);
+#endif
+    w->legs = lay_legs(pins, w->run, w->runs, w->leg);
+    if ((unsigned)w->legs > room) return refused(19);
+    w->length = length_of(w->leg, w->legs);
+    if (w->length != length) fprintf(stderr, "the sum over pins is not the length\n"), exit(1);
+    w->weighed = choices_weighed(pins, w->run, w->runs);
+    return accepted;
+}
+
+static Verdict wire_seat(const Desk *desk, uint32_t seat, unsigned room, Wiring *w) {
+    Verdict v = seat_refusal(desk, seat);
+    return v.number ? v : wire_pins(desk->seats[seat].pins, room, w);
+}
+
+static Verdict wire_bare(const int32_t *xs, unsigned x_count, const int32_t *ys, unsigned y_count, unsigned room, Wiring *w) {
+    Pin pins[PINS] = {0};
+    if (x_count != y_count || x_count > PINS) return refused(16);
+    for (unsigned i = 0; i < x_count; i++) pins[i] = (Pin){true, {xs[i], ys[i]}};
+    if (x_count == 0) return refused(17);
+    for (unsigned i = 0; i < x_count; i++)
+        if (outside(pins[i].at)) return refused(8);
+    if (pins_break_rules(pins)) return refused(9);
+    return wire_pins(pins, room, w);
+}
+
+// ---- Lines read ----
+
+typedef struct { const uint8_t *at; size_t bytes; } Word;
+
+static bool is(Word w, const char *text) { return w.bytes == strlen(text) && memcmp(w.at, text, w.bytes) == 0; }
+
+// One or more digits, with a value of at most `most`.
+static bool read_digits(Word w, uint64_t most, uint64_t *value) {
+    *value = 0;
+    for (size_t i = 0; i < w.bytes; i++) {
+        if (w.at[i] < '0' || w.at[i] > '9') return false;
+        *value = *value * 10 + (w.at[i] - '0');
+        if (*value > most) return false;
+    }
+    return w.bytes > 0;
+}
+
+static bool read_signed(Word w, int32_t *value) {
+    uint64_t size;
+    bool minus = w.bytes > 0 && w.at[0] == '-';
+    if (minus) w.at++, w.bytes--;
+    if (!read_digits(w, minus ? 2147483648u : 2147483647u, &size)) return false;
+    *value = (int32_t)(minus ? -(int64_t)size : (int64_t)size);
+    return true;
+}
+
+static bool read_list(Word w, int32_t *list, unsigned *count) {
+    *count = 0;
+    if (is(w, "-")) return true;
+    for (size_t i = 0; i <= w.bytes; i++) {
+        Word number = {w.at + i, 0};
+        while (i < w.bytes && w.at[i] != ',') i++, number.bytes++;
+        if (*count == LIST_NUMBERS || !read_signed(number, &list[*count])) return false;
+        ++*count;
+    }
+    return true;
+}
+
+static int hex_digit(uint8_t c) {
+    if (c >= '0' && c <= '9') return c - '0';
+    if (c >= 'a' && c <= 'f') return c - 'a' + 10;
+    return c >= 'A' && c <= 'F' ? c - 'A' + 10 : -1;
+}
+
+static bool read_hex(Word w, uint8_t *map, size_t *bytes) {
+    *bytes = 0;
+    if (is(w, "-")) return true;
+    if (w.bytes == 0 || w.bytes % 2 || w.bytes / 2 > MAP_PAIRS) return false;
+    for (; *bytes < w.bytes / 2; ++*bytes) {
+        int high = hex_digit(w.at[2 * *bytes]), low = hex_digit(w.at[2 * *bytes + 1]);
+        if (high < 0 || low < 0) return false;
+        map[*bytes] = high << 4 | low;
+    }
+    return true;
+}
+
+// ---- Answers printed ----
+
+static bool print_verdict(Verdict v) {
+    if (v.number == 0) puts("0");
+    else if (v.record < 0) printf("refused %d\n", v.number);
+    else printf("refused %d record %d\n", v.number, v.record);
+    return true;
+}
+
+static bool print_wiring(Verdict v, const Wiring *w) {
+    static const char *word[] = {"straight", "lower", "upper"};
+    if (v.number) return print_verdict(v);
+    printf("0 length %lld runs %d legs %d weighed %lld\n", (long long)w->length, w->runs, w->legs, (long long)w->weighed);
+    for (int i = 0; i < w->runs; i++) printf("%d %d %s\n", w->run[i].near, w->run[i].far, word[w->run[i].shape]);
+    for (int i = 0; i < w->legs; i++) printf("leg %d %d %d %d\n", w->leg[i].a.x, w->leg[i].a.y, w->leg[i].b.x, w->leg[i].b.y);
+    return true;
+}
+
+static bool print_written(const Desk *desk, uint32_t seat, unsigned room) {
+    uint8_t buffer[WRITE_ROOM];
+    Verdict v = seat_refusal(desk, seat);
+    if (v.number) return print_verdict(v);
+    if (pins_there(desk->seats[seat].pins) * RECORD_BYTES > room) return print_verdict(refused(19));
+    memset(buffer, 0xEE, room);
+    printf("0 %zu%s", write_map(&desk->seats[seat], buffer), room ? " " : "");
+    for (unsigned i = 0; i < room; i++) printf("%02x", buffer[i]);
+    putchar('\n');
+    return true;
+}
+
+static bool print_pins(const Desk *desk, uint32_t seat) {
+    if (broken(desk)) return print_verdict(refused(28));
+    if (seat >= SEATS) return print_verdict(refused(1));
+    const Seat *s = &desk->seats[seat];
+    if (!s->open) return puts("closed"), true;
+    const Edit *own[RECORDS];
+    printf("job %u pins %u standing %u taken %u\n", s->job, pins_there(s->pins), s->standing, owned_by(desk, seat, own) - s->standing);
+    for (int p = 0; p < PINS; p++)
+        if (s->pins[p].there) printf("pin %d %d %d\n", p, s->pins[p].at.x, s->pins[p].at.y);
+    return true;
+}
+
+// ---- A log played ----
+
+enum { WORDS = 5 };
+
+static bool play_bare(const Word *word) {
+    int32_t xs[LIST_NUMBERS], ys[LIST_NUMBERS];
+    unsigned x_count, y_count;
+    uint64_t room;
+    Wiring w;
+    if (!read_digits(word[1], WIRE_ROOM, &room) || !read_list(word[2], xs, &x_count) || !read_list(word[3], ys, &y_count)) return false;
+    Verdict v = wire_bare(xs, x_count, ys, y_count, room, &w);
+    return print_wiring(v, &w);
+}
+
+static bool play_open(Desk *desk, uint32_t seat, const Word *word) {
+    static uint8_t map[MAP_PAIRS];
+    size_t bytes;
+    uint64_t job;
+    if (!read_digits(word[2], 65535, &job) || !read_hex(word[3], map, &bytes)) return false;
+    return print_verdict(open_seat(desk, seat, job, map, bytes));
+}
+
+static bool play_wire(const Desk *desk, uint32_t seat, Word room_word) {
+    uint64_t room;
+    Wiring w;
+    if (!read_digits(room_word, WIRE_ROOM, &room)) return false;
+    Verdict v = wire_seat(desk, seat, room, &w);
+    return print_wiring(v, &w);
+}
+
+// Plays a call and prints its answer; false where the words are not a call.
+static bool play_words(Desk *desk, const Word *word, int words) {
+    uint64_t seat, n;
+    Place at;
+    if (words == 4 && is(word[0], "bare")) return play_bare(word);
+    if (words < 2 || !read_digits(word[1], UINT32_MAX, &seat)) return false;
+    if (words == 2) {
+        if (is(word[0], "close")) return print_verdict(close_seat(desk, seat));
+        if (is(word[0], "undo")) return print_verdict(undo(desk, seat));
+        if (is(word[0], "redo")) return print_verdict(redo(desk, seat));
+        return is(word[0], "pins") && print_pins(desk, seat);
+    }
+    if (words == 3) {
+        if (is(word[0], "remove")) return read_digits(word[2], UINT32_MAX, &n) && print_verdict(remove_pin(desk, seat, n));
+        if (is(word[0], "write")) return read_digits(word[2], WRITE_ROOM, &n) && print_written(desk, seat, n);
+        return is(word[0], "wire") && play_wire(desk, seat, word[2]);
+    }
+    if (words == 4) return is(word[0], "open") && play_open(desk, seat, word);
+    if (!read_digits(word[2], UINT32_MAX, &n) || !read_signed(word[3], &at.x) || !read_signed(word[4], &at.y)) return false;
+    if (is(word[0], "place")) return print_verdict(place_pin(desk, seat, n, at));
+    return is(word[0], "move") && print_verdict(move_pin(desk, seat, n, at));
+}
+
+// True where the line is skipped or played.
+static bool play_line(Desk *desk, const uint8_t *line, size_t bytes) {
+    Word word[WORDS];
+    int words = 0;
+    if (bytes > LINE_BYTES) return false;
+    for (size_t i = 0; i < bytes;) {
+        if (line[i] == ' ') {
+            i++;
+            continue;
+        }
+        size_t start = i;
+        while (i < bytes && line[i] != ' ') i++;
+        if (words == 0 && line[start] == '#') return true;
+        if (words == WORDS) return false;
+        word[words++] = (Word){line + start, i - start};
+    }
+    return words == 0 || play_words(desk, word, words);
+}
+
+int main(void) {
+    static Desk desk;
+    // Room for the longest line, its carriage return, and one byte more to tell a longer one by.
+    static uint8_t line[LINE_BYTES + 2];
+    unsigned long long number = 0;
+    for (int c = getchar(); c != EOF; c = getchar()) {
+        size_t bytes = 0;
+        int last = 0;
+        for (; c != EOF && c != '\n'; c = getchar()) {
+            if (bytes < sizeof line) line[bytes++] = c;
+            last = c;
+        }
+        if (bytes < sizeof line && last == '\r') bytes--;
+        number++;
+        if (!play_line(&desk, line, bytes)) printf("line %llu: not a call\n", number);
+    }
+    return 0;
+}
