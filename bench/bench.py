@@ -1,0 +1,119 @@
+#!/usr/bin/env python3
+"""Compares and measures the proved programs: bench.py agree [FIRST LAST] | calls | stack. README.md beside it says what each does."""
+import os
+import resource
+import shutil
+import subprocess
+import sys
+import tempfile
+from pathlib import Path
+
+HERE = Path(__file__).resolve().parent
+BUILT = HERE.parent / "target" / "bin"
+KIT = Path(os.environ.get("RATTLE_HOME") or Path(os.path.realpath(shutil.which("rt") or "rt")).parent.parent)
+TOOLS = KIT / "on" / os.uname().machine / "toolchain"
+EMULATOR = TOOLS / "bin" / "qemu-x86_64"
+
+
+def run(command, log, stack=None):
+    """Runs a program on a log: what it wrote (None if it did not end well), and its seconds of processor time."""
+    if EMULATOR.exists():
+        command = [str(EMULATOR)] + (["-s", str(stack)] if stack else []) + command
+    elif stack:
+        command = ["setarch", "-R"] + command  # without it the system shifts the stack at random
+
+    def narrow():
+        if stack and not EMULATOR.exists():
+            resource.setrlimit(resource.RLIMIT_STACK, (stack, stack))
+
+    with tempfile.TemporaryFile() as given, tempfile.TemporaryFile() as wrote:
+        given.write(log)
+        given.seek(0)
+        child = subprocess.Popen(command, stdin=given, stdout=wrote, stderr=subprocess.DEVNULL, env={"PATH": os.defpath}, preexec_fn=narrow)
+        _, status, used = os.wait4(child.pid, 0)
+        wrote.seek(0)
+        return (wrote.read() if status == 0 else None), used.ru_utime + used.ru_stime
+
+
+def proved(name):
+    """The command of a proved program, as built by `rt check`."""
+    program = BUILT / name
+    if not program.exists():
+        sys.exit(f"{program} is not there: run rt check first")
+    return [str(TOOLS / "lib" / "ld-linux-x86-64.so.2"), "--library-path", str(TOOLS / "lib"), str(program)]
+
+
+def plain(folder, *words):
+    """The command of replay.c, built for the processor that the proved programs are built for."""
+    compiler = "gcc" if os.uname().machine == "x86_64" else "x86_64-linux-gnu-gcc"
+    program = f"{folder}/replay"
+    subprocess.run([compiler, "-O2", "-static", *words, "-o", program, HERE / "replay.c"], check=True)
+    return [program]
+
+
+def agree(first=1, last=100):
+    """The proved replay and replay.c on logs at random; a log on which they differ is kept."""
+    differ = 0
+    with tempfile.TemporaryDirectory() as folder:
+        one, other = proved("replay"), plain(folder, "-DEVERY_CHOICE=12")
+        for seed in range(int(first), int(last) + 1):
+            log = subprocess.run([sys.executable, HERE / "random_log.py", str(seed)], check=True, stdout=subprocess.PIPE).stdout
+            if run(one, log)[0] != run(other, log)[0]:
+                Path(f"differs-{seed}.log").write_bytes(log)
+                print(f"seed {seed}: they differ, see differs-{seed}.log")
+                differ += 1
+    print(f"{int(last) - int(first) + 1} logs, {differ} differ")
+
+
+def calls():
+    """The time of 10,000 calls on a full journal (D4's desk), both programs by turns, the best of nine."""
+    fill = ["open 0 7 -", "open 1 9 -", "place 0 0 0 0"] + [f"move 0 0 {x} 0" for x in range(1, 256)]
+    fill = "\n".join(fill) + "\n"
+    then = fill + "undo 0\nplace 1 0 2 2\nredo 0\nplace 1 0 2 2\n" * 2500
+    with tempfile.TemporaryDirectory() as folder:
+        programs = {"proved": proved("replay"), "plain C": plain(folder)}
+        best = {}
+        for _ in range(9):
+            for name, command in programs.items():
+                for log in (fill, then):
+                    wrote, seconds = run(command, log.encode())
+                    assert wrote and wrote.endswith(b"0\n" * 5 if log == fill else b"0\nrefused 12\n" * 2), name
+                    best[name, log] = min(seconds, best.get((name, log), seconds))
+    took = {name: best[name, then] - best[name, fill] for name in programs}
+    for name, seconds in took.items():
+        print(f"{name}: {seconds * 1000:.0f} ms for 10,000 calls on a full journal")
+    print(f"ratio {took['proved'] / took['plain C']:.2f}")
+
+
+def smallest(command, log):
+    """The smallest stack, to 4 KiB, with which a program still gives the answer that it gives with ample stack."""
+    page = 4096
+    answer = run(command, log, 8192 * 1024)[0]
+    assert answer is not None
+    low, high = 0, 2048
+    while high - low > 1:
+        middle = (low + high) // 2
+        if run(command, log, middle * page)[0] == answer:
+            high = middle
+        else:
+            low = middle
+    return f"{high * page // 1024} KiB"
+
+
+def stack():
+    """The smallest stack on which a full board is wired: 32 pins one behind the other, so that the asking goes deepest."""
+    places = [(2 * p, p) for p in range(32)]
+    xs, ys = (",".join(str(place[i]) for place in places) for i in (0, 1))
+    pin_map = b"".join((7).to_bytes(2, "big") + bytes([p, 0]) + x.to_bytes(4, "big") + y.to_bytes(4, "big") for p, (x, y) in enumerate(places))
+    opened = f"open 0 7 {pin_map.hex()}\n"
+    replay = proved("replay")
+    for what, log in (("a line skipped", "#\n"), ("a drawing shown", "pins 0\n"), ("a map opened", opened), ("a map opened, and wired", opened + "wire 0 64\n"), ("bare wiring", f"bare 64 {xs} {ys}\n")):
+        print(f"replay, {what}: {smallest(replay, log.encode())}")
+    print(f"wiremap: {smallest(proved('wiremap'), pin_map)}")
+
+
+if __name__ == "__main__":
+    tasks = {"agree": agree, "calls": calls, "stack": stack}
+    if len(sys.argv) < 2 or sys.argv[1] not in tasks:
+        sys.exit(__doc__)
+    tasks[sys.argv[1]](*sys.argv[2:])

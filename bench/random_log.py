@@ -1,0 +1,220 @@
+#!/usr/bin/env python3
+"""Writes a log of calls at random for `replay` to standard output: random_log.py SEED.
+
+Small boards, where ties and refusals are common; every call; lines that are not calls; maps with each kind of fault; journals that are full."""
+import random
+import sys
+
+pick = random.choice
+
+
+def chance(percent):
+    return random.randrange(100) < percent
+
+
+def number(n):
+    """A number as a word, at times with leading zeros."""
+    sign = "-" if n < 0 or (n == 0 and chance(5)) else ""
+    return sign + "0" * (random.randrange(1, 12) if chance(3) else 0) + str(abs(n))
+
+
+def plain(n):
+    """A number that takes no sign."""
+    return number(n).lstrip("-")
+
+
+def part(spread):
+    """An x or a y: near the middle, at times at the board's ends or past them."""
+    if chance(97):
+        return random.randint(-spread, spread)
+    return pick([20000, -20000, 20001, -20001, 19999, 2147483647, -2147483648, random.randint(-20000, 20000)])
+
+
+def seat():
+    return pick([0, 0, 0, 0, 1, 1, 2, 7]) if chance(96) else pick([4, 5, 6, 8, 9, 255, 256, 4294967295])
+
+
+def pin():
+    return random.randrange(32) if chance(95) else pick([32, 33, 255, 256, 4294967295])
+
+
+def board(spread, most):
+    """Places for pins, no two the same, in one of several patterns."""
+    style = random.randrange(6)
+    if style == 0:
+        spots = [(x, x + pick([0, 1])) for x in range(-spread, spread)]
+    elif style == 1:
+        step = random.randint(1, 3)
+        spots = [(x * step, y * step) for x in range(-3, 3) for y in range(-3, 3)]
+    elif style == 2:
+        far = random.randint(1, 6666)
+        spots = [(x * far, y * far) for x in range(-3, 4) for y in range(-3, 4)]
+    elif style == 3:
+        spots = [(random.randint(-20000, 20000), random.randint(-20000, 20000)) for _ in range(most)]
+    else:
+        spots = [(random.randint(-spread, spread), random.randint(-spread, spread)) for _ in range(2 * most)]
+    spots = list(dict.fromkeys(spots))
+    random.shuffle(spots)
+    return spots[: random.randint(0, most) if chance(50) else most]
+
+
+def record(job, number_of_pin, zero, x, y):
+    return job.to_bytes(2, "big") + bytes([number_of_pin, zero]) + (x % 2**32).to_bytes(4, "big") + (y % 2**32).to_bytes(4, "big")
+
+
+def pin_map(job, spread):
+    """A map, at times with a fault in one or two of its records or in its length."""
+    spots = board(spread, random.randint(0, 32))
+    numbers = sorted(random.sample(range(32), len(spots)))
+    records = [[job, n, 0, x, y] for n, (x, y) in zip(numbers, spots)]
+    for _ in range(pick([0, 0, 0, 1, 2])):
+        if records:
+            faulty, other = pick(records), pick(records)
+            fault = random.randrange(7)
+            if fault == 0:
+                faulty[0] = pick([job ^ 1, 0, 65535])
+            elif fault == 1:
+                faulty[1] = pick([32, 255, other[1], 0])
+            elif fault == 2:
+                faulty[2] = pick([1, 255])
+            elif fault == 3:
+                faulty[pick([3, 4])] = pick([20001, -20001, 2147483647, -2147483648])
+            elif fault == 4:
+                faulty[3:] = other[3:]
+            elif fault == 5:
+                records.append(pick(records)[:])
+            else:
+                random.shuffle(records)
+    data = b"".join(record(*r) for r in records)
+    if chance(4):
+        data = pick([data[:-1], data + b"\0", data * 2, data[:1], bytes(385), bytes(396), bytes(4200), bytes(4201)])
+    text = data.hex() or ("-" if chance(95) else "")
+    return text.upper() if chance(10) else text
+
+
+def opening(spread):
+    at = seat()
+    job = 100 + at % 100 if chance(90) else pick([0, 1, 100, 101, 65535, 65536])
+    return f"open {plain(at)} {plain(job)} {pin_map(job if job < 65536 else 7, spread) if chance(60) else '-'}"
+
+
+def listed(parts):
+    return ",".join(map(number, parts)) if parts else "-"
+
+
+def bare(spread):
+    spots = board(spread, pick([3, 5, 8, 12, 20, 32]))
+    xs, ys = [x for x, _ in spots], [y for _, y in spots]
+    if chance(15) and xs:
+        for _ in range(random.randint(1, 3)):
+            i = random.randrange(len(xs))
+            fault = random.randrange(4)
+            if fault == 0:
+                j = random.randrange(len(xs))
+                xs[i], ys[i] = xs[j], ys[j]
+            elif fault == 1:
+                xs[i] = part(spread)
+                ys[i] = pick([20001, -20001, 20000, ys[i]])
+            elif fault == 2:
+                xs = xs[: random.randrange(len(xs))] or [0]
+                break
+            else:
+                more = pick([33, 40, 41]) - len(xs)
+                xs, ys = xs + list(range(more)), ys + [300] * more
+                break
+    room = pick([64, 64, 64, 62, random.randint(0, 65), len(xs), 2 * len(xs)])
+    return f"bare {plain(room)} {listed(xs)} {listed(ys)}"
+
+
+def edit(spread):
+    at, which = plain(seat()), plain(pin())
+    call = pick(["place", "place", "place", "move", "move", "remove"])
+    return f"remove {at} {which}" if call == "remove" else f"{call} {at} {which} {number(part(spread))} {number(part(spread))}"
+
+
+def look(spread):
+    at = plain(seat())
+    call = pick(["pins", "pins", "wire", "wire", "wire", "write"])
+    if call == "pins":
+        return f"pins {at}"
+    if call == "wire":
+        return f"wire {at} {plain(pick([64, 64, random.randint(0, 65)]))}"
+    return f"write {at} {plain(pick([0, 12, 24, 383, 384, 1024, 1025, random.randint(0, 400)]))}"
+
+
+def call(spread):
+    dice = random.randrange(100)
+    if dice < 45:
+        return edit(spread)
+    if dice < 60:
+        return f"undo {plain(seat())}"
+    if dice < 72:
+        return f"redo {plain(seat())}"
+    if dice < 84:
+        return look(spread)
+    if dice < 92:
+        return opening(spread)
+    return f"close {plain(seat())}" if chance(30) else bare(spread)
+
+
+def full_journal(spread):
+    """Seats that fill the journal together, and calls on it."""
+    seats = random.randint(1, 3)
+    lines = [f"open {s} {100 + s} -" for s in range(3)]
+    lines += [f"place {s} {p} {p} {s}" for s in range(seats) for p in range(2)]
+    for i in range(random.randint(250, 300)):
+        lines.append(f"move {random.randrange(seats)} {pick([0, 0, 1])} {i} 50")
+        if chance(3):
+            lines += ["undo 0"] * random.randint(1, 3)
+            lines += ["redo 0"] * random.randint(0, 3)
+    for _ in range(80):
+        lines.append(pick(["undo 0", "undo 1", "redo 0", "redo 1", "pins 0", edit(spread), look(spread), f"move 0 0 {part(spread)} 60", f"move 1 0 {part(spread)} 60"]))
+    return lines + [pick(["close 0", "close 1"])] + [edit(spread) for _ in range(10)]
+
+
+def spoiled(line):
+    """A line, most often no longer a call: a byte put in, taken out or changed, a word more or fewer, or made long."""
+    words = line.split(" ")
+    what = random.randrange(9)
+    at = random.randrange(len(line) + 1)
+    odd = pick(list(b"\t\0\r,-+#xG 09") + [255])
+    if what == 0:
+        return line[:at].encode() + bytes([odd]) + line[at:].encode()
+    if what == 1:
+        return line[:at].encode() + line[at + 1:].encode()
+    if what == 2:
+        return line[:at].encode() + bytes([odd]) + line[at + 1:].encode()
+    if what == 3:
+        return " ".join(words + [pick(["0", "#", "-"])]).encode()
+    if what == 4:
+        return " ".join(words[:-1]).encode()
+    if what == 5:
+        return (" " * pick([0, 1, 5]) + pick(["  ", " "]).join(words) + " " * pick([0, 1, 7])).encode()
+    if what == 6:
+        return line.ljust(pick([16383, 16384, 16385, 16386, 16387, 20000, 70000])).encode()
+    if what == 7:
+        words[-1] = "0" * (random.randint(16380, 16388) - len(line)) + words[-1]
+        return " ".join(words).encode()
+    return pick([b"", b"   ", b"#", b"  # undo 0", b"#" * 17000, b" " * 17000, line.upper().encode(), line.encode() + b"\r", b"\r\r"])
+
+
+def log():
+    spread = pick([1, 2, 3, 3, 5, 9, 30])
+    kind = random.randrange(8)
+    if kind == 0:
+        lines = full_journal(spread)
+    elif kind == 1:
+        lines = [bare(spread) for _ in range(120)]
+    elif kind == 2:
+        lines = [pick([opening(spread), opening(spread), f"close {seat()}", look(spread)]) for _ in range(150)]
+    else:
+        lines = [f"open {s} {100 + s} -" for s in range(8) if chance(60)] + [call(spread) for _ in range(300)]
+    spoil = pick([0, 0, 0, 2, 10])
+    ends = pick([[b"\n"], [b"\n"], [b"\r\n"], [b"\n", b"\r\n"]])
+    text = b"".join((spoiled(line) if chance(spoil) else line.encode()) + pick(ends) for line in lines)
+    return text[: -pick([1, 2])] if chance(10) else text
+
+
+if __name__ == "__main__":
+    random.seed(int(sys.argv[1]))
+    sys.stdout.buffer.write(log())
