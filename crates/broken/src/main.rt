@@ -1,0 +1,278 @@
+// Tries 28 on desks broken by hand, one or more for each way that the rules list: every call on each of them, and on the whole desk that they were made from.
+use desk::Answered;
+use desk::Desk;
+use drawing::Edit;
+use drawing::Held;
+use drawing::Pin;
+use drawing::Stand;
+use grid::Place;
+use journal::Record;
+use refusal::Verdict;
+
+// Seat 0 is open for job 7; pin 0 placed at (1,1) stands, pin 1 placed at (2,2) is taken back.
+fn whole() -> Desk {
+    let map = [0u8; 0];
+    let empty = Desk::empty();
+    let opened = empty.open(0, 7, &map);
+    let after_opening = opened.desk;
+    let first = after_opening.place(0, 0, Place { x: 1, y: 1 });
+    let after_first = first.desk;
+    let second = after_first.place(0, 1, Place { x: 2, y: 2 });
+    let after_second = second.desk;
+    let undone = after_second.undo(0);
+    undone.desk
+}
+
+// The job of seat 0 is 0.
+fn job_zero() -> Desk {
+    let mut d = whole();
+    let mut s = d.seats[0];
+    s.job = 0;
+    d.seats[0] = s;
+    d
+}
+
+// Seat 1 is open too, for the job of seat 0.
+fn job_repeated() -> Desk {
+    let mut d = whole();
+    let mut s = d.seats[1];
+    s.opened = true;
+    s.job = 7;
+    d.seats[1] = s;
+    d
+}
+
+// Seat 0 is closed, and its two records are still there.
+fn closed_with_records() -> Desk {
+    let mut d = whole();
+    let mut s = d.seats[0];
+    s.opened = false;
+    d.seats[0] = s;
+    d
+}
+
+// Pin 5 of seat 0, which no edit names, stands at this place.
+fn with_pin(at: Place) -> Desk {
+    let mut d = whole();
+    let mut s = d.seats[0];
+    let held = Held { place: at };
+    let stand = Stand::There(held);
+    let pin = Pin { stand };
+    s.pins[5] = pin;
+    d.seats[0] = s;
+    d
+}
+
+// A pin stands outside the board.
+fn pin_outside() -> Desk {
+    with_pin(Place { x: 20001, y: 0 })
+}
+
+// Two pins stand at one place.
+fn pins_at_one_place() -> Desk {
+    with_pin(Place { x: 1, y: 1 })
+}
+
+// The edit that stands is another.
+fn with_standing(edit: Edit) -> Desk {
+    let mut d = whole();
+    d.journal[0] = Record { seat: 0, edit };
+    d
+}
+
+// The edit that stands placed pin 0 elsewhere.
+fn standing_elsewhere() -> Desk {
+    let held = Held {
+        place: Place { x: 5, y: 5 },
+    };
+    with_standing(Edit::Placed(0, held))
+}
+
+// The edit that stands moved pin 0 to where it already stood.
+fn standing_moved_nowhere() -> Desk {
+    let at = Place { x: 1, y: 1 };
+    with_standing(Edit::Moved(0, at, at))
+}
+
+// The edit that stands moved pin 0 from outside the board.
+fn standing_from_outside() -> Desk {
+    let from = Place { x: 0, y: -20001 };
+    let to = Place { x: 1, y: 1 };
+    with_standing(Edit::Moved(0, from, to))
+}
+
+// The edit that is taken back is another.
+fn with_taken_back(edit: Edit) -> Desk {
+    let mut d = whole();
+    d.journal[1] = Record { seat: 0, edit };
+    d
+}
+
+// The edit that is taken back places pin 1 where pin 0 stands.
+fn taken_back_onto_a_pin() -> Desk {
+    let held = Held {
+        place: Place { x: 1, y: 1 },
+    };
+    with_taken_back(Edit::Placed(1, held))
+}
+
+// The edit that is taken back removes pin 1, which is not there.
+fn taken_back_of_no_pin() -> Desk {
+    let held = Held {
+        place: Place { x: 2, y: 2 },
+    };
+    with_taken_back(Edit::Removed(1, held))
+}
+
+// The edit that is taken back places pin 32.
+fn taken_back_of_pin_32() -> Desk {
+    let held = Held {
+        place: Place { x: 2, y: 2 },
+    };
+    with_taken_back(Edit::Placed(32, held))
+}
+
+// The journal has 257 used records.
+fn used_too_large() -> Desk {
+    let mut d = whole();
+    d.used = 257;
+    d
+}
+
+// Three edits of seat 0 stand, and it owns two records.
+fn standing_too_many() -> Desk {
+    let mut d = whole();
+    let mut s = d.seats[0];
+    s.standing = 3;
+    d.seats[0] = s;
+    d
+}
+
+// The second record names seat 8.
+fn record_of_seat_8() -> Desk {
+    let mut d = whole();
+    let mut record = d.journal[1];
+    record.seat = 8;
+    d.journal[1] = record;
+    d
+}
+
+// A record past the used ones names seat 8, and a closed seat has the job of seat 0 and counts an edit: nothing of it breaks a desk.
+fn unused_parts() -> Desk {
+    let mut d = whole();
+    let mut record = d.journal[2];
+    record.seat = 8;
+    d.journal[2] = record;
+    let mut s = d.seats[7];
+    s.job = 7;
+    s.standing = 1;
+    d.seats[7] = s;
+    d
+}
+
+// Writes text to standard output.
+fn say(text: &[u8]) {
+    io::write_all(1, text);
+}
+
+// Writes the name of a call and the number that it was answered.
+fn tell(call: &[u8], verdict: Verdict) {
+    let told = refusal::tell(verdict);
+    let number = told.number;
+    say(call);
+    io::print_decimal(1, number as u64);
+}
+
+// The same for what a call hands back.
+fn tell_answer(call: &[u8], answered: Answered) {
+    let verdict = answered.verdict;
+    tell(call, verdict);
+}
+
+// Makes each call that can change a desk on this one, and writes the answers.
+fn try_changes(desk: Desk) {
+    let at = Place { x: 3, y: 3 };
+    let map = [0u8; 0];
+    let opened = desk.open(1, 9, &map);
+    tell_answer(b" open ", opened);
+    let closed = desk.close(0);
+    tell_answer(b" close ", closed);
+    let placed = desk.place(0, 2, at);
+    tell_answer(b" place ", placed);
+    let moved = desk.shift(0, 0, at);
+    tell_answer(b" move ", moved);
+    let removed = desk.remove(0, 0);
+    tell_answer(b" remove ", removed);
+    let undone = desk.undo(0);
+    tell_answer(b" undo ", undone);
+    let redone = desk.redo(0);
+    tell_answer(b" redo ", redone);
+}
+
+// Writes and wires seat 0, and undoes at seat 8, where 28 comes before 1.
+fn try_others(desk: Desk) {
+    let mut buffer = [0u8; 384];
+    let written = desk.write(0, &mut buffer);
+    let writing = written.verdict;
+    tell(b" write ", writing);
+    let wired = desk.wire(0, 64);
+    let laid = wired.laid;
+    let wiring = laid.wiring;
+    let verdict = wiring.verdict;
+    tell(b" wire ", verdict);
+    let undone = desk.undo(8);
+    tell_answer(b" undo at 8 ", undone);
+}
+
+// Makes every call on this desk, and writes a line with the answers.
+fn try_calls(name: &[u8], desk: Desk) {
+    say(name);
+    try_changes(desk);
+    try_others(desk);
+    say(b"\n");
+}
+
+// Desks that are not broken: 28 is not answered.
+fn try_whole() {
+    try_calls(b"whole:", whole());
+    try_calls(b"whole, unused parts changed:", unused_parts());
+}
+
+// Broken at a seat.
+fn try_seats() {
+    try_calls(b"job 0:", job_zero());
+    try_calls(b"job repeated:", job_repeated());
+    try_calls(b"closed seat with records:", closed_with_records());
+    try_calls(b"pin outside:", pin_outside());
+    try_calls(b"pins at one place:", pins_at_one_place());
+}
+
+// Broken by an edit that could not have been made.
+fn try_edits() {
+    try_calls(b"standing edit, placed elsewhere:", standing_elsewhere());
+    try_calls(b"standing edit, moved nowhere:", standing_moved_nowhere());
+    try_calls(
+        b"standing edit, moved from outside:",
+        standing_from_outside(),
+    );
+    try_calls(b"taken-back edit, onto a pin:", taken_back_onto_a_pin());
+    try_calls(
+        b"taken-back edit, of a pin not there:",
+        taken_back_of_no_pin(),
+    );
+    try_calls(b"taken-back edit, of pin 32:", taken_back_of_pin_32());
+}
+
+// Broken by a number kept beside these.
+fn try_numbers() {
+    try_calls(b"used count 257:", used_too_large());
+    try_calls(b"standing more than owned:", standing_too_many());
+    try_calls(b"record of seat 8:", record_of_seat_8());
+}
+
+fn main() {
+    try_whole();
+    try_seats();
+    try_edits();
+    try_numbers();
+}
