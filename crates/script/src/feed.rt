@@ -17,7 +17,7 @@ pub fn newline(window: &[u8], at: usize) -> usize
 }
 
 // The smaller of two numbers.
-pub(crate) fn least(a: usize, b: usize) -> usize
+pub fn least(a: usize, b: usize) -> usize
     ensures { λ r. ⌜ r ≡ min a b ⌝ }
 {
     if a < b { a } else { b }

@@ -1,0 +1,2 @@
+-- What is proved of answers of several lines beside the functions' contracts.
+pub mod Lines

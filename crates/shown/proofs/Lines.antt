@@ -1,0 +1,92 @@
+-- Lines printed one by one come to the text of a list, and pins counted one by one to their number. Assumes nothing.
+use mathlib.Core.Path.{_≡_, sym, _∙_, ap}
+use mathlib.Core.Bool.{true, false}
+use mathlib.Core.List.{List, [], _∷_, _++_, append-assoc, append-nil}
+use Prim.Native.Nat.{ℕ, suc, _+_, _<_, min}
+use native.Mathlib.Nat.{add-zero}
+use native.Mathlib.Numerals.{add-one}
+use native.Mathlib.Omega.{arith}
+use lib.ListN.{length, take, drop, getD}
+use lib.Seq.{take-suc, length-take-le}
+use Rattle.grid.specs.declared.Spot.{Spot}
+use Rattle.grid.specs.declared.Spot.the-variants.{Absent}
+use Rattle.refusal.specs.Refusals.{accepted}
+use Rattle.refusal.proofs.Tests.{choose-yes, choose-no}
+use Rattle.wiring.specs.declared.Wiring.{Wiring}
+use Rattle.wiring.specs.declared.Laid.{Laid}
+use Rattle.script.specs.Text.{over}
+use Rattle.script.specs.Answers.{verdictLine, wiredLine, jobLine}
+use Rattle.script.proofs.Printing.{Put, take-least}
+use Rattle.script.proofs.Steps.{front}
+use Rattle.shown.specs.Shown.{linesOf, runsText, legsText, spotText, pinsText, counted, pinsIn, wiredText, laidText, jobText, mapText}
+
+module _ {A : Type 0} where
+  lines-snoc : (line : A → List ℕ) (l : List A) (a : A) → linesOf line l ++ line a ≡ linesOf line (l ++ (a ∷ []))
+  unfolding linesOf
+  lines-snoc line [] a = sym (append-nil (line a))
+  lines-snoc line (b ∷ rest) a =
+      append-assoc (line b) (linesOf line rest) (line a) ∙ ap (λ (t : List ℕ). line b ++ t) (lines-snoc line rest a)
+
+  first-more : (d : A) (l : List A) (i : ℕ) → i < length l → take i l ++ (getD l i d ∷ []) ≡ take (i + 1) l
+  first-more d l i h = rw (add-one i, take-suc l i d h)
+
+  -- One line more.
+  pub lines-more : (line : A → List ℕ) (d : A) (l : List A) (i : ℕ) → i < length l
+      → linesOf line (take i l) ++ line (getD l i d) ≡ linesOf line (take (i + 1) l)
+  lines-more line d l i h = lines-snoc line (take i l) (getD l i d) ∙ ap (linesOf line) (first-more d l i h)
+
+  -- As many as are asked for, or all there are.
+  pub first-all : (l : List A) (count n i : ℕ) → length l ≡ n → i ≡ min count n → take i l ≡ take count l
+  first-all l count n i h e =
+      let m : i ≡ min (length l) count = omega arith in
+      ap (λ (k : ℕ). take k l) m ∙ take-least l count
+
+-- One pin more.
+pins-snoc : (k : ℕ) (l : List Spot) (s : Spot) → pinsText k l ++ spotText (k + length l) s ≡ pinsText k (l ++ (s ∷ []))
+unfolding pinsText
+pins-snoc k [] s = ap (λ (n : ℕ). spotText n s) (add-zero k) ∙ sym (append-nil (spotText k s))
+pins-snoc k (b ∷ rest) s =
+    let e : k + suc (length rest) ≡ suc k + length rest = omega arith in
+    append-assoc (spotText k b) (pinsText (suc k) rest) (spotText (k + suc (length rest)) s)
+    ∙ ap (λ (t : List ℕ). spotText k b ++ t) (ap (λ (n : ℕ). pinsText (suc k) rest ++ spotText n s) e ∙ pins-snoc (suc k) rest s)
+
+pub pins-more : (feed : List Spot) (pin : ℕ) → pin < length feed
+    → pinsText 0 (take pin feed) ++ spotText pin (getD feed pin Absent) ≡ pinsText 0 (take (pin + 1) feed)
+pins-more feed pin h =
+    let e : pin ≡ 0 + length (take pin feed) = omega (arith, length-take-le pin feed (omega arith)) in
+    ap (λ (n : ℕ). pinsText 0 (take pin feed) ++ spotText n (getD feed pin Absent)) e
+    ∙ pins-snoc 0 (take pin feed) (getD feed pin Absent)
+    ∙ ap (pinsText 0) (first-more Absent feed pin h)
+
+-- One pin more is counted.
+pub count-more : (feed : List Spot) (pin : ℕ) → pin < length feed
+    → pinsIn (drop pin feed) ≡ counted (getD feed pin Absent) + pinsIn (drop (pin + 1) feed)
+unfolding pinsIn
+count-more feed pin h = ap pinsIn (front Absent feed pin h)
+
+-- What is printed from the start on, as a piece that others follow.
+pub begun : (o p : List ℕ) {n : ℕ} {v : List ℕ} → n ≡ length p → v ≡ over p o → Put o 0 p n v
+begun o p e f = (omega (arith, e), f)
+
+-- The answer of a wiring with its legs, refused and accepted.
+pub laid-refused : (laid : Laid) → accepted (laid .wiring .verdict) ≡ false → verdictLine (laid .wiring .verdict) ≡ laidText laid
+unfolding laidText
+laid-refused laid h = sym (choose-no (wiredText (laid .wiring) (laid .legs)) (verdictLine (laid .wiring .verdict)) h)
+
+pub laid-accepted : (laid : Laid) → accepted (laid .wiring .verdict) ≡ true
+    → wiredLine (laid .wiring .length) (laid .wiring .count) (laid .wiring .legs) (laid .wiring .weighed)
+    ++ runsText (take (laid .wiring .count) (laid .wiring .runs))
+    ++ legsText (take (laid .wiring .legs) (laid .legs))
+    ≡ laidText laid
+unfolding laidText wiredText
+laid-accepted laid h = sym (choose-yes (wiredText (laid .wiring) (laid .legs)) (verdictLine (laid .wiring .verdict)) h)
+
+-- The answer of the wiring of a map, refused and accepted.
+pub map-refused : (job : ℕ) (wiring : Wiring) → accepted (wiring .verdict) ≡ false → verdictLine (wiring .verdict) ≡ mapText job wiring
+unfolding mapText
+map-refused job wiring h = sym (choose-no (jobText job wiring) (verdictLine (wiring .verdict)) h)
+
+pub map-accepted : (job : ℕ) (wiring : Wiring) → accepted (wiring .verdict) ≡ true
+    → jobLine job (wiring .length) (wiring .count) (wiring .weighed) ++ runsText (take (wiring .count) (wiring .runs)) ≡ mapText job wiring
+unfolding mapText jobText
+map-accepted job wiring h = sym (choose-yes (jobText job wiring) (verdictLine (wiring .verdict)) h)

@@ -1,0 +1,69 @@
+-- `shown::put_pins` meets its contract. Assumes nothing.
+use mathlib.Core.Path.{refl, ap}
+use Prim.Native.Nat.{_≤_, _+_, _*_, _-_}
+use native.Mathlib.Omega.{arith}
+use lib.ListN.{take, getD}
+use lib.Seq.{take-all}
+use Rattle.script.proofs.Printing.{Put, then-put, put-as}
+use Rattle.shown.proofs.Lines.{pins-more}
+use Rattle.shown.specs.Shown.{spotText, pinsText}
+use Rattle.grid.specs.declared.Spot.the-variants.{Absent}
+use borrow.Author.Needs.{needs}
+use Rattle.shown.proofs.put_pins.Statement.{statement}
+use Rattle.shown.proofs.put_pins.Tie as tie
+
+abbrev Inv-loop : tie.InvT-loop
+Inv-loop out₀ at feed next₀ pin₀ out next pin = ((pin ≤ 32) × (next ≤ at + pin * 69)) × Put out₀ at (pinsText 0 (take pin feed)) next out
+
+abbrev μ-loop : tie.MeasureT-loop
+μ-loop out₀ at feed next₀ pin₀ out next pin = 32 - pin
+
+loop-holds : tie.Need-loop-holds Inv-loop μ-loop
+unfolding pinsText
+loop-holds c = ((omega arith, omega arith), (omega arith, refl))
+
+mul-spot : tie.Need-mul-spot Inv-loop μ-loop
+mul-spot c = search needs
+
+array-copy-out-spot : tie.Need-array-copy-out-spot Inv-loop μ-loop
+array-copy-out-spot c = search needs
+
+put-spot-requires : tie.Need-put-spot-requires Inv-loop μ-loop
+put-spot-requires c κs = search needs
+
+add-pin : tie.Need-add-pin Inv-loop μ-loop
+add-pin c = search needs
+
+loop-less : tie.Need-loop-less Inv-loop μ-loop
+loop-less c = search needs
+
+loop-again : tie.Need-loop-again Inv-loop μ-loop
+loop-again c =
+    let s = c .before .before .before .before .before .args in
+    let q = c .before .before .before .before .loop in
+    let e = c .put-spot .ensures in
+    let a = getD (s .t1) (q .pin) Absent in
+    let h = then-put (s .out .now) (s .at) (pinsText 0 (take (q .pin) (s .t1))) (spotText (q .pin) a) (q .inv .1) (e .0 .0, e .1) in
+    ((omega arith, omega (arith, e .0 .1)), put-as (s .out .now) (s .at) (pins-more (s .t1) (q .pin) (omega arith)) h)
+
+returns : tie.Need-returns Inv-loop μ-loop
+returns c =
+    let s = c .before .before .args in
+    let q = c .before .loop in
+    let h = put-as (s .out .now) (s .at) (ap (pinsText 0) (take-all (q .pin) (s .t1) (omega arith))) (q .inv .1) in
+    ((h .0, omega arith), h .1)
+
+pub put-pins-spec : {M : Type 1} → statement M
+put-pins-spec =
+    tie.close
+    (tie.spec
+    Inv-loop
+    μ-loop
+    loop-holds
+    mul-spot
+    array-copy-out-spot
+    put-spot-requires
+    add-pin
+    loop-less
+    loop-again
+    returns)

@@ -1,0 +1,75 @@
+-- `shown::put_runs` meets its contract. Assumes nothing.
+use mathlib.Core.Path.{refl, ap}
+use Prim.Native.Nat.{_≤_, _+_, _*_, _-_}
+use native.Mathlib.Omega.{arith}
+use lib.ListN.{take, getD}
+use Rattle.script.proofs.Printing.{Put, then-put, put-as}
+use Rattle.shown.proofs.Lines.{lines-more, first-all}
+use Rattle.shown.specs.Shown.{shapedLine, linesOf}
+use Rattle.copper.specs.declared.Shape.the-variants.{Straight}
+use Rattle.wiring.specs.Answer.{shaped}
+use borrow.Author.Needs.{needs}
+use Rattle.shown.proofs.put_runs.Statement.{statement}
+use Rattle.shown.proofs.put_runs.Tie as tie
+
+abbrev Inv-loop : tie.InvT-loop
+Inv-loop count out₀ at runs most next₀ i₀ out next i = ((i ≤ most) × (next ≤ at + i * 51)) × Put out₀ at (linesOf shapedLine (take i runs)) next out
+
+abbrev μ-loop : tie.MeasureT-loop
+μ-loop count out₀ at runs most next₀ i₀ out next i = most - i
+
+least-requires : tie.Need-least-requires Inv-loop μ-loop
+least-requires c κs = search needs
+
+loop-holds : tie.Need-loop-holds Inv-loop μ-loop
+unfolding linesOf
+loop-holds c = ((omega arith, omega arith), (omega arith, refl))
+
+mul-run : tie.Need-mul-run Inv-loop μ-loop
+mul-run c = search needs
+
+array-copy-out-run : tie.Need-array-copy-out-run Inv-loop μ-loop
+array-copy-out-run c = search needs
+
+put-shaped-requires : tie.Need-put-shaped-requires Inv-loop μ-loop
+put-shaped-requires c κs = search needs
+
+add-i : tie.Need-add-i Inv-loop μ-loop
+add-i c = search needs
+
+loop-less : tie.Need-loop-less Inv-loop μ-loop
+loop-less c = search needs
+
+loop-again : tie.Need-loop-again Inv-loop μ-loop
+loop-again c =
+    let s = c .before .before .before .before .before .before .args in
+    let q = c .before .before .before .before .loop in
+    let e = c .put-shaped .ensures in
+    let a = getD (s .t1) (q .i) (shaped 0 0 Straight) in
+    let h = then-put (s .out .now) (s .at) (linesOf shapedLine (take (q .i) (s .t1))) (shapedLine a) (q .inv .1) (e .0 .0, e .1) in
+    ((omega arith, omega (arith, e .0 .1)), put-as (s .out .now) (s .at) (lines-more shapedLine (shaped 0 0 Straight) (s .t1) (q .i) (omega arith)) h)
+
+returns : tie.Need-returns Inv-loop μ-loop
+returns c =
+    let s = c .before .before .before .args in
+    let q = c .before .loop in
+    let n = c .before .before .least .ensures in
+    let e = first-all (s .t1) (s .count) 31 (q .i) (omega arith) (omega (arith, n)) in
+    let h = put-as (s .out .now) (s .at) (ap (linesOf shapedLine) e) (q .inv .1) in
+    ((h .0, omega (arith, n)), h .1)
+
+pub put-runs-spec : {M : Type 1} → statement M
+put-runs-spec =
+    tie.close
+    (tie.spec
+    Inv-loop
+    μ-loop
+    least-requires
+    loop-holds
+    mul-run
+    array-copy-out-run
+    put-shaped-requires
+    add-i
+    loop-less
+    loop-again
+    returns)

@@ -1,0 +1,2 @@
+-- What the answers of several lines are defined by.
+pub mod Shown

@@ -1,0 +1,88 @@
+-- Answers of several lines: a wiring with its runs and legs, the wiring of a map, and a drawing with its pins.
+use mathlib.Core.List.{List, [], _∷_, _++_}
+use Prim.Native.Nat.{ℕ, suc, _+_}
+use lib.ListN.{take}
+use Rattle.refusal.specs.Tests.{choose}
+use Rattle.refusal.specs.Refusals.{accepted}
+use Rattle.grid.specs.declared.Spot.{Spot}
+use Rattle.grid.specs.declared.Spot.the-variants.{Absent, At}
+use Rattle.copper.specs.declared.Shape.{Shape}
+use Rattle.copper.specs.declared.Shape.the-variants.{Straight, Lower, Upper}
+use Rattle.copper.specs.declared.Leg.{Leg}
+use Rattle.wiring.specs.declared.Shaped.{Shaped}
+use Rattle.wiring.specs.declared.Wiring.{Wiring}
+use Rattle.wiring.specs.declared.Laid.{Laid}
+use Rattle.script.specs.Text.{text}
+use Rattle.script.specs.Answers.{verdictLine, wiredLine, jobLine, runLine, legLine, drawingLine, pinLine}
+
+-- The word of a shape.
+abbrev pub shapeWord : Shape → List ℕ
+shapeWord Straight = text "straight"
+shapeWord Lower = text "lower"
+shapeWord Upper = text "upper"
+
+-- The line of a run: near, far, shape.
+unfoldable pub shapedLine : Shaped → List ℕ
+shapedLine run = runLine (run .near) (run .far) (shapeWord (run .shape))
+
+-- A line for each of a list, one after the other.
+unfoldable pub linesOf : {A : Type 0} → (A → List ℕ) → List A → List ℕ
+linesOf line [] = []
+linesOf line (a ∷ rest) = line a ++ linesOf line rest
+
+-- A line for each run.
+abbrev pub runsText : List Shaped → List ℕ
+runsText runs = linesOf shapedLine runs
+
+-- The line of a leg: its two ends.
+unfoldable pub legText : Leg → List ℕ
+legText leg = legLine (leg .from) (leg .to)
+
+-- A line for each leg.
+abbrev pub legsText : List Leg → List ℕ
+legsText legs = linesOf legText legs
+
+-- The line of a pin that is there; none for one that is not.
+unfoldable pub spotText : ℕ → Spot → List ℕ
+spotText pin Absent = []
+spotText pin (At place) = pinLine pin place
+
+-- A line for each pin that is there, numbered from the given number on.
+unfoldable pub pinsText : ℕ → List Spot → List ℕ
+pinsText pin [] = []
+pinsText pin (spot ∷ rest) = spotText pin spot ++ pinsText (suc pin) rest
+
+-- A pin counts where it is there.
+abbrev pub counted : Spot → ℕ
+counted Absent = 0
+counted (At place) = 1
+
+-- How many pins are there.
+unfoldable pub pinsIn : List Spot → ℕ
+pinsIn [] = 0
+pinsIn (spot ∷ rest) = counted spot + pinsIn rest
+
+-- An accepted wiring: its line, its runs, its legs.
+unfoldable pub wiredText : Wiring → List Leg → List ℕ
+wiredText wiring legs =
+    wiredLine (wiring .length) (wiring .count) (wiring .legs) (wiring .weighed)
+    ++ runsText (take (wiring .count) (wiring .runs))
+    ++ legsText (take (wiring .legs) legs)
+
+-- The answer of a wiring with its legs; where it is refused, the line of its verdict alone.
+unfoldable pub laidText : Laid → List ℕ
+laidText laid =
+    choose (accepted (laid .wiring .verdict)) (wiredText (laid .wiring) (laid .legs)) (verdictLine (laid .wiring .verdict))
+
+-- An accepted wiring of a map: its line and its runs.
+unfoldable pub jobText : ℕ → Wiring → List ℕ
+jobText job wiring =
+    jobLine job (wiring .length) (wiring .count) (wiring .weighed) ++ runsText (take (wiring .count) (wiring .runs))
+
+-- The answer of the wiring of a map; where it is refused, the line of its verdict alone.
+unfoldable pub mapText : ℕ → Wiring → List ℕ
+mapText job wiring = choose (accepted (wiring .verdict)) (jobText job wiring) (verdictLine (wiring .verdict))
+
+-- A drawing: its line, then its pins from pin 0 on.
+unfoldable pub drawnText : ℕ → List Spot → ℕ → ℕ → List ℕ
+drawnText job feed standing taken = drawingLine job (pinsIn feed) standing taken ++ pinsText 0 feed

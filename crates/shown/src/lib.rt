@@ -1,0 +1,184 @@
+// Answers of several lines printed into a lent buffer: a wiring, the wiring of a map, a drawing.
+use copper::Leg;
+use copper::Shape;
+use grid::Spot;
+use script::answers::ROOM;
+use script::answers::print_drawing;
+use script::answers::print_job;
+use script::answers::print_leg;
+use script::answers::print_pin;
+use script::answers::print_run;
+use script::answers::print_verdict;
+use script::answers::print_wired;
+use script::feed::least;
+use wiring::Laid;
+use wiring::Shaped;
+use wiring::Wiring;
+ghost use mathlib.Core.Path.{_≡_};
+ghost use Prim.Native.Nat.{_+_, _≤_};
+ghost use lib.ListN.{length, take};
+ghost use lib.Seq.{sets};
+ghost use Rattle.script.specs.Text.{over, room};
+ghost use Rattle.shown.specs.Shown.{shapedLine, runsText, legText, legsText, spotText, pinsText, counted, pinsIn, laidText, mapText, drawnText};
+
+// A run, from a position on.
+fn put_shaped(run: Shaped, out: &mut [u8; ROOM], at: usize) -> usize
+    requires { ⌜ at + 51 ≤ room ⌝ }
+    ensures { λ r. ⌜ (r ≡ at + length (shapedLine run)) × (r ≤ at + 51) ⌝ }
+    ensures { λ _. ⌜ now (out .exit) ≡ sets (now (out .entry)) at (shapedLine run) ⌝ }
+{
+    let shape = run.shape;
+    match shape {
+        Shape::Straight => print_run(run.near, run.far, b"straight", out, at),
+        Shape::Lower => print_run(run.near, run.far, b"lower", out, at),
+        Shape::Upper => print_run(run.near, run.far, b"upper", out, at),
+    }
+}
+
+// The first runs of a list, from a position on.
+fn put_runs(runs: [Shaped; 31], count: usize, out: &mut [u8; ROOM], at: usize) -> usize
+    requires { ⌜ at + 1581 ≤ room ⌝ }
+    ensures { λ r. ⌜ (r ≡ at + length (runsText (take count runs))) × (r ≤ at + 1581) ⌝ }
+    ensures { λ _. ⌜ now (out .exit) ≡ sets (now (out .entry)) at (runsText (take count runs)) ⌝ }
+{
+    let most = least(count, 31);
+    let mut next = at;
+    let mut i = 0;
+    while i < most {
+        let run = runs[i];
+        next = put_shaped(run, out, next);
+        i += 1;
+    }
+    next
+}
+
+// A leg, from a position on.
+fn put_leg(leg: Leg, out: &mut [u8; ROOM], at: usize) -> usize
+    requires { ⌜ at + 92 ≤ room ⌝ }
+    ensures { λ r. ⌜ (r ≡ at + length (legText leg)) × (r ≤ at + 92) ⌝ }
+    ensures { λ _. ⌜ now (out .exit) ≡ sets (now (out .entry)) at (legText leg) ⌝ }
+{
+    let from = leg.from;
+    let to = leg.to;
+    print_leg(from, to, out, at)
+}
+
+// The first legs of a list, from a position on.
+fn put_legs(legs: [Leg; 62], count: usize, out: &mut [u8; ROOM], at: usize) -> usize
+    requires { ⌜ at + 5704 ≤ room ⌝ }
+    ensures { λ r. ⌜ (r ≡ at + length (legsText (take count legs))) × (r ≤ at + 5704) ⌝ }
+    ensures { λ _. ⌜ now (out .exit) ≡ sets (now (out .entry)) at (legsText (take count legs)) ⌝ }
+{
+    let most = least(count, 62);
+    let mut next = at;
+    let mut i = 0;
+    while i < most {
+        let leg = legs[i];
+        next = put_leg(leg, out, next);
+        i += 1;
+    }
+    next
+}
+
+// A pin that is there, from a position on.
+fn put_spot(pin: usize, spot: Spot, out: &mut [u8; ROOM], at: usize) -> usize
+    requires { ⌜ at + 69 ≤ room ⌝ }
+    ensures { λ r. ⌜ (r ≡ at + length (spotText pin spot)) × (r ≤ at + 69) ⌝ }
+    ensures { λ _. ⌜ now (out .exit) ≡ sets (now (out .entry)) at (spotText pin spot) ⌝ }
+{
+    match spot {
+        Spot::Absent => at,
+        Spot::At(place) => print_pin(pin, place, out, at),
+    }
+}
+
+// The pins of a feed that are there, from a position on.
+fn put_pins(feed: [Spot; 32], out: &mut [u8; ROOM], at: usize) -> usize
+    requires { ⌜ at + 2208 ≤ room ⌝ }
+    ensures { λ r. ⌜ (r ≡ at + length (pinsText 0 feed)) × (r ≤ at + 2208) ⌝ }
+    ensures { λ _. ⌜ now (out .exit) ≡ sets (now (out .entry)) at (pinsText 0 feed) ⌝ }
+{
+    let mut next = at;
+    let mut pin = 0;
+    while pin < 32 {
+        let spot = feed[pin];
+        next = put_spot(pin, spot, out, next);
+        pin += 1;
+    }
+    next
+}
+
+// What a pin counts for.
+fn count_of(spot: Spot) -> usize
+    ensures { λ r. ⌜ (r ≡ counted spot) × (r ≤ 1) ⌝ }
+{
+    match spot {
+        Spot::Absent => 0,
+        Spot::At(_) => 1,
+    }
+}
+
+// How many pins of a feed are there.
+fn pins_in(feed: [Spot; 32]) -> usize
+    ensures { λ r. ⌜ r ≡ pinsIn feed ⌝ }
+{
+    let mut count = 0;
+    let mut pin = 0;
+    while pin < 32 {
+        let spot = feed[pin];
+        count += count_of(spot);
+        pin += 1;
+    }
+    count
+}
+
+// Prints the answer of a wiring with its legs, and answers how many bytes that is.
+pub fn print_laid(laid: Laid, out: &mut [u8; ROOM]) -> usize
+    ensures { λ r. ⌜ (r ≡ length (laidText laid)) × (r ≤ room) ⌝ }
+    ensures { λ _. ⌜ now (out .exit) ≡ over (laidText laid) (now (out .entry)) ⌝ }
+{
+    let wiring = laid.wiring;
+    let verdict = wiring.verdict;
+    if !refusal::is_accepted(verdict) {
+        return print_verdict(verdict, out);
+    }
+    let runs = wiring.runs;
+    let legs = laid.legs;
+    let length = wiring.length as usize;
+    let weighed = wiring.weighed as usize;
+    let one = print_wired(length, wiring.count, wiring.legs, weighed, out);
+    let two = put_runs(runs, wiring.count, out, one);
+    put_legs(legs, wiring.legs, out, two)
+}
+
+// Prints the answer of the wiring of a map, and answers how many bytes that is.
+pub fn print_map(job: u16, wiring: Wiring, out: &mut [u8; ROOM]) -> usize
+    ensures { λ r. ⌜ (r ≡ length (mapText job wiring)) × (r ≤ room) ⌝ }
+    ensures { λ _. ⌜ now (out .exit) ≡ over (mapText job wiring) (now (out .entry)) ⌝ }
+{
+    let verdict = wiring.verdict;
+    if !refusal::is_accepted(verdict) {
+        return print_verdict(verdict, out);
+    }
+    let runs = wiring.runs;
+    let length = wiring.length as usize;
+    let weighed = wiring.weighed as usize;
+    let one = print_job(job as usize, length, wiring.count, weighed, out);
+    put_runs(runs, wiring.count, out, one)
+}
+
+// Prints a drawing, and answers how many bytes that is.
+pub fn print_drawn(
+    job: u16,
+    feed: [Spot; 32],
+    standing: usize,
+    taken: usize,
+    out: &mut [u8; ROOM],
+) -> usize
+    ensures { λ r. ⌜ (r ≡ length (drawnText job feed standing taken)) × (r ≤ room) ⌝ }
+    ensures { λ _. ⌜ now (out .exit) ≡ over (drawnText job feed standing taken) (now (out .entry)) ⌝ }
+{
+    let pins = pins_in(feed);
+    let next = print_drawing(job as usize, pins, standing, taken, out);
+    put_pins(feed, out, next)
+}
