@@ -1,12 +1,16 @@
 #!/usr/bin/env python3
 """Compares and measures the proved programs: bench.py agree [FIRST LAST] | calls | stack. README.md beside it says what each does."""
 import os
+import random
 import resource
 import shutil
 import subprocess
 import sys
 import tempfile
 from pathlib import Path
+
+sys.dont_write_bytecode = True
+import random_log
 
 HERE = Path(__file__).resolve().parent
 BUILT = HERE.parent / "target" / "bin"
@@ -51,18 +55,35 @@ def plain(folder, *words):
     return [program]
 
 
+def map_answer(replay, text):
+    """What wiremap must print for a map, in hex, worked out from what a replay prints."""
+    job = 1 if len(text) < 4 else int(text[:4], 16)
+    # A line of a log takes 4,200 bytes of a map; any map above 384 bytes is refused alike.
+    wrote = run(replay, f"open 0 {job} {text[:8400]}\nwire 0 64\n".encode())[0].decode().splitlines()
+    if wrote[0] != "0" or wrote[1].startswith("refused"):
+        return f"{wrote[0] if wrote[0] != '0' else wrote[1]}\n".encode()
+    length, runs, weighed = (wrote[1].split()[i] for i in (2, 4, 8))
+    lines = [f"job {job} length {length} runs {runs} weighed {weighed}"] + wrote[2 : 2 + int(runs)]
+    return "".join(f"{line}\n" for line in lines).encode()
+
+
 def agree(first=1, last=100):
-    """The proved replay and replay.c on logs at random; a log on which they differ is kept."""
+    """The proved programs and replay.c on logs and maps at random; one on which they differ is kept."""
+    seeds = range(int(first), int(last) + 1)
     differ = 0
     with tempfile.TemporaryDirectory() as folder:
-        one, other = proved("replay"), plain(folder, "-DEVERY_CHOICE=12")
-        for seed in range(int(first), int(last) + 1):
-            log = subprocess.run([sys.executable, HERE / "random_log.py", str(seed)], check=True, stdout=subprocess.PIPE).stdout
-            if run(one, log)[0] != run(other, log)[0]:
-                Path(f"differs-{seed}.log").write_bytes(log)
-                print(f"seed {seed}: they differ, see differs-{seed}.log")
-                differ += 1
-    print(f"{int(last) - int(first) + 1} logs, {differ} differ")
+        replay, wiremap, other = proved("replay"), proved("wiremap"), plain(folder, "-DEVERY_CHOICE=12")
+        for seed in seeds:
+            random.seed(seed)
+            log = random_log.log()
+            text = random_log.pin_map(random.choice([0, 1, 7, 65535]), random.choice([1, 3, 9]))
+            data = b"" if text == "-" else bytes.fromhex(text)
+            for name, command, given, wanted in (("replay", replay, log, run(other, log)[0]), ("wiremap", wiremap, data, map_answer(other, text))):
+                if run(command, given)[0] != wanted:
+                    differ += 1
+                    Path(f"{name}-{seed}.differs").write_bytes(given)
+                    print(f"{name} differs on what is now in {name}-{seed}.differs")
+    print(f"{len(seeds)} logs and {len(seeds)} maps, {differ} differ")
 
 
 def calls():

@@ -88,7 +88,7 @@ def pin_map(job, spread):
     data = b"".join(record(*r) for r in records)
     if chance(4):
         data = pick([data[:-1], data + b"\0", data * 2, data[:1], bytes(385), bytes(396), bytes(4200), bytes(4201)])
-    text = data.hex() or ("-" if chance(95) else "")
+    text = data.hex() or "-"
     return text.upper() if chance(10) else text
 
 
@@ -169,6 +169,8 @@ def full_journal(spread):
             lines += ["redo 0"] * random.randint(0, 3)
     for _ in range(80):
         lines.append(pick(["undo 0", "undo 1", "redo 0", "redo 1", "pins 0", edit(spread), look(spread), f"move 0 0 {part(spread)} 60", f"move 1 0 {part(spread)} 60"]))
+    if chance(30):
+        lines += ["undo 0"] * 260 + ["pins 0", edit(spread)] + ["redo 0"] * 260 + ["pins 0"]
     return lines + [pick(["close 0", "close 1"])] + [edit(spread) for _ in range(10)]
 
 
