@@ -1,3 +1,2 @@
--- What the code of copper rests on, and boards worked by hand.
+-- What the code of copper rests on.
 pub mod Differences
-pub mod Worked

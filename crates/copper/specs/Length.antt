@@ -1,14 +1,16 @@
--- Length is the number of unit grid steps covered by at least one leg.
+-- Length is the number of unit grid steps covered by at least one leg; and three boards worked by hand, computed from it.
+use mathlib.Core.Path.{_≡_, refl}
 use mathlib.Core.Bool.{Bool, false}
 use mathlib.Core.List.{List, [], _∷_, _++_}
 use Prim.Native.Nat.{ℕ, zero, suc}
-use lib.IntN.{ℤ, pos, _+ℤ_}
+use lib.IntN.{ℤ, pos, negℤ, _+ℤ_}
 use lib.Signed.{leZ}
 use Rattle.refusal.specs.Tests.{both, either, choose}
 use Rattle.grid.specs.declared.Place.{Place}
 use Rattle.grid.specs.Place.{difference, sameNumber}
 use Rattle.copper.specs.declared.Leg.{Leg}
-use Rattle.copper.specs.Shapes.{shapeOf, legsOf}
+use Rattle.copper.specs.declared.Shape.the-variants.{Straight, Lower, Upper}
+use Rattle.copper.specs.Shapes.{lowerCorner, upperCorner, shapeOf, legsOf}
 
 -- A unit grid step: from (x, y) to (x + 1, y), or from (x, y) to (x, y + 1).
 pub data Step : Type 0 where
@@ -70,3 +72,32 @@ legsOfRuns at near upper zero = []
 legsOfRuns at near upper (suc n) =
     legsOfRuns at near upper n
     ++ legsOf (shapeOf (upper n) (at (near n)) (at (suc n))) (at (near n)) (at (suc n))
+
+-- A number below zero.
+abbrev minus : ℕ → ℤ
+minus n = negℤ (pos n)
+
+-- A place, x before y.
+abbrev place : ℤ → ℤ → Place
+place x y = record { x = x; y = y }
+
+-- W3: 0-1 lower, 1-2 straight.
+abbrev legsOfW3 : List Leg
+legsOfW3 = legsOf Lower (place (pos 0) (pos 0)) (place (pos 4) (pos 2)) ++ legsOf Straight (place (pos 4) (pos 2)) (place (pos 4) (minus 2))
+
+-- W5: 0-1 straight, 0-3 lower, 0-2 lower.
+abbrev legsOfW5 : List Leg
+legsOfW5 = legsOf Straight (place (pos 0) (pos 1)) (place (pos 0) (minus 1)) ++ legsOf Lower (place (pos 0) (pos 1)) (place (pos 1) (pos 0)) ++ legsOf Lower (place (pos 0) (pos 1)) (place (minus 1) (pos 0))
+
+-- W6: 0-2 upper, 2-1 upper.
+abbrev legsOfW6 : List Leg
+legsOfW6 = legsOf Upper (place (pos 0) (pos 0)) (place (pos 1) (minus 3)) ++ legsOf Upper (place (pos 1) (minus 3)) (place (pos 3) (minus 1))
+
+-- W6 with lower kept for its first run.
+abbrev legsOfW6Lower : List Leg
+legsOfW6Lower = legsOf Lower (place (pos 0) (pos 0)) (place (pos 1) (minus 3)) ++ legsOf Upper (place (pos 1) (minus 3)) (place (pos 3) (minus 1))
+
+-- Their lengths are 8, 4 and 6; the last one's is 8.
+pub worked : (lengthOf legsOfW3 ≡ 8) × (lengthOf legsOfW5 ≡ 4) × (lengthOf legsOfW6 ≡ 6) × (lengthOf legsOfW6Lower ≡ 8)
+unfolding both either choose difference sameNumber lowerCorner upperCorner legsOf sameStep stepsAcross stepsUp smaller stepsOf stepsOfAll among different lengthOf
+worked = (refl, refl, refl, refl)

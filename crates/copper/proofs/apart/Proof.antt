@@ -18,14 +18,14 @@ ahead-requires-2 c κs =
 returns : tie.Need-returns
 returns c =
     let f = c .before .before .fits in
-    cc (toZ-ofZ (f .a), toZ-ofZ (f .b))
+    rw (c .ahead .ensures, toZ-ofZ (f .a), toZ-ofZ (f .b))
 
 returns-2 : tie.Need-returns-2
 returns-2 c =
     let f = c .before .before .fits in
     let a : ℤ = c .before .before .args .a in
     let b : ℤ = c .before .before .args .b in
-    cc (toZ-ofZ (f .a), toZ-ofZ (f .b), difference-swap a b (f .a .sfits) (f .b .sfits))
+    rw (c .ahead2 .ensures, toZ-ofZ (f .a), toZ-ofZ (f .b)) (difference-swap b a (f .b .sfits) (f .a .sfits))
 
 pub apart-spec : {M : Type 1} → statement M
 apart-spec = tie.close (tie.spec ahead-requires ahead-requires-2 returns returns-2)

@@ -28,7 +28,8 @@ returns c =
     let py : SFits w32 (s .args .pin .y) = search needs in
     let tx : SFits w32 (s .args .tip .x) = search needs in
     let ty : SFits w32 (s .args .tip .y) = search needs in
-    cc (toZ-ofZ px, toZ-ofZ py, toZ-ofZ tx, toZ-ofZ ty, same-bits tx px, same-bits ty py)
+    rw (c .before .before .before .before .before .before .before .before .before .reach-of .ensures, c .before .before .before .before .before .before .reach-of2 .ensures, c .before .before .before .reach-of3 .ensures, c .reach-of4 .ensures)
+    (rw (toZ-ofZ px, toZ-ofZ py, toZ-ofZ tx, toZ-ofZ ty, same-bits tx px, same-bits ty py))
 
 pub arms-to-spec : {M : Type 1} → statement M
 arms-to-spec =

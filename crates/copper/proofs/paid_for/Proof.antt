@@ -1,6 +1,6 @@
 -- `copper::paid_for` meets its contract, from what `is_straight` and `apart` ensure. Assumes nothing.
-use mathlib.Core.Path.{_≡_}
-use mathlib.Core.Bool.{true, false}
+use mathlib.Core.Path.{_≡_, sym, _∙_}
+use mathlib.Core.Bool.{true}
 use native.Mathlib.Omega.{arith}
 use mir.Syntax.{w32}
 use mir.Val.{SFits}
@@ -21,10 +21,7 @@ is-straight-requires c κs = search needs
 
 returns : tie.Need-returns
 unfolding paidFor choose
-returns c =
-    let s : tie.Start = c .before .before in
-    let e : isStraight (s .args .near) (s .args .far) ≡ false = cc (not-true (c .before .is-straight .result) (c .if1 .taken)) in
-    simp e
+returns c = rw (sym (c .before .is-straight .ensures) ∙ not-true _ (c .if1 .taken))
 
 apart-requires : tie.Need-apart-requires
 apart-requires c κs = search needs
@@ -39,8 +36,8 @@ add-result c =
     let ny : SFits w32 (s .args .near .y) = search needs in
     let fx : SFits w32 (s .args .far .x) = search needs in
     let fy : SFits w32 (s .args .far .y) = search needs in
-    let ex : c .before .before .before .apart .result ≡ difference (s .args .near .x) (s .args .far .x) = cc (toZ-ofZ nx, toZ-ofZ fx) in
-    let ey : c .apart2 .result ≡ difference (s .args .near .y) (s .args .far .y) = cc (toZ-ofZ ny, toZ-ofZ fy) in
+    let ex : c .before .before .before .apart .result ≡ difference (s .args .near .x) (s .args .far .x) = rw (c .before .before .before .apart .ensures, toZ-ofZ nx, toZ-ofZ fx) in
+    let ey : c .apart2 .result ≡ difference (s .args .near .y) (s .args .far .y) = rw (c .apart2 .ensures, toZ-ofZ ny, toZ-ofZ fy) in
     omega (arith, ex, ey, difference-below (s .args .near .x) (s .args .far .x) (nx .sfits) (fx .sfits), difference-below (s .args .near .y) (s .args .far .y) (ny .sfits) (fy .sfits))
 
 returns-2 : tie.Need-returns-2
@@ -51,8 +48,8 @@ returns-2 c =
     let ny : SFits w32 (s .args .near .y) = search needs in
     let fx : SFits w32 (s .args .far .x) = search needs in
     let fy : SFits w32 (s .args .far .y) = search needs in
-    let e : isStraight (s .args .near) (s .args .far) ≡ true = cc (not-false (c .before .before .before .before .before .before .before .is-straight .result) (c .before .before .before .before .before .before .if1 .left)) in
-    simp e (cc (toZ-ofZ nx, toZ-ofZ fx, toZ-ofZ ny, toZ-ofZ fy))
+    let e : isStraight (s .args .near) (s .args .far) ≡ true = sym (c .before .before .before .before .before .before .before .is-straight .ensures) ∙ not-false _ (c .before .before .before .before .before .before .if1 .left) in
+    rw (e, c .before .before .before .apart .ensures, c .apart2 .ensures, toZ-ofZ nx, toZ-ofZ fx, toZ-ofZ ny, toZ-ofZ fy)
 
 pub paid-for-spec : {M : Type 1} → statement M
 paid-for-spec =

@@ -25,7 +25,7 @@ returns-2 c =
     let f = s .fits in
     let g : s .args .goes ≡ true = not-false (s .args .goes) (c .before .before .if1 .left) in
     let e : leZ (s .args .a) (s .args .b) ≡ true = le-rd (f .a) (f .b) (c .before .if2 .taken) in
-    simp (g, e) (cc (toZ-ofZ (f .a), toZ-ofZ (f .b)))
+    rw (g, e, c .ahead .ensures, toZ-ofZ (f .a), toZ-ofZ (f .b))
 
 returns-3 : tie.Need-returns-3
 unfolding reach beyond choose

@@ -25,7 +25,8 @@ returns c =
     let w = s .args .q .weight in
     let g = c .before .before .struct-told5 .given in
     let h = c .before .struct-told6 .given in
-    cc (held (v .distance) (g .0 .1), held (w .distance) (h .0 .1), held (v .rise) (g .1 .0 .1), held (w .rise) (h .1 .0 .1), held (v .right) (g .1 .1 .0 .1), held (w .right) (h .1 .1 .0 .1))
+    rw (c .by-part3 .ensures, c .before .before .before .by-part2 .ensures, c .before .before .before .before .before .before .by-part .ensures, c .before .before .before .before .before .before .before .before .before .by-number .ensures)
+    (rw (held (v .distance) (g .0 .1), held (w .distance) (h .0 .1), held (v .rise) (g .1 .0 .1), held (w .rise) (h .1 .0 .1), held (v .right) (g .1 .1 .0 .1), held (w .right) (h .1 .1 .0 .1)))
 
 pub before-spec : {M : Type 1} → statement M
 before-spec =

@@ -16,7 +16,7 @@ returns c =
     let a = c .before .before .args in
     let low : min (a .i) (a .j) ≡ a .i = omega arith in
     let high : max (a .i) (a .j) ≡ a .j = omega arith in
-    cc
+    rw (c .before .weigh .ensures, low, high)
 
 returns-2 : tie.Need-returns-2
 unfolding pairOf
@@ -24,7 +24,7 @@ returns-2 c =
     let a = c .before .before .args in
     let low : min (a .i) (a .j) ≡ a .j = omega arith in
     let high : max (a .i) (a .j) ≡ a .i = omega arith in
-    cc
+    rw (c .before .weigh .ensures, low, high)
 
 pub pair-of-spec : {M : Type 1} → statement M
 pair-of-spec = tie.close (tie.spec weigh-requires returns returns-2)

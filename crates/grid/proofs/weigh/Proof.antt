@@ -107,7 +107,7 @@ returns c =
     let e = sum-rd fx fy (dx-small c) (dy-small c) ∙ ap₂ _+ℤ_ (dx c) (dy c) in
     let f = minus-rd fy (dy-small c) ∙ ap negℤ (dy c) in
     let g = minus-rd fr (right-small c) ∙ ap negℤ (right c) in
-    cc (e, f, g)
+    rw (e, f, g)
 
 pub weigh-spec : {M : Type 1} → statement M
 weigh-spec =

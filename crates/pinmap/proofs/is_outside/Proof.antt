@@ -7,7 +7,7 @@ is-inside-requires : tie.Need-is-inside-requires
 is-inside-requires c κs = search needs
 
 returns : tie.Need-returns
-returns c = cc
+returns c = rw (c .is-inside .ensures)
 
 pub is-outside-spec : {M : Type 1} → statement M
 is-outside-spec = tie.close (tie.spec is-inside-requires returns)

@@ -9,7 +9,7 @@ pair-of-requires c κs = search needs
 
 returns : tie.Need-returns
 unfolding offerOf
-returns c = cc
+returns c = rw (c .pair-of .ensures)
 
 pub offer-of-spec : {M : Type 1} → statement M
 offer-of-spec = tie.close (tie.spec pair-of-requires returns)
