@@ -156,9 +156,9 @@ pub fn print_map(job: u16, wiring: Wiring, out: &mut [u8; ROOM]) -> usize
     ensures { λ r. ⌜ (r ≡ length (mapText job wiring)) × (r ≤ room) ⌝ }
     ensures { λ _. ⌜ now (out .exit) ≡ over (mapText job wiring) (now (out .entry)) ⌝ }
 {
-    let verdict = wiring.verdict;
-    if !refusal::is_accepted(verdict) {
-        return print_verdict(verdict, out);
+    let outcome = wiring.verdict;
+    if !refusal::is_accepted(outcome) {
+        return print_verdict(outcome, out);
     }
     let runs = wiring.runs;
     let length = wiring.length as usize;
