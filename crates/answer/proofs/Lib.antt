@@ -1,0 +1,5 @@
+-- What is proved of answers to lines beside the functions' contracts.
+pub mod Ordered
+pub mod Telling
+pub mod Showing
+pub mod Answering

@@ -1,0 +1,169 @@
+-- What the order of a line says of the lent buffers: the counts of an opening and of a bare wiring are those of its map and of its
+-- lists, and every count is within its room. From the words of the line. Assumes nothing.
+use mathlib.Core.Path.{_≡_, refl, sym, _∙_, ap}
+use mathlib.Core.Bool.{Bool, true, false}
+use mathlib.Core.List.{List, [], _∷_}
+use Prim.Native.Nat.{ℕ, _+_, _*_, _≤_}
+use native.Mathlib.Omega.{arith}
+use lib.IntN.{ℤ}
+use lib.Dec.{eqb}
+use lib.ListN.{length, take, drop}
+use lib.Seq.{sets-eq, take-at}
+use Rattle.refusal.specs.Tests.{both, choose}
+use Rattle.refusal.proofs.Tests.{both-left, both-right}
+use Rattle.script.specs.declared.Order.{Order}
+use Rattle.script.specs.Text.{text, same, over}
+use Rattle.script.specs.Numbers.{most, mostJob, mostBytes, mostNumbers, none, isNumber, listed, isList, bytesOf, isMap}
+use Rattle.script.specs.Words.{withoutReturn, wordsOf, word}
+use Rattle.script.specs.Orders.{mostRoom, mostLegs, only, seatCall, pairCall, isOpening, isBaring, isPlacing, opening, baring, lentCall, placeCall, callOf, isSkipped, asked, isLong, orderOf, mapIn, mapAsked, mapOf, listIn, listAsked, acrossOf, upOf}
+use Rattle.script.proofs.Values.{number-top, map-length, list-row, listed-none, listed-row, row-numbers}
+
+-- What an order says of its map, its lists and its counts.
+unfoldable pub Fair : List ℕ → List ℤ → List ℤ → Order → Type 0
+Fair m xs ys Order.Skip = Unit {0}
+Fair m xs ys Order.NotACall = Unit {0}
+Fair m xs ys (Order.Open s job n) = (n ≡ length m) × (n ≤ mostBytes)
+Fair m xs ys (Order.Close s) = Unit {0}
+Fair m xs ys (Order.Place s p at) = Unit {0}
+Fair m xs ys (Order.Move s p to) = Unit {0}
+Fair m xs ys (Order.Remove s p) = Unit {0}
+Fair m xs ys (Order.Undo s) = Unit {0}
+Fair m xs ys (Order.Redo s) = Unit {0}
+Fair m xs ys (Order.Write s room) = room ≤ mostRoom
+Fair m xs ys (Order.Wire s room) = Unit {0}
+Fair m xs ys (Order.Bare room across up) =
+    ((across ≡ length xs) × (across ≤ mostNumbers)) × ((up ≡ length ys) × (up ≤ mostNumbers))
+Fair m xs ys (Order.Pins s) = Unit {0}
+
+-- A byte has two digits, and a list that was read is not too long.
+bytes-half : (w : List ℕ) → length (bytesOf w) * 2 ≤ length w
+unfolding bytesOf
+bytes-half [] = omega arith
+bytes-half (a ∷ []) = omega arith
+bytes-half (a ∷ b ∷ rest) = omega (arith, bytes-half rest)
+
+list-short : (w : List ℕ) → isList w ≡ true → length (listed w) ≤ mostNumbers
+list-short w h = by (same w none) refl
+  where
+    by : (t : Bool) → same w none ≡ t → length (listed w) ≤ mostNumbers
+    by true e = rw (← listed-none w e) (omega arith)
+    by false e = rw (← listed-row w e) (row-numbers w (list-row w e ∙ h) .1)
+
+-- What holds of both sides of a choice holds of it, and what holds of no call as well holds of a call that is one in its range only.
+row : (P : Order → Type 0) {p q : Order} (t : Bool) → (t ≡ true → P p) → (t ≡ false → P q) → P (choose t p q)
+unfolding choose
+row P true h k = h refl
+row P false h k = k refl
+
+just : (P : Order → Type 0) {p : Order} → P Order.NotACall → (t : Bool) → (t ≡ true → P p) → P (only t p)
+unfolding only
+just P n t h = row P t h (λ e. n)
+
+module _ (m : List ℕ) (xs ys : List ℤ) where
+  abbrev F : Order → Type 0
+  F o = Fair m xs ys o
+
+  -- Calls of two words, of three and of five.
+  seat-fair : (name a : List ℕ) → Fair m xs ys (seatCall name a)
+  unfolding seatCall Fair
+  seat-fair name a =
+      just F tt (isNumber most a)
+      (λ e. row F (same name (text "close")) (λ e. tt)
+      (λ e. row F (same name (text "undo")) (λ e. tt)
+      (λ e. row F (same name (text "redo")) (λ e. tt) (λ e. row F (same name (text "pins")) (λ e. tt) (λ e. tt)))))
+
+  pair-fair : (name a b : List ℕ) → Fair m xs ys (pairCall name a b)
+  unfolding pairCall Fair
+  pair-fair name a b =
+      just F tt (isNumber most a)
+      (λ e. row F (same name (text "remove")) (λ e. just F tt (isNumber most b) (λ e. tt))
+      (λ e. row F (same name (text "write")) (λ e. just F tt (isNumber mostRoom b) (λ e. number-top mostRoom b e))
+      (λ e. row F (same name (text "wire")) (λ e. just F tt (isNumber mostLegs b) (λ e. tt)) (λ e. tt))))
+
+  place-fair : (name a b c d : List ℕ) → Fair m xs ys (placeCall name a b c d)
+  unfolding placeCall Fair
+  place-fair name a b c d =
+      just F tt (isPlacing a b c d)
+      (λ e. row F (same name (text "place")) (λ e. tt) (λ e. row F (same name (text "move")) (λ e. tt) (λ e. tt)))
+
+-- What the words of an opening and of a bare wiring are.
+map-read : (a b c : List ℕ) → isOpening a b c ≡ true → isMap c ≡ true
+unfolding isOpening
+map-read a b c f = both-right (isNumber mostJob b) (isMap c) (both-right (isNumber most a) (both (isNumber mostJob b) (isMap c)) f)
+
+lists-read : (a b c : List ℕ) → isBaring a b c ≡ true → both (isList b) (isList c) ≡ true
+unfolding isBaring
+lists-read a b c f = both-right (isNumber mostLegs a) (both (isList b) (isList c)) f
+
+-- Calls of four words.
+lent-fair : (name a b c : List ℕ)
+    → Fair (mapIn name a b c) (listIn name a b c b) (listIn name a b c c) (lentCall name a b c)
+unfolding lentCall opening baring mapIn listIn both choose Fair
+lent-fair name a b c =
+    let F : Order → Type 0 = Fair (mapIn name a b c) (listIn name a b c b) (listIn name a b c c) in
+    row F (same name (text "open"))
+    (λ e. just F tt (isOpening a b c)
+    (λ f. (rw (e, f), omega (arith, bytes-half c, map-length c (map-read a b c f)))))
+    (λ e. row F (same name (text "bare"))
+    (λ g. just F tt (isBaring a b c)
+    (λ f. let k = lists-read a b c f in
+    ((rw (g, f), list-short b (both-left (isList b) (isList c) k)), (rw (g, f), list-short c (both-right (isList b) (isList c) k))))) (λ g. tt))
+
+-- Only calls of four words have a map or lists.
+four-fair : (t : Bool) (name a b c : List ℕ) → t ≡ true
+    → Fair (choose t (mapIn name a b c) []) (choose t (listIn name a b c b) []) (choose t (listIn name a b c c) []) (lentCall name a b c)
+unfolding choose
+four-fair true name a b c e = lent-fair name a b c
+four-fair false name a b c e = absurd (let z : _≡_ {A = ℕ} 0 1 = cc in omega arith)
+
+call-fair : (n : ℕ) (name a b c d : List ℕ)
+    → Fair (choose (eqb n 4) (mapIn name a b c) []) (choose (eqb n 4) (listIn name a b c b) []) (choose (eqb n 4) (listIn name a b c c) []) (callOf n name a b c d)
+unfolding callOf Fair
+call-fair n name a b c d =
+    let m : List ℕ = choose (eqb n 4) (mapIn name a b c) [] in
+    let xs : List ℤ = choose (eqb n 4) (listIn name a b c b) [] in
+    let ys : List ℤ = choose (eqb n 4) (listIn name a b c c) [] in
+    let F : Order → Type 0 = Fair m xs ys in
+    row F (eqb n 2) (λ e. seat-fair m xs ys name a)
+    (λ e. row F (eqb n 3) (λ e. pair-fair m xs ys name a b)
+    (λ e. row F (eqb n 4) (λ f. four-fair (eqb n 4) name a b c f)
+    (λ e. row F (eqb n 5) (λ e. place-fair m xs ys name a b c d) (λ e. tt))))
+
+-- Words, and a line.
+words-fair : (words : List (List ℕ)) → Fair (mapAsked words) (listAsked 2 words) (listAsked 3 words) (asked words)
+unfolding asked mapAsked listAsked Fair
+words-fair words =
+    row (Fair (mapAsked words) (listAsked 2 words) (listAsked 3 words)) (isSkipped (word 0 words)) (λ e. tt)
+    (λ e. call-fair (length words) (word 0 words) (word 1 words) (word 2 words) (word 3 words) (word 4 words))
+
+line-fair : (t : Bool) (words : List (List ℕ))
+    → Fair (choose t [] (mapAsked words)) (choose t [] (listAsked 2 words)) (choose t [] (listAsked 3 words)) (choose t Order.NotACall (asked words))
+unfolding choose Fair
+line-fair true words = tt
+line-fair false words = words-fair words
+
+fair : (line : List ℕ) → Fair (mapOf line) (acrossOf line) (upOf line) (orderOf line)
+unfolding orderOf mapOf acrossOf upOf
+fair line = line-fair (isLong line) (wordsOf (withoutReturn line))
+
+module _ (line : List ℕ) {o : Order} (e : o ≡ orderOf line) where
+  of : {p : Order} → o ≡ p → Fair (mapOf line) (acrossOf line) (upOf line) p
+  of f = rw (sym e ∙ f) at (fair line)
+
+  -- The counts of an order that was read.
+  pub open-count : {s job n : ℕ} → o ≡ Order.Open s job n → (n ≡ length (mapOf line)) × (n ≤ mostBytes)
+  unfolding Fair
+  open-count f = of f
+
+  pub write-room : {s room : ℕ} → o ≡ Order.Write s room → room ≤ mostRoom
+  unfolding Fair
+  write-room f = of f
+
+  pub bare-counts : {room across up : ℕ} → o ≡ Order.Bare room across up
+      → ((across ≡ length (acrossOf line)) × (across ≤ mostNumbers)) × ((up ≡ length (upOf line)) × (up ≤ mostNumbers))
+  unfolding Fair
+  bare-counts f = of f
+
+-- What was stored at the start of a buffer is what its first elements are.
+pub first-stored : {A : Type 0} (old new : List A) {n : ℕ} → n ≡ length new → length new ≤ length old → take n (over new old) ≡ new
+first-stored old new {n} e h = ap (take n) (sets-eq new old 0 (omega arith)) ∙ take-at new (drop (0 + length new) old) n (sym e)

@@ -1,0 +1,285 @@
+-- `answer::answer_line` meets its contract. Assumes nothing.
+use mathlib.Core.Path.{refl}
+use Prim.Native.Nat.{ℕ}
+use native.Mathlib.Omega.{arith}
+use lib.IntN.{ℤ, pos}
+use lib.ListN.{length-replicate}
+use borrow.Author.Needs.{needs}
+use Rattle.desk.specs.Calls.{closing, placing, moving, removing, undoing, redoing}
+use Rattle.script.specs.Answers.{strayLine}
+use Rattle.answer.specs.Answered.{followed, printed}
+use Rattle.answer.proofs.Ordered.{open-count, write-room, bare-counts}
+use Rattle.answer.proofs.Telling.{held, called}
+use Rattle.answer.proofs.Answering.{answers, map-lent, across-lent, up-lent}
+use Rattle.answer.proofs.answer_line.Statement.{statement}
+use Rattle.answer.proofs.answer_line.Tie as tie
+
+read-line-requires : tie.Need-read-line-requires
+read-line-requires c κs = search needs
+
+enum-told : tie.Need-enum-told
+enum-told c = search needs
+
+enum-told-2 : tie.Need-enum-told-2
+enum-told-2 c = search needs
+
+print-stray-requires : tie.Need-print-stray-requires
+print-stray-requires c κs = search needs
+
+enum-known-order : tie.Need-enum-known-order
+enum-known-order c = search needs
+
+open-requires : tie.Need-open-requires
+open-requires c κs =
+    omega (arith, open-count (c .before .before .before .before .before .before .before .before .before .before .args .line .now) (c .before .before .before .before .before .read-line .ensures .0) (c .before .before .before .order .given .1))
+
+enum-known-order-2 : tie.Need-enum-known-order-2
+enum-known-order-2 c = search needs
+
+close-requires : tie.Need-close-requires
+close-requires c κs = search needs
+
+told-requires : tie.Need-told-requires
+told-requires c κs = search needs
+
+enum-known-order-3 : tie.Need-enum-known-order-3
+enum-known-order-3 c = search needs
+
+place-requires : tie.Need-place-requires
+place-requires c κs = search needs
+
+told-requires-2 : tie.Need-told-requires-2
+told-requires-2 c κs = search needs
+
+enum-known-order-4 : tie.Need-enum-known-order-4
+enum-known-order-4 c = search needs
+
+shift-requires : tie.Need-shift-requires
+shift-requires c κs = search needs
+
+told-requires-3 : tie.Need-told-requires-3
+told-requires-3 c κs = search needs
+
+enum-known-order-5 : tie.Need-enum-known-order-5
+enum-known-order-5 c = search needs
+
+remove-requires : tie.Need-remove-requires
+remove-requires c κs = search needs
+
+told-requires-4 : tie.Need-told-requires-4
+told-requires-4 c κs = search needs
+
+enum-known-order-6 : tie.Need-enum-known-order-6
+enum-known-order-6 c = search needs
+
+undo-requires : tie.Need-undo-requires
+undo-requires c κs = search needs
+
+told-requires-5 : tie.Need-told-requires-5
+told-requires-5 c κs = search needs
+
+enum-known-order-7 : tie.Need-enum-known-order-7
+enum-known-order-7 c = search needs
+
+redo-requires : tie.Need-redo-requires
+redo-requires c κs = search needs
+
+told-requires-6 : tie.Need-told-requires-6
+told-requires-6 c κs = search needs
+
+enum-known-order-8 : tie.Need-enum-known-order-8
+enum-known-order-8 c = search needs
+
+write-requires : tie.Need-write-requires
+write-requires c κs =
+    omega (arith, write-room (c .before .before .before .before .before .before .before .before .before .args .line .now) (c .before .before .before .before .read-line .ensures .0) (c .before .before .order8 .given .1))
+
+enum-known-order-9 : tie.Need-enum-known-order-9
+enum-known-order-9 c = search needs
+
+wire-requires : tie.Need-wire-requires
+wire-requires c κs = search needs
+
+enum-known-order-10 : tie.Need-enum-known-order-10
+enum-known-order-10 c = search needs
+
+wire-bare-requires : tie.Need-wire-bare-requires
+wire-bare-requires c κs =
+    omega (arith, bare-counts (c .before .before .before .before .before .before .before .before .before .before .before .args .line .now) (c .before .before .before .before .before .before .read-line .ensures .0) (c .before .before .before .before .order10 .given .1))
+
+enum-known-order-11 : tie.Need-enum-known-order-11
+enum-known-order-11 c = search needs
+
+show-pins-requires : tie.Need-show-pins-requires
+show-pins-requires c κs = search needs
+
+returns : tie.Need-returns
+unfolding followed printed
+returns c =
+    let s = c .before .before .before .before .before .before .before in
+    let e = c .before .before .read-line .ensures .0 in
+    let f = c .enum-told .given .1 in
+    answers (s .args .desk) (s .args .number) (s .args .line .now) (s .args .out .now) e f
+    (refl, record { bytes = refl; within = omega arith; buffer = refl })
+
+returns-2 : tie.Need-returns-2
+unfolding followed printed
+returns-2 c =
+    let s = c .before .before .before .before .before .before .before .before .before in
+    let e = c .before .before .before .before .read-line .ensures .0 in
+    let f = c .before .before .enum-told2 .given .1 in
+    answers (s .args .desk) (s .args .number) (s .args .line .now) (s .args .out .now) e f
+    (refl, held (strayLine (s .args .number)) (s .args .out .now) 200 (omega arith) (c .print-stray .ensures))
+
+returns-3 : tie.Need-returns-3
+unfolding followed printed
+returns-3 c =
+    let s = c .before .before .before .before .before .before .before .before .before .before .before in
+    let e = c .before .before .before .before .before .before .read-line .ensures .0 in
+    let f = c .before .before .before .before .order .given .1 in
+    answers (s .args .desk) (s .args .number) (s .args .line .now) (s .args .out .now) e f
+    (rw (map-lent (s .args .line .now) e _ f (c .before .before .before .before .before .before .read-line .ensures .1 .0) (length-replicate {A = ℕ} 4200 0)) at (c .open .ensures))
+
+returns-4 : tie.Need-returns-4
+unfolding followed printed
+returns-4 c =
+    let s = c .before .before .before .before .before .before .before .before .before .before .before in
+    let e = c .before .before .before .before .before .before .read-line .ensures .0 in
+    let f = c .before .before .before .before .order2 .given .1 in
+    answers (s .args .desk) (s .args .number) (s .args .line .now) (s .args .out .now) e f
+    (called (s .args .desk) (s .args .out .now) (closing (c .before .before .before .before .order2 .given .0 .0)) (c .before .before .close .ensures) (c .told .ensures))
+
+returns-5 : tie.Need-returns-5
+unfolding followed printed
+returns-5 c =
+    let s = c .before .before .before .before .before .before .before .before .before .before .before in
+    let e = c .before .before .before .before .before .before .read-line .ensures .0 in
+    let f = c .before .before .before .before .order3 .given .1 in
+    answers (s .args .desk) (s .args .number) (s .args .line .now) (s .args .out .now) e f
+    (called (s .args .desk) (s .args .out .now) (placing (c .before .before .before .before .order3 .given .0 .0) (c .before .before .before .before .order3 .given .0 .1 .0) (c .before .before .before .before .order3 .given .0 .1 .1 .0)) (c .before .before .place .ensures) (c .told2 .ensures))
+
+returns-6 : tie.Need-returns-6
+unfolding followed printed
+returns-6 c =
+    let s = c .before .before .before .before .before .before .before .before .before .before .before in
+    let e = c .before .before .before .before .before .before .read-line .ensures .0 in
+    let f = c .before .before .before .before .order4 .given .1 in
+    answers (s .args .desk) (s .args .number) (s .args .line .now) (s .args .out .now) e f
+    (called (s .args .desk) (s .args .out .now) (moving (c .before .before .before .before .order4 .given .0 .0) (c .before .before .before .before .order4 .given .0 .1 .0) (c .before .before .before .before .order4 .given .0 .1 .1 .0)) (c .before .before .shift .ensures) (c .told3 .ensures))
+
+returns-7 : tie.Need-returns-7
+unfolding followed printed
+returns-7 c =
+    let s = c .before .before .before .before .before .before .before .before .before .before .before in
+    let e = c .before .before .before .before .before .before .read-line .ensures .0 in
+    let f = c .before .before .before .before .order5 .given .1 in
+    answers (s .args .desk) (s .args .number) (s .args .line .now) (s .args .out .now) e f
+    (called (s .args .desk) (s .args .out .now) (removing (c .before .before .before .before .order5 .given .0 .0) (c .before .before .before .before .order5 .given .0 .1 .0)) (c .before .before .remove .ensures) (c .told4 .ensures))
+
+returns-8 : tie.Need-returns-8
+unfolding followed printed
+returns-8 c =
+    let s = c .before .before .before .before .before .before .before .before .before .before .before in
+    let e = c .before .before .before .before .before .before .read-line .ensures .0 in
+    let f = c .before .before .before .before .order6 .given .1 in
+    answers (s .args .desk) (s .args .number) (s .args .line .now) (s .args .out .now) e f
+    (called (s .args .desk) (s .args .out .now) (undoing (c .before .before .before .before .order6 .given .0 .0)) (c .before .before .undo .ensures) (c .told5 .ensures))
+
+returns-9 : tie.Need-returns-9
+unfolding followed printed
+returns-9 c =
+    let s = c .before .before .before .before .before .before .before .before .before .before .before in
+    let e = c .before .before .before .before .before .before .read-line .ensures .0 in
+    let f = c .before .before .before .before .order7 .given .1 in
+    answers (s .args .desk) (s .args .number) (s .args .line .now) (s .args .out .now) e f
+    (called (s .args .desk) (s .args .out .now) (redoing (c .before .before .before .before .order7 .given .0 .0)) (c .before .before .redo .ensures) (c .told6 .ensures))
+
+returns-10 : tie.Need-returns-10
+unfolding followed printed
+returns-10 c =
+    let s = c .before .before .before .before .before .before .before .before .before .before in
+    let e = c .before .before .before .before .before .read-line .ensures .0 in
+    let f = c .before .before .before .order8 .given .1 in
+    answers (s .args .desk) (s .args .number) (s .args .line .now) (s .args .out .now) e f
+    (c .write .ensures)
+
+returns-11 : tie.Need-returns-11
+unfolding followed printed
+returns-11 c =
+    let s = c .before .before .before .before .before .before .before .before .before .before in
+    let e = c .before .before .before .before .before .read-line .ensures .0 in
+    let f = c .before .before .before .order9 .given .1 in
+    answers (s .args .desk) (s .args .number) (s .args .line .now) (s .args .out .now) e f
+    (c .wire .ensures)
+
+returns-12 : tie.Need-returns-12
+unfolding followed printed
+returns-12 c =
+    let s = c .before .before .before .before .before .before .before .before .before .before .before .before in
+    let e = c .before .before .before .before .before .before .before .read-line .ensures .0 in
+    let f = c .before .before .before .before .before .order10 .given .1 in
+    answers (s .args .desk) (s .args .number) (s .args .line .now) (s .args .out .now) e f (
+      refl,
+      rw (up-lent (s .args .line .now) e _ f (c .before .before .before .before .before .before .before .read-line .ensures .1 .1 .1) (length-replicate {A = ℤ} 40 (pos 0)))
+          at (rw (across-lent (s .args .line .now) e _ f (c .before .before .before .before .before .before .before .read-line .ensures .1 .1 .0) (length-replicate {A = ℤ} 40 (pos 0)))
+          at (c .wire-bare .ensures)),
+    )
+
+returns-13 : tie.Need-returns-13
+unfolding followed printed
+returns-13 c =
+    let s = c .before .before .before .before .before .before .before .before .before .before in
+    let e = c .before .before .before .before .before .read-line .ensures .0 in
+    let f = c .before .before .before .order11 .given .1 in
+    answers (s .args .desk) (s .args .number) (s .args .line .now) (s .args .out .now) e f
+    (refl, c .show-pins .ensures)
+
+pub answer-line-spec : {M : Type 1} → statement M
+answer-line-spec =
+    tie.close
+    (tie.spec
+    read-line-requires
+    enum-told
+    enum-told-2
+    print-stray-requires
+    enum-known-order
+    open-requires
+    enum-known-order-2
+    close-requires
+    told-requires
+    enum-known-order-3
+    place-requires
+    told-requires-2
+    enum-known-order-4
+    shift-requires
+    told-requires-3
+    enum-known-order-5
+    remove-requires
+    told-requires-4
+    enum-known-order-6
+    undo-requires
+    told-requires-5
+    enum-known-order-7
+    redo-requires
+    told-requires-6
+    enum-known-order-8
+    write-requires
+    enum-known-order-9
+    wire-requires
+    enum-known-order-10
+    wire-bare-requires
+    enum-known-order-11
+    show-pins-requires
+    returns
+    returns-2
+    returns-3
+    returns-4
+    returns-5
+    returns-6
+    returns-7
+    returns-8
+    returns-9
+    returns-10
+    returns-11
+    returns-12
+    returns-13)

@@ -1,0 +1,82 @@
+-- `answer::show_pins` meets its contract. Assumes nothing.
+use mathlib.Core.Path.{sym, _∙_}
+use native.Mathlib.Omega.{arith}
+use borrow.Author.Needs.{needs}
+use borrow.Author.Tests.{not-true, not-false}
+use Rattle.desk.proofs.Sound.{used-within, standing-within}
+use Rattle.answer.proofs.Showing.{pins-broken, pins-above, pins-closed, pins-drawn}
+use Rattle.answer.proofs.show_pins.Statement.{statement}
+use Rattle.answer.proofs.show_pins.Tie as tie
+
+is-sound-requires : tie.Need-is-sound-requires
+is-sound-requires c κs = search needs
+
+print-verdict-requires : tie.Need-print-verdict-requires
+print-verdict-requires c κs = search needs
+
+returns : tie.Need-returns
+returns c =
+    let s = c .before .before .before .before in
+    pins-broken (s .args .desk) (s .args .seat) (s .args .out .now) (sym (c .before .before .before .is-sound .ensures) ∙ not-true _ (c .before .before .if1 .taken)) (c .print-verdict .ensures)
+
+print-verdict-requires-2 : tie.Need-print-verdict-requires-2
+print-verdict-requires-2 c κs = search needs
+
+returns-2 : tie.Need-returns-2
+returns-2 c =
+    let s = c .before .before .before .before .before in
+    pins-above (s .args .desk) (s .args .seat) (s .args .out .now) (sym (c .before .before .before .before .is-sound .ensures) ∙ not-false _ (c .before .before .before .if1 .left)) (c .before .before .if2 .taken) (c .print-verdict2 .ensures)
+
+mul-s : tie.Need-mul-s
+mul-s c = search needs
+
+element-copy-out-s : tie.Need-element-copy-out-s
+element-copy-out-s c = search needs
+
+print-closed-requires : tie.Need-print-closed-requires
+print-closed-requires c κs = search needs
+
+returns-3 : tie.Need-returns-3
+returns-3 c =
+    let s = c .before .before .before .before .before .before .before .before in
+    pins-closed (s .args .desk) (s .args .seat) (s .args .out .now) (sym (c .before .before .before .before .before .before .before .is-sound .ensures) ∙ not-false _ (c .before .before .before .before .before .before .if1 .left)) (c .before .before .before .before .before .if2 .left) (not-true _ (c .before .before .if3 .taken)) (c .print-closed .ensures)
+
+count-of-requires : tie.Need-count-of-requires
+count-of-requires c κs = used-within (c .before .before .before .before .before .before .before .args .desk) (sym (c .before .before .before .before .before .before .is-sound .ensures) ∙ not-false _ (c .before .before .before .before .before .if1 .left))
+
+feed-requires : tie.Need-feed-requires
+feed-requires c κs = search needs
+
+sub-print-drawn : tie.Need-sub-print-drawn
+sub-print-drawn c =
+    let s = c .before .before .before .before .before .before .before .before .before .before .before in
+    let e = (sym (c .before .before .before .before .before .before .before .before .before .before .is-sound .ensures) ∙ not-false _ (c .before .before .before .before .before .before .before .before .before .if1 .left)) in
+    omega (arith, c .before .before .before .count-of .ensures, standing-within (s .args .desk) e (s .args .seat) (c .before .before .before .before .before .before .before .before .if2 .left) (not-false _ (c .before .before .before .before .before .if3 .left)))
+
+print-drawn-requires : tie.Need-print-drawn-requires
+print-drawn-requires c κs = search needs
+
+returns-4 : tie.Need-returns-4
+returns-4 c =
+    let s = c .before .before .before .before .before .before .before .before .before .before .before .before .before in
+    pins-drawn (s .args .desk) (s .args .seat) (s .args .out .now) (sym (c .before .before .before .before .before .before .before .before .before .before .before .before .is-sound .ensures) ∙ not-false _ (c .before .before .before .before .before .before .before .before .before .before .before .if1 .left))
+    (c .before .before .before .before .before .before .before .before .before .before .if2 .left) (not-false _ (c .before .before .before .before .before .before .before .if3 .left)) (c .before .before .before .before .before .count-of .ensures) (c .before .before .before .feed .ensures) (c .print-drawn .ensures)
+
+pub show-pins-spec : {M : Type 1} → statement M
+show-pins-spec =
+    tie.close
+    (tie.spec
+    is-sound-requires
+    print-verdict-requires
+    returns
+    print-verdict-requires-2
+    returns-2
+    mul-s
+    element-copy-out-s
+    print-closed-requires
+    returns-3
+    count-of-requires
+    feed-requires
+    sub-print-drawn
+    print-drawn-requires
+    returns-4)

@@ -1,0 +1,182 @@
+// One line of a log answered on a desk: the desk that follows, and the text to be printed.
+use desk::Answered;
+use desk::Desk;
+use journal::SEATS;
+use refusal::Verdict;
+use script::Order;
+use script::answers::ROOM;
+use script::answers::print_closed;
+use script::answers::print_stray;
+use script::answers::print_verdict;
+use script::answers::print_written;
+use shown::print_drawn;
+use shown::print_laid;
+ghost use mathlib.Core.Path.{_≡_};
+ghost use Prim.Native.Nat.{_≤_};
+ghost use lib.ListN.{length, take};
+ghost use Rattle.wiring.specs.Bare.{bareOf};
+ghost use Rattle.desk.specs.Calls.{opening};
+ghost use Rattle.desk.specs.Desk.{step, wiredOf};
+ghost use Rattle.script.specs.Text.{over, room};
+ghost use Rattle.script.specs.Numbers.{mostBytes, mostNumbers};
+ghost use Rattle.script.specs.Orders.{mostRoom};
+ghost use Rattle.script.specs.Answers.{verdictLine};
+ghost use Rattle.shown.specs.Shown.{laidText};
+ghost use Rattle.answer.specs.Answered.{Holds, played, callText, lentBytes, writingText, seatText, answered};
+
+// What a line is answered: the desk that follows, and how many bytes of the lent buffer are the text to be printed.
+pub struct Answer {
+    pub desk: Desk,
+    pub bytes: usize,
+}
+
+// Prints the verdict of a call, and hands on the desk that follows.
+fn told(call: Answered, out: &mut [u8; ROOM]) -> Answer
+    ensures { λ r. ⌜ r .desk ≡ call .desk ⌝ }
+    ensures { λ r. ⌜ Holds (verdictLine (call .verdict)) (now (out .entry)) (r .bytes) (now (out .exit)) ⌝ }
+{
+    let desk = call.desk;
+    let verdict = call.verdict;
+    let bytes = print_verdict(verdict, out);
+    Answer { desk, bytes }
+}
+
+// Opens a seat, the first bytes of a buffer its map.
+fn open(
+    desk: Desk,
+    seat: usize,
+    job: u16,
+    map: &[u8; 4200],
+    bytes: usize,
+    out: &mut [u8; ROOM],
+) -> Answer
+    requires { ⌜ bytes ≤ mostBytes ⌝ }
+    ensures { λ r. ⌜ r .desk ≡ step desk (opening seat job (take bytes (now (map .entry)))) .desk ⌝ }
+    ensures { λ r. ⌜ Holds (callText desk (opening seat job (take bytes (now (map .entry))))) (now (out .entry)) (r .bytes) (now (out .exit)) ⌝ }
+{
+    let all: &[u8] = map;
+    told(desk.open(seat, job, &all[..bytes]), out)
+}
+
+// Writes a map into a lent buffer.
+fn write_into(desk: Desk, seat: usize, buffer: &mut [u8], out: &mut [u8; ROOM]) -> Answer
+    ensures { λ r. ⌜ r .desk ≡ desk ⌝ }
+    ensures { λ r. ⌜ Holds (writingText desk seat (now (buffer .entry))) (now (out .entry)) (r .bytes) (now (out .exit)) ⌝ }
+{
+    let written = desk.write(seat, buffer);
+    let desk = written.desk;
+    let verdict = written.verdict;
+    if refusal::is_accepted(verdict) {
+        let bytes = print_written(written.bytes, buffer, out);
+        return Answer { desk, bytes };
+    }
+    let bytes = print_verdict(verdict, out);
+    Answer { desk, bytes }
+}
+
+// The most room that is lent, each byte holding EE.
+fn lent_bytes() -> [u8; 1024]
+    ensures { λ r. ⌜ r ≡ lentBytes mostRoom ⌝ }
+{
+    [0xEEu8; 1024]
+}
+
+// Writes a map into lent room.
+fn write(desk: Desk, seat: usize, room: usize, out: &mut [u8; ROOM]) -> Answer
+    requires { ⌜ room ≤ mostRoom ⌝ }
+    ensures { λ r. ⌜ r .desk ≡ desk ⌝ }
+    ensures { λ r. ⌜ Holds (writingText desk seat (lentBytes room)) (now (out .entry)) (r .bytes) (now (out .exit)) ⌝ }
+{
+    let mut buffer = lent_bytes();
+    write_into(desk, seat, &mut buffer[..room], out)
+}
+
+// Wires a seat.
+fn wire(desk: Desk, seat: usize, room: usize, out: &mut [u8; ROOM]) -> Answer
+    ensures { λ r. ⌜ r .desk ≡ desk ⌝ }
+    ensures { λ r. ⌜ Holds (laidText (wiredOf desk seat room .laid)) (now (out .entry)) (r .bytes) (now (out .exit)) ⌝ }
+{
+    let wired = desk.wire(seat, room);
+    let desk = wired.desk;
+    let laid = wired.laid;
+    let bytes = print_laid(laid, out);
+    Answer { desk, bytes }
+}
+
+// Wires the first numbers of two lists.
+fn wire_bare(
+    xs: &[i32; 40],
+    across: usize,
+    ys: &[i32; 40],
+    up: usize,
+    room: usize,
+    out: &mut [u8; ROOM],
+) -> usize
+    requires { ⌜ (across ≤ mostNumbers) × (up ≤ mostNumbers) ⌝ }
+    ensures { λ r. ⌜ Holds (laidText (bareOf (take across (now (xs .entry))) (take up (now (ys .entry))) room)) (now (out .entry)) r (now (out .exit)) ⌝ }
+{
+    let all_xs: &[i32] = xs;
+    let all_ys: &[i32] = ys;
+    let laid = wiring::bare::wire_bare(&all_xs[..across], &all_ys[..up], room);
+    print_laid(laid, out)
+}
+
+// Shows the drawing at a seat; 28 comes first, as for every call.
+fn show_pins(desk: Desk, seat: usize, out: &mut [u8; ROOM]) -> usize
+    ensures { λ r. ⌜ Holds (seatText desk seat) (now (out .entry)) r (now (out .exit)) ⌝ }
+{
+    let d = desk;
+    if !d.is_sound() {
+        return print_verdict(Verdict::DeskBroken, out);
+    }
+    if SEATS <= seat {
+        return print_verdict(Verdict::SeatAbove, out);
+    }
+    let s = d.seats[seat];
+    if !s.opened {
+        return print_closed(out);
+    }
+    let records = d.journal;
+    let used = d.used;
+    let owned = journal::count_of(records, used, seat);
+    let pins = s.pins;
+    let feed = drawing::feed(pins);
+    print_drawn(s.job, feed, s.standing, owned - s.standing, out)
+}
+
+// Answers the line of that number, without its newline.
+pub fn answer_line(desk: Desk, number: usize, line: &[u8], out: &mut [u8; ROOM]) -> Answer
+    ensures { λ r. ⌜ r .desk ≡ played desk (now (line .entry)) ⌝ }
+    ensures { λ r. ⌜ r .bytes ≡ length (answered desk number (now (line .entry))) ⌝ }
+    ensures { λ r. ⌜ r .bytes ≤ room ⌝ }
+    ensures { λ _. ⌜ now (out .exit) ≡ over (answered desk number (now (line .entry))) (now (out .entry)) ⌝ }
+{
+    let mut map = [0u8; 4200];
+    let mut xs = [0i32; 40];
+    let mut ys = [0i32; 40];
+    let order = script::read_line(line, &mut map, &mut xs, &mut ys);
+    match order {
+        Order::Skip => Answer { desk, bytes: 0 },
+        Order::NotACall => {
+            let bytes = print_stray(number, out);
+            Answer { desk, bytes }
+        }
+        Order::Open { seat, job, bytes } => open(desk, seat, job, &map, bytes, out),
+        Order::Close { seat } => told(desk.close(seat), out),
+        Order::Place { seat, pin, at } => told(desk.place(seat, pin, at), out),
+        Order::Move { seat, pin, to } => told(desk.shift(seat, pin, to), out),
+        Order::Remove { seat, pin } => told(desk.remove(seat, pin), out),
+        Order::Undo { seat } => told(desk.undo(seat), out),
+        Order::Redo { seat } => told(desk.redo(seat), out),
+        Order::Write { seat, room } => write(desk, seat, room, out),
+        Order::Wire { seat, room } => wire(desk, seat, room, out),
+        Order::Bare { room, across, up } => {
+            let bytes = wire_bare(&xs, across, &ys, up, room, out);
+            Answer { desk, bytes }
+        }
+        Order::Pins { seat } => {
+            let bytes = show_pins(desk, seat, out);
+            Answer { desk, bytes }
+        }
+    }
+}
