@@ -1,0 +1,4 @@
+-- What is proved of a log in play beside the functions' contracts.
+pub mod Hearing
+pub mod Turns
+pub mod Coming

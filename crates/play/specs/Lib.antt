@@ -1,0 +1,2 @@
+-- What the words of a log in play mean.
+pub mod Log
