@@ -1,0 +1,84 @@
+-- What is printed for input of any length: empty, a single byte, two bytes of zero at the front, too long for a map; and that its first
+-- 397 bytes decide. Assumes nothing.
+use mathlib.Core.Path.{_≡_, refl, sym, _∙_, ap}
+use mathlib.Core.Bool.{Bool, true, false}
+use mathlib.Core.List.{List, [], _∷_}
+use mathlib.Core.Logic.{_⊎_, inl, inr}
+use Prim.Native.Nat.{ℕ, _≤_, _<_}
+use native.Mathlib.Omega.{arith}
+use lib.Dec.{eqb}
+use lib.ListN.{length, take}
+use lib.Seq.{take-all, length-take-le}
+use borrow.Author.Tests.{lt-ltb, eqb-true}
+use Rattle.refusal.specs.Tests.{both, either, choose}
+use Rattle.refusal.specs.Refusals.{accepted, turn}
+use Rattle.refusal.specs.declared.Verdict.the-variants.{JobZero, MapLength}
+use Rattle.drawing.specs.Pins.{meets, meetsAny, within, settled, allWithin, allApart, lawful, spotOf, feedOf}
+use Rattle.tree.specs.Growth.{keptIf, pinsFrom, pinsOf}
+use Rattle.wiring.specs.Answer.{turnedAway, wiringVerdict, wiringWith, wiringFavouring, wiringOf}
+use Rattle.journal.specs.Journal.{own, filled, seated, inTurn}
+use Rattle.pinmap.specs.Map.{mostBytes, noPins, readFrom, wrongLength, readMap}
+use Rattle.desk.specs.Refusals.{sameJob, jobAmong, turnedOpening, turnedClosing, verdictOf}
+use Rattle.desk.specs.Desk.{jobOf, jobsApart, soundOpen, soundClosed, soundSeat, soundTo, sound, effect, answerOf, step, emptyDesk, wiredOf}
+use Rattle.script.specs.Text.{text}
+use Rattle.script.specs.Answers.{shown, carriedText, toldLine, verdictLine}
+use Rattle.script.proofs.Steps.{order}
+use Rattle.shown.specs.Shown.{mapText}
+use Rattle.mapped.specs.Mapped.{mostKept, jobIn, openedWith, wiredWith, mapAnswer}
+use Rattle.mapped.proofs.Opening.{opened, printed-refused}
+
+-- Empty input is a drawing without pins: nothing to wire.
+pub empty-input : mapAnswer [] ≡ text "refused 17\n"
+unfolding jobIn openedWith wiredWith mapAnswer mapText toldLine carriedText shown wiredOf step effect answerOf verdictOf turnedOpening turnedClosing jobAmong sameJob sound soundTo soundSeat soundOpen soundClosed jobsApart jobOf emptyDesk readMap wrongLength readFrom noPins own filled seated inTurn meets meetsAny within settled allWithin allApart lawful spotOf feedOf wiringOf wiringFavouring wiringWith wiringVerdict turnedAway pinsOf pinsFrom keptIf accepted turn both either choose
+empty-input = refl
+
+-- A single byte is 13.
+pub single-byte : (b : ℕ) → mapAnswer (b ∷ []) ≡ text "refused 13\n"
+unfolding jobIn readMap wrongLength accepted turn either choose toldLine carriedText shown
+single-byte b = printed-refused (b ∷ []) {v = MapLength} (opened (b ∷ [])) refl
+
+-- Job 0 is 4, whatever follows.
+job-zero : (input : List ℕ) → jobIn input ≡ 0 → mapAnswer input ≡ verdictLine JobZero
+unfolding turn choose accepted
+job-zero input e = printed-refused input {v = JobZero} (opened input ∙ rw e) refl
+
+-- Two bytes of zero at the front give 4 at any length from two up, before 13.
+pub two-zeros : (rest : List ℕ) → mapAnswer (0 ∷ 0 ∷ rest) ≡ text "refused 4\n"
+unfolding jobIn toldLine carriedText shown choose
+two-zeros rest = job-zero (0 ∷ 0 ∷ rest) refl
+
+-- Under any other job more than 384 bytes are 13.
+too-long : (input : List ℕ) → eqb (jobIn input) 0 ≡ false → mostBytes < length input → mapAnswer input ≡ verdictLine MapLength
+unfolding turn choose either accepted wrongLength readMap
+too-long input e h = printed-refused input {v = MapLength} (opened input ∙ rw (e, lt-ltb mostBytes (length input) h)) refl
+
+pub above-384 : (input : List ℕ) → eqb (jobIn input) 0 ≡ false → mostBytes < length input → mapAnswer input ≡ text "refused 13\n"
+unfolding toldLine carriedText shown choose
+above-384 input e h = too-long input e h
+
+-- The job is read from what is kept.
+job-kept : (input : List ℕ) → jobIn (take mostKept input) ≡ jobIn input
+unfolding jobIn
+job-kept [] = refl
+job-kept (b ∷ []) = refl
+job-kept (b ∷ c ∷ rest) = refl
+
+-- Input that is longer is answered as what is kept of it.
+longer : (input : List ℕ) → mostKept < length input → mapAnswer (take mostKept input) ≡ mapAnswer input
+longer input h = by (eqb (jobIn input) 0) refl
+  where
+    by : (t : Bool) → eqb (jobIn input) 0 ≡ t → mapAnswer (take mostKept input) ≡ mapAnswer input
+    by true e =
+        let z : jobIn input ≡ 0 = eqb-true (jobIn input) 0 e in
+        job-zero (take mostKept input) (job-kept input ∙ z) ∙ sym (job-zero input z)
+    by false e =
+        too-long (take mostKept input) (ap (λ (j : ℕ). eqb j 0) (job-kept input) ∙ e) (omega (arith, length-take-le mostKept input (omega arith)))
+        ∙ sym (too-long input e (omega arith))
+
+-- CUTTING AN INPUT TO 397 BYTES DOES NOT CHANGE ITS ANSWER.
+pub cut : (input : List ℕ) → mapAnswer (take mostKept input) ≡ mapAnswer input
+cut input = by (order (length input) mostKept)
+  where
+    by : (length input ≤ mostKept) ⊎ (mostKept < length input) → mapAnswer (take mostKept input) ≡ mapAnswer input
+    by (inl h) = ap mapAnswer (take-all mostKept input h)
+    by (inr h) = longer input h

@@ -1,0 +1,64 @@
+-- What the program's calls hand back: how a map is opened, and what is printed where it is refused and where it is wired. Assumes nothing.
+use mathlib.Core.Path.{_≡_, refl, sym, _∙_, ap}
+use mathlib.Core.Bool.{Bool, true, false}
+use mathlib.Core.List.{List}
+use Prim.Native.Nat.{ℕ, _≤_}
+use lib.Dec.{eqb}
+use lib.ListN.{length}
+use Rattle.refusal.specs.Tests.{both, either, choose}
+use Rattle.refusal.specs.Refusals.{accepted, turn}
+use Rattle.refusal.specs.declared.Verdict.{Verdict}
+use Rattle.refusal.specs.declared.Verdict.the-variants.{JobZero}
+use Rattle.pinmap.specs.Map.{readMap}
+use Rattle.journal.specs.Journal.{own, seated}
+use Rattle.desk.specs.declared.Desk.{Desk}
+use Rattle.desk.specs.declared.Answered.{Answered}
+use Rattle.desk.specs.declared.Wired.{Wired}
+use Rattle.desk.specs.Calls.{opening}
+use Rattle.desk.specs.Refusals.{sameJob, jobAmong, turnedOpening, verdictOf}
+use Rattle.desk.specs.Desk.{jobOf, jobsApart, soundClosed, soundSeat, soundTo, sound, answerOf, step, emptyDesk, wiredOf}
+use Rattle.script.specs.Text.{over, room}
+use Rattle.script.specs.Answers.{verdictLine}
+use Rattle.shown.specs.Shown.{mapText}
+use Rattle.mapped.specs.Mapped.{jobIn, mostLegs, openedWith, wiredWith, mapAnswer}
+
+-- Opening a map at seat 0 of the empty desk: 4, then as the map is read.
+opens : (job : ℕ) (map : List ℕ) → answerOf emptyDesk (opening 0 job map) ≡ turn (eqb job 0) JobZero (readMap map job .verdict)
+unfolding both either choose turn own seated sameJob jobAmong turnedOpening verdictOf jobOf jobsApart soundClosed soundSeat soundTo sound answerOf emptyDesk
+opens job map = by (eqb job 0) refl
+  where
+    by : (t : Bool) → eqb job 0 ≡ t → answerOf emptyDesk (opening 0 job map) ≡ turn (eqb job 0) JobZero (readMap map job .verdict)
+    by true e = rw e
+    by false e = rw e
+
+pub opened : (map : List ℕ) → openedWith map .verdict ≡ turn (eqb (jobIn map) 0) JobZero (readMap map (jobIn map) .verdict)
+unfolding openedWith step
+opened map = opens (jobIn map) map
+
+-- What is printed where the opening is refused, and where it is accepted.
+pub printed-refused : (map : List ℕ) {v : Verdict} → openedWith map .verdict ≡ v → accepted v ≡ false → mapAnswer map ≡ verdictLine v
+unfolding mapAnswer choose
+printed-refused map e n = rw (e, n)
+
+printed-wired : (map : List ℕ) → accepted (openedWith map .verdict) ≡ true → mapAnswer map ≡ mapText (jobIn map) (wiredWith map)
+unfolding mapAnswer choose
+printed-wired map e = rw e
+
+-- What the calls of the program hand back, from the job and the empty desk on.
+module _ (map : List ℕ) {job : ℕ} {d : Desk} {a : Answered} (j : job ≡ jobIn map) (n : d ≡ emptyDesk) (o : a ≡ step d (opening 0 job map)) where
+  open-so : a ≡ openedWith map
+  unfolding openedWith
+  open-so = o ∙ rw (j, n)
+
+  pub answer-refused : accepted (a .verdict) ≡ false → verdictLine (a .verdict) ≡ mapAnswer map
+  answer-refused e = sym (printed-refused map (sym (ap (λ (x : Answered). x .verdict) open-so)) e)
+
+  pub answer-wired : {w : Wired} → w ≡ wiredOf (a .desk) 0 mostLegs → accepted (a .verdict) ≡ true → mapText job (w .laid .wiring) ≡ mapAnswer map
+  unfolding wiredWith
+  answer-wired {w} q e =
+      let x : w ≡ wiredOf (openedWith map .desk) 0 mostLegs = q ∙ ap (λ (x : Answered). wiredOf (x .desk) 0 mostLegs) open-so in
+      rw (j, x) (sym (printed-wired map (sym (ap (λ (x : Answered). accepted (x .verdict)) open-so) ∙ e)))
+
+-- What was printed under one name was printed under the other.
+pub printed : (before : List ℕ) {n : ℕ} {after p q : List ℕ} → p ≡ q → n ≡ length p → n ≤ room → after ≡ over p before → ((n ≡ length q) × (n ≤ room)) × (after ≡ over q before)
+printed o e h k l = ((h ∙ ap length e, k), l ∙ ap (λ (t : List ℕ). over t o) e)

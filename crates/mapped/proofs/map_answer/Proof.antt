@@ -1,0 +1,63 @@
+-- `mapped::map_answer` meets its contract. Assumes nothing.
+use mathlib.Core.Path.{sym, _∙_}
+use native.Mathlib.Omega.{arith}
+use borrow.Author.Needs.{needs}
+use Rattle.mapped.proofs.Opening.{answer-refused, answer-wired, printed}
+use Rattle.mapped.proofs.map_answer.Statement.{statement}
+use Rattle.mapped.proofs.map_answer.Tie as tie
+
+job-in-requires : tie.Need-job-in-requires
+job-in-requires c κs = search needs
+
+empty-requires : tie.Need-empty-requires
+empty-requires c κs = search needs
+
+open-requires : tie.Need-open-requires
+open-requires c κs = search needs
+
+is-accepted-requires : tie.Need-is-accepted-requires
+is-accepted-requires c κs = search needs
+
+wire-requires : tie.Need-wire-requires
+wire-requires c κs = search needs
+
+print-map-requires : tie.Need-print-map-requires
+print-map-requires c κs = search needs
+
+returns : tie.Need-returns
+returns c =
+    let w = c .before .before .before .before in
+    let o = w .before .before .before .before in
+    let s = o .before .before .before .before in
+    printed (s .args .out .now)
+    (answer-wired (s .args .map .now) (o .before .before .job-in .ensures) (o .before .empty .ensures) (o .«open» .ensures) (w .wire .ensures) (sym (w .before .before .before .is-accepted .ensures) ∙ w .before .before .if1 .taken))
+    (c .print-map .ensures .0 .0)
+    (c .print-map .ensures .0 .1)
+    (c .print-map .ensures .1)
+
+print-verdict-requires : tie.Need-print-verdict-requires
+print-verdict-requires c κs = search needs
+
+returns-2 : tie.Need-returns-2
+returns-2 c =
+    let o = c .before .before .before .before in
+    let s = o .before .before .before .before in
+    printed (s .args .out .now)
+    (answer-refused (s .args .map .now) (o .before .before .job-in .ensures) (o .before .empty .ensures) (o .«open» .ensures) (sym (c .before .before .before .is-accepted .ensures) ∙ c .before .before .if1 .left))
+    (c .print-verdict .ensures .0 .0)
+    (omega (arith, c .print-verdict .ensures .0 .1))
+    (c .print-verdict .ensures .1)
+
+pub map-answer-spec : {M : Type 1} → statement M
+map-answer-spec =
+    tie.close
+    (tie.spec
+    job-in-requires
+    empty-requires
+    open-requires
+    is-accepted-requires
+    wire-requires
+    print-map-requires
+    returns
+    print-verdict-requires
+    returns-2)

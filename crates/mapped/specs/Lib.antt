@@ -1,0 +1,2 @@
+-- What the program wiremap answers to a map.
+pub mod Mapped

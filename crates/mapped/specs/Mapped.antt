@@ -1,0 +1,38 @@
+-- The program wiremap: the job of a map, and what is printed for it.
+use mathlib.Core.List.{List, [], _∷_}
+use Prim.Native.Nat.{ℕ, _+_, _*_}
+use Rattle.refusal.specs.Tests.{choose}
+use Rattle.refusal.specs.Refusals.{accepted}
+use Rattle.desk.specs.declared.Answered.{Answered}
+use Rattle.desk.specs.Calls.{opening}
+use Rattle.desk.specs.Desk.{emptyDesk, step, wiredOf}
+use Rattle.wiring.specs.declared.Wiring.{Wiring}
+use Rattle.script.specs.Answers.{verdictLine}
+use Rattle.shown.specs.Shown.{mapText}
+
+-- The job in the first two bytes of a map, high byte first. Empty input: job 1. A single byte is opened under job 1 too, and refused with 13.
+unfoldable pub jobIn : List ℕ → ℕ
+jobIn [] = 1
+jobIn (b ∷ []) = 1
+jobIn (b ∷ c ∷ rest) = b * 256 + c
+
+-- The most legs that a board has: 31 runs of two legs each.
+abbrev pub mostLegs : ℕ
+mostLegs = 62
+
+-- The program opens the map at seat 0 of the empty desk, under its job.
+unfoldable pub openedWith : List ℕ → Answered
+openedWith map = step emptyDesk (opening 0 (jobIn map) map)
+
+-- And wires it, with room for all legs.
+unfoldable pub wiredWith : List ℕ → Wiring
+wiredWith map = wiredOf (openedWith map .desk) 0 mostLegs .laid .wiring
+
+-- What it prints: the wiring, or the refusal of the wiring or of the opening.
+unfoldable pub mapAnswer : List ℕ → List ℕ
+mapAnswer map =
+    choose (accepted (openedWith map .verdict)) (mapText (jobIn map) (wiredWith map)) (verdictLine (openedWith map .verdict))
+
+-- Of a longer input it is enough to keep so many bytes: they are too many for a map, too.
+abbrev pub mostKept : ℕ
+mostKept = 397
