@@ -20,7 +20,7 @@ use Rattle.drawing.proofs.Rules.{lawful-parts}
 use Rattle.tree.specs.Growth.{allInside, placeOf}
 use Rattle.wiring.specs.declared.Laid.{Laid}
 use Rattle.wiring.specs.Answer.{wiringOf, turnedAway}
-use Rattle.wiring.specs.Bare.{crowd, crowdAny, crowded}
+use Rattle.wiring.specs.Crowding.{crowd, crowdAny, crowded}
 use Rattle.journal.specs.Journal.{seats}
 use Rattle.desk.specs.declared.Desk.{Desk}
 use Rattle.desk.specs.declared.Wired.{Wired}

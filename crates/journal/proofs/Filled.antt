@@ -1,5 +1,5 @@
 -- A journal filled up with blank records: its length, its records in use, one record more. From `filled`; assumes nothing.
-use mathlib.Core.Path.{_≡_, refl, ap, sym, _∙_}
+use mathlib.Core.Path.{_≡_, refl, sym, _∙_}
 use mathlib.Core.List.{List, [], _∷_, _++_, append-assoc}
 use Prim.Native.Nat.{ℕ, zero, suc, _+_, _-_, _<_, _≤_}
 use native.Mathlib.Numerals.{sub-one}
@@ -7,8 +7,7 @@ use native.Mathlib.Omega.{arith}
 use lib.ListN.{length, take, set, replicate, length-append, length-replicate}
 use lib.Seq.{take-append-seam, set-at}
 use Rattle.journal.specs.declared.Record.{Record}
-use Rattle.journal.specs.declared.Compacted.{Compacted}
-use Rattle.journal.specs.Journal.{records, blank, filled, compacted}
+use Rattle.journal.specs.Journal.{records, blank, filled}
 
 -- The records in use are those that it was filled from.
 pub take-filled : (l : List Record) → take (length l) (filled l) ≡ l
@@ -42,11 +41,3 @@ filled-set l r h =
       e,
     )
     (sym (append-assoc l (r ∷ []) _))
-
--- Records compacted and one appended make a compacted journal with that record last.
-pub appended : (x : Compacted) (out l : List Record) (r : Record) → length l < records → x ≡ compacted l → out ≡ set (x .journal) (x .used) r
-    → _≡_ {A = Compacted} (record { journal = out; used = x .used + 1 }) (compacted (l ++ (r ∷ [])))
-appended x out l r h e o =
-    let p : out ≡ filled (l ++ (r ∷ [])) = o ∙ rw e (filled-set l r h) in
-    let q : x .used + 1 ≡ length (l ++ (r ∷ [])) = omega (arith, ap (λ (y : Compacted). y .used) e, length-append l (r ∷ [])) in
-    rw (p, q)

@@ -8,7 +8,7 @@ ghost use mathlib.Core.Path.{_≡_};
 ghost use Prim.Native.Nat.{_<_, _≤_};
 ghost use mathlib.Core.List.{reverse};
 ghost use lib.ListN.{drop, getD, length, set, take};
-ghost use Rattle.journal.specs.Journal.{records, noEdit, blank, own, kept, added, compacted, seated, replayable, takeableAll};
+ghost use Rattle.journal.specs.Journal.{records, noEdit, blank, own, kept, compacted, seated, replayable, takeableAll};
 
 // All seats share a journal of this many records.
 pub const RECORDS: usize = 256;
@@ -124,34 +124,6 @@ pub fn append(journal: [Record; RECORDS], used: usize, latest: Record) -> [Recor
     let mut out = journal;
     out[used] = latest;
     out
-}
-
-// The journal after a new edit of the seat: its records beyond the first `keep` are dropped, and the edit is recorded.
-pub fn enter(
-    journal: [Record; RECORDS],
-    used: usize,
-    seat: usize,
-    keep: usize,
-    edit: Edit,
-) -> Compacted
-    requires { ⌜ (used ≤ records) × (length (kept seat keep (take used journal)) < records) ⌝ }
-    ensures { λ r. ⌜ r ≡ compacted (added seat keep edit (take used journal)) ⌝ }
-{
-    let left = compact(journal, used, seat, keep);
-    let room = left.journal;
-    let n = left.used;
-    let out = append(
-        room,
-        n,
-        Record {
-            seat: seat,
-            edit: edit,
-        },
-    );
-    Compacted {
-        journal: out,
-        used: n + 1,
-    }
 }
 
 // Whether the seat of every record in use is one of the desk's.

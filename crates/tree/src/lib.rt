@@ -67,8 +67,8 @@ fn place_of(spot: Spot) -> Place
     }
 }
 
-// Where the pin with this number stands.
-fn place_at(feed: [Spot; 32], pin: usize) -> Place
+// Where the pin with this number stands; the middle of the board where none does.
+pub fn place_at(feed: [Spot; 32], pin: usize) -> Place
     ensures { λ r. ⌜ r ≡ placeOf (spotAt feed pin) ⌝ }
 {
     if pin < 32 {

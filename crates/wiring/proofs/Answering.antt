@@ -40,7 +40,7 @@ use Rattle.wiring.specs.declared.Laid.{Laid}
 use Rattle.wiring.specs.Choices.{nearEnd, farEnd, bestChoice, legsOfChoice, lengthOfChoice, weighedOf}
 use Rattle.wiring.specs.Answer.{shaped, shapedRuns, runEntries, legEntries, laidWith, turnedAway, answerWith, wiringVerdict, wiringWith, wiringFavouring}
 use Rattle.wiring.specs.Reaching.{runAt, reachedPin, reachedNear, reachedPlace, reachedFrom, valuesFrom, xsOf, ysOf, nearsOf, upperIn, shapedIn, entriesIn, legsOfEntry, legsOfEntries, strip, shapesBy}
-use Rattle.wiring.specs.Bare.{crowded}
+use Rattle.wiring.specs.Crowding.{crowded}
 use Rattle.wiring.proofs.Filling.{values-long, value-at}
 use Rattle.wiring.proofs.Laying.{grown}
 use Rattle.wiring.proofs.Best.{length-found, shapes-found}

@@ -28,7 +28,7 @@ use Rattle.copper_laws.proofs.Wired.{first-shortest}
 use Rattle.least.specs.Asking.{base, markOf}
 use Rattle.wiring.specs.Choices.{nearEnd, farEnd, choicesOf, legsOfChoice, lengthOfChoice, shortestOf, bestChoice}
 use Rattle.wiring.specs.Reaching.{runAt, reachedPin, reachedNear, reachedPlace, upperIn, shapesBy}
-use Rattle.wiring.specs.Bare.{crowded}
+use Rattle.wiring.specs.Crowding.{crowded}
 use Rattle.wiring.proofs.Ordered.{isUpper, bends, maskFrom, choice-told, told-choice, choice-long, choices-rising, choice-may, bends-told, first-found}
 use Rattle.wiring.proofs.Masks.{maskBy, mask-sum, mask-choice, mask-less, mask-read}
 use Rattle.wiring.proofs.Laying.{places-held, near-place, far-place, grown, laid}

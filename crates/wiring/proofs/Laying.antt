@@ -28,7 +28,7 @@ use Rattle.tree.proofs.Numbering.{stands}
 use Rattle.copper_laws.proofs.Laid.{Laid}
 use Rattle.copper_laws.proofs.Planted.{pinAt, planted}
 use Rattle.wiring.specs.Reaching.{runAt, reachedPin, reachedNear, reachedPlace}
-use Rattle.wiring.specs.Bare.{crowd, crowdAny, crowded}
+use Rattle.wiring.specs.Crowding.{crowd, crowdAny, crowded}
 use Rattle.wiring.proofs.Positions.{near-before, near-pin, far-pin, first-pin}
 
 -- No two pins that are there are too near where the test says so.

@@ -1,5 +1,4 @@
 -- What is proved of wiring beside the functions' contracts.
-pub mod Worked
 pub mod Ordered
 pub mod Masks
 pub mod Positions

@@ -2,4 +2,4 @@
 pub mod Choices
 pub mod Answer
 pub mod Reaching
-pub mod Bare
+pub mod Crowding

@@ -1,5 +1,4 @@
-// Wiring: the best shapes of the runs, the answer, choices weighed, bare wiring, and the legs that a host lends.
-pub mod bare;
+// Wiring: the best shapes of the runs, the answer, choices weighed, and the legs that a host lends.
 pub mod lent;
 
 use copper::Leg;
@@ -8,14 +7,15 @@ use grid::Place;
 use grid::Spot;
 use refusal::Verdict;
 use tree::Run;
+use tree::place_at;
 ghost use mathlib.Core.Path.{_≡_};
 ghost use mathlib.Core.Bool.{true, false};
 ghost use Prim.Native.Nat.{_+_, _≤_, _<_};
 ghost use lib.ListN.{length, take, drop};
-ghost use Rattle.tree.specs.Growth.{placeOf, spotAt, allInside};
+ghost use Rattle.tree.specs.Growth.{allInside};
 ghost use Rattle.wiring.specs.Answer.{noLeg, turnedAway, wiringFavouring, wiringOf};
 ghost use Rattle.wiring.specs.Reaching.{reachedPin, reachedPlace, reachedFrom, xsOf, ysOf, nearsOf, upperIn, shapedIn, entriesIn, putLegs, legsOfEntry, legsOfEntries, strip};
-ghost use Rattle.wiring.specs.Bare.{crowded};
+ghost use Rattle.wiring.specs.Crowding.{crowded};
 
 // A run entry of the answer: near, far, shape.
 pub struct Shaped {
@@ -44,27 +44,6 @@ pub struct Laid {
 pub struct Strip {
     pub count: usize,
     pub legs: [Leg; 62],
-}
-
-// Where the pin with this number stands; the middle of the board where none does.
-fn place_at(feed: [Spot; 32], pin: usize) -> Place
-    ensures { λ r. ⌜ r ≡ placeOf (spotAt feed pin) ⌝ }
-{
-    if pin < 32 {
-        let spot = feed[pin];
-        return place_of(spot);
-    }
-    Place { x: 0, y: 0 }
-}
-
-// Where a pin stands; the middle of the board where none does.
-fn place_of(spot: Spot) -> Place
-    ensures { λ r. ⌜ r ≡ placeOf spot ⌝ }
-{
-    match spot {
-        Spot::Absent => Place { x: 0, y: 0 },
-        Spot::At(place) => place,
-    }
 }
 
 // The pin that is reached as number `i`.

@@ -24,8 +24,8 @@ use Rattle.desk.specs.Calls.{Call, opening, placing, moving, undoing, redoing}
 use Rattle.desk.specs.Refusals.{sameJob, jobAmong, turnedOpening, turnedClosing, turnedPlacing, turnedMoving, turnedRemoving, turnedUndoing, turnedRedoing, turnedWriting, verdictOf}
 use Rattle.desk.specs.Desk.{closedSeat, seatOf, jobOf, jobsApart, soundOpen, soundClosed, soundSeat, soundTo, sound, edited, effect, answerOf, step, emptyDesk, writtenOf, bufferOf}
 use Rattle.wiring.specs.declared.Wiring.{Wiring}
-use Rattle.wiring.specs.Bare.{bareOf}
-use Rattle.wiring.proofs.Worked as boards
+use Rattle.bare.specs.Bare.{bareOf}
+use Rattle.bare.proofs.Worked as boards
 use Rattle.history.specs.History.{after, answers}
 
 -- A case: boards with their answers; calls from the empty desk with what they are answered and the pins that they leave at seats 0 and 1;

@@ -2,11 +2,9 @@
 use mathlib.Core.Path.{_≡_, refl, ap}
 use mathlib.Core.Bool.{Bool, true, false}
 use mathlib.Core.List.{List, [], _∷_}
-use mathlib.Core.Logic.{_⊎_, inl, inr}
 use Prim.Native.Nat.{ℕ, zero, suc, _*_, _≤_, zero-le}
 use native.Mathlib.Omega.{arith}
 use lib.Dec.{ltb}
-use lib.IntN.{ℤ}
 use lib.ListN.{length, length-append}
 use borrow.Author.Tests.{ltb-false}
 use Rattle.refusal.specs.Tests.{choose}
@@ -20,16 +18,12 @@ use Rattle.tree.specs.declared.Run.{Run}
 use Rattle.tree.specs.Growth.{pinsOf, runsAmong, runsOf, grown}
 use Rattle.tree.specs.Boxes.{boxesMeet}
 use Rattle.tree.specs.Trees.{none}
-use Rattle.tree.proofs.Deciding.{decide}
 use Rattle.tree.proofs.Membership.{pins-few}
 use Rattle.copper.specs.declared.Shape.{Shape}
 use Rattle.copper.specs.declared.Shape.the-variants.{Straight, Lower, Upper}
 use Rattle.copper.specs.Shapes.{legsOf}
 use Rattle.wiring.specs.Choices.{legsOfChoice, nearEnd, farEnd, bestChoice}
 use Rattle.wiring.specs.Answer.{laidWith, turnedAway, answerWith, wiringVerdict, wiringWith, wiringFavouring, wiringOf}
-use Rattle.wiring.specs.Bare.{feedOf, bareVerdict, bareOf}
-use Rattle.wiring.proofs.bare.Feeds.{feed-many}
-use Rattle.wiring.proofs.bare.Verdicts.{lengths-right, well, refused, wired}
 
 -- ---- at most 31 runs
 -- Growing takes as many runs as it is told.
@@ -89,14 +83,3 @@ wiring-fits feed room full =
       fits-by feed runs shapes room (accepted v) v 62 (λ _. omega (arith, legs-few feed runs shapes, runs-few feed full)),
       fits-by feed runs shapes room (accepted v) v room (room-kept feed runs shapes room),
     )
-
--- So are those of bare wiring: a refused answer has none.
-pub bare-fits : (xs ys : List ℤ) (room : ℕ) → (bareOf xs ys room .wiring .legs ≤ 62) × (bareOf xs ys room .wiring .legs ≤ room)
-unfolding turnedAway
-bare-fits xs ys room = by (decide (accepted (bareVerdict xs ys)))
-  where
-    by : (accepted (bareVerdict xs ys) ≡ true) ⊎ (accepted (bareVerdict xs ys) ≡ false) → (bareOf xs ys room .wiring .legs ≤ 62) × (bareOf xs ys room .wiring .legs ≤ room)
-    by (inl e) =
-        let h = lengths-right xs ys (well xs ys e .0) in
-        rw (← wired xs ys room e) (wiring-fits (feedOf xs ys) room (feed-many xs ys (h .0) (h .1)))
-    by (inr e) = rw (← refused xs ys room e) (zero-le, zero-le)

@@ -3,7 +3,6 @@ use mathlib.Core.Path.{_≡_, refl, ap, _∙_}
 use mathlib.Core.Bool.{Bool, true, false, true≢false}
 use mathlib.Core.List.{List}
 use Prim.Native.Nat.{ℕ}
-use lib.IntN.{ℤ}
 use Rattle.refusal.specs.Tests.{choose}
 use Rattle.refusal.specs.Refusals.{accepted}
 use Rattle.refusal.specs.declared.Verdict.{Verdict}
@@ -15,7 +14,6 @@ use Rattle.copper.specs.declared.Leg.{Leg}
 use Rattle.wiring.specs.declared.Laid.{Laid}
 use Rattle.wiring.specs.Choices.{bestChoice}
 use Rattle.wiring.specs.Answer.{laidWith, answerWith, turnedAway, wiringVerdict, wiringWith, wiringFavouring, wiringOf, filledWith}
-use Rattle.wiring.specs.Bare.{feedOf, bareVerdict, bareOf}
 
 -- An answer that is refused is its verdict and nothing else.
 abbrev pub Alone : Laid → Type 0
@@ -38,10 +36,6 @@ wiring-turned feed room =
     let shapes = bestChoice false feed runs in
     let v = wiringVerdict feed runs shapes room in
     turned-by (accepted v) v (answerWith feed runs shapes) (answer-given feed runs shapes)
-
-pub bare-turned : (xs ys : List ℤ) (room : ℕ) → Alone (bareOf xs ys room)
-unfolding bareOf
-bare-turned xs ys room = turned-by (accepted (bareVerdict xs ys)) (bareVerdict xs ys) (wiringOf (feedOf xs ys) room) (wiring-turned (feedOf xs ys) room)
 
 -- Such an answer fills nothing.
 pub turned-fills : (v : Verdict) (lent : List Leg) → filledWith (turnedAway v) lent ≡ lent

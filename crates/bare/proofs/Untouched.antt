@@ -1,0 +1,20 @@
+-- A refused bare wiring is its verdict and nothing else, so it leaves the list that was lent as it was. Assumes nothing.
+use mathlib.Core.Path.{_≡_}
+use mathlib.Core.Bool.{false}
+use mathlib.Core.List.{List}
+use Prim.Native.Nat.{ℕ}
+use lib.IntN.{ℤ}
+use Rattle.refusal.specs.Refusals.{accepted}
+use Rattle.copper.specs.declared.Leg.{Leg}
+use Rattle.wiring.specs.Answer.{wiringOf, filledWith}
+use Rattle.wiring.proofs.lent.Untouched.{Alone, turned-by, wiring-turned, untouched}
+use Rattle.bare.specs.Bare.{feedOf, bareVerdict, bareOf}
+
+-- A refused answer is its verdict and nothing else.
+pub bare-turned : (xs ys : List ℤ) (room : ℕ) → Alone (bareOf xs ys room)
+unfolding bareOf
+bare-turned xs ys room = turned-by (accepted (bareVerdict xs ys)) (bareVerdict xs ys) (wiringOf (feedOf xs ys) room) (wiring-turned (feedOf xs ys) room)
+
+-- A refused bare wiring leaves the list as it was.
+pub bare-untouched : (xs ys : List ℤ) (room : ℕ) (lent : List Leg) → accepted (bareOf xs ys room .wiring .verdict) ≡ false → filledWith (bareOf xs ys room) lent ≡ lent
+bare-untouched xs ys room lent e = untouched (bareOf xs ys room) lent (bare-turned xs ys room) e

@@ -1,0 +1,2 @@
+-- What the words of bare wiring mean.
+pub mod Bare

@@ -1,4 +1,0 @@
--- What the proofs of bare wiring share.
-pub mod Feeds
-pub mod Verdicts
-pub mod Rows
