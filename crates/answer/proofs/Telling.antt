@@ -9,7 +9,7 @@ use lib.ListN.{length, take, replicate}
 use Rattle.refusal.specs.Tests.{choose}
 use Rattle.refusal.specs.Refusals.{accepted}
 use Rattle.wiring.specs.declared.Laid.{Laid}
-use Rattle.wiring.specs.Bare.{bareOf}
+use Rattle.bare.specs.Bare.{bareOf}
 use Rattle.desk.specs.declared.Desk.{Desk}
 use Rattle.desk.specs.declared.Answered.{Answered}
 use Rattle.desk.specs.declared.Written.{Written}

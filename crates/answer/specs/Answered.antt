@@ -9,7 +9,7 @@ use Rattle.refusal.specs.Tests.{choose}
 use Rattle.refusal.specs.Refusals.{accepted}
 use Rattle.refusal.specs.declared.Verdict.the-variants.{SeatAbove, DeskBroken}
 use Rattle.drawing.specs.Pins.{feedOf}
-use Rattle.wiring.specs.Bare.{bareOf}
+use Rattle.bare.specs.Bare.{bareOf}
 use Rattle.desk.specs.declared.Desk.{Desk}
 use Rattle.desk.specs.Calls.{Call, opening, closing, placing, moving, removing, undoing, redoing}
 use Rattle.desk.specs.Refusals.{Look, seatAbove}

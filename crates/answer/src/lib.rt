@@ -14,7 +14,7 @@ use shown::print_laid;
 ghost use mathlib.Core.Path.{_≡_};
 ghost use Prim.Native.Nat.{_≤_};
 ghost use lib.ListN.{length, take};
-ghost use Rattle.wiring.specs.Bare.{bareOf};
+ghost use Rattle.bare.specs.Bare.{bareOf};
 ghost use Rattle.desk.specs.Calls.{opening};
 ghost use Rattle.desk.specs.Desk.{step, wiredOf};
 ghost use Rattle.script.specs.Text.{over, room};
@@ -117,7 +117,7 @@ fn wire_bare(
 {
     let all_xs: &[i32] = xs;
     let all_ys: &[i32] = ys;
-    let laid = wiring::bare::wire_bare(&all_xs[..across], &all_ys[..up], room);
+    let laid = bare::wire_bare(&all_xs[..across], &all_ys[..up], room);
     print_laid(laid, out)
 }
 
