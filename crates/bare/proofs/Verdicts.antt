@@ -1,42 +1,29 @@
 -- The rows of bare wiring before the pins are wired, 16, 17, 8, 9: each one's answer, and what an accepted feed keeps. Assumes nothing.
-use mathlib.Core.Path.{_≡_, refl, sym, ap, _∙_}
-use mathlib.Core.Bool.{Bool, true, false, false≢true}
+use mathlib.Core.Path.{_≡_, refl, sym}
+use mathlib.Core.Bool.{true, false, not}
 use mathlib.Core.List.{List}
 use Prim.Native.Nat.{ℕ, _≤_}
 use lib.IntN.{ℤ}
 use lib.Dec.{eqb, ltb}
 use lib.ListN.{length}
-use borrow.Author.Tests.{eq-eqb, ne-eqb, eqb-true, ltb-false}
-use Rattle.refusal.specs.Tests.{either, choose}
+use borrow.Author.Tests.{not-false, eq-eqb, ne-eqb, eqb-true, ltb-false}
+use Rattle.refusal.specs.Tests.{choose}
 use Rattle.refusal.specs.Refusals.{accepted, turn}
 use Rattle.refusal.proofs.Rows.{passed}
-use Rattle.refusal.proofs.Tests.{choose-yes, choose-no}
-use Rattle.refusal.specs.declared.Verdict.{Verdict}
+use Rattle.refusal.proofs.Tests.{either-false, choose-yes, choose-no}
 use Rattle.refusal.specs.declared.Verdict.the-variants.{Accepted, ListLengths, NoPins, Outside, PlaceTaken}
 use Rattle.tree.specs.Growth.{allInside}
-use Rattle.tree.specs.Boxes.{fails}
 use Rattle.wiring.specs.Crowding.{crowded}
-use Rattle.bare.specs.Bare.{most, feedOf, wrongLengths, bareVerdict, bareOf}
 use Rattle.wiring.specs.Answer.{turnedAway, wiringOf}
-
--- Where the lengths are not wrong, they are equal and at most 32.
-lengths-by : (a b : Bool) → either (fails a) b ≡ false → (a ≡ true) × (b ≡ false)
-unfolding either fails choose
-lengths-by true b e = (refl, e)
-lengths-by false b e = absurd (false≢true (sym e))
-
--- A test that does not fail holds.
-holds : (t : Bool) → fails t ≡ false → t ≡ true
-unfolding fails choose
-holds true e = refl
-holds false e = absurd (false≢true (sym e))
+use Rattle.bare.specs.Bare.{most, feedOf, wrongLengths, bareVerdict, bareOf}
 
 module _ (xs ys : List ℤ) where
+  -- Where the lengths are not wrong, they are equal and at most 32.
   pub lengths-right : wrongLengths xs ys ≡ false → (length xs ≡ length ys) × (length xs ≤ most)
   unfolding wrongLengths
   lengths-right e =
-      let h = lengths-by (eqb (length xs) (length ys)) (ltb most (length xs)) e in
-      (eqb-true (length xs) (length ys) (h .0), ltb-false most (length xs) (h .1))
+      let h = either-false (not (eqb (length xs) (length ys))) (ltb most (length xs)) e in
+      (eqb-true (length xs) (length ys) (not-false _ (h .0)), ltb-false most (length xs) (h .1))
 
   -- Accepted lists are alike and few, and their pins are on the board and not too near.
   pub well : accepted (bareVerdict xs ys) ≡ true → (wrongLengths xs ys ≡ false) × (allInside (feedOf xs ys) ≡ true) × (crowded (feedOf xs ys) ≡ false)
@@ -44,9 +31,9 @@ module _ (xs ys : List ℤ) where
   well e =
       let p = passed (wrongLengths xs ys) ListLengths _ refl e in
       let q = passed (eqb (length xs) 0) NoPins _ refl (p .1) in
-      let r = passed (fails (allInside (feedOf xs ys))) Outside _ refl (q .1) in
+      let r = passed (not (allInside (feedOf xs ys))) Outside _ refl (q .1) in
       let s = passed (crowded (feedOf xs ys)) PlaceTaken _ refl (r .1) in
-      (p .0, holds (allInside (feedOf xs ys)) (r .0), s .0)
+      (p .0, not-false (allInside (feedOf xs ys)) (r .0), s .0)
 
   pub lengths-wrong : wrongLengths xs ys ≡ true → ListLengths ≡ bareVerdict xs ys
   unfolding bareVerdict turn choose
@@ -59,15 +46,15 @@ module _ (xs ys : List ℤ) where
 
     module _ (some : length xs ≡ 0 → ⊥) where
       pub one-outside : allInside (feedOf xs ys) ≡ false → Outside ≡ bareVerdict xs ys
-      unfolding bareVerdict turn choose fails
+      unfolding bareVerdict turn choose
       one-outside e = rw (right, ne-eqb (length xs) 0 some, e)
 
       pub two-near : allInside (feedOf xs ys) ≡ true → crowded (feedOf xs ys) ≡ true → PlaceTaken ≡ bareVerdict xs ys
-      unfolding bareVerdict turn choose fails
+      unfolding bareVerdict turn choose
       two-near e f = rw (right, ne-eqb (length xs) 0 some, e, f)
 
       pub all-well : allInside (feedOf xs ys) ≡ true → crowded (feedOf xs ys) ≡ false → Accepted ≡ bareVerdict xs ys
-      unfolding bareVerdict turn choose fails
+      unfolding bareVerdict turn choose
       all-well e f = rw (right, ne-eqb (length xs) 0 some, e, f)
 
 -- The whole answer: a refusal, or the wiring of the feed.

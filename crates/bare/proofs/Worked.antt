@@ -6,16 +6,14 @@ use lib.IntN.{ℤ, pos, negsuc}
 use lib.ListN.{length, replicate}
 use Rattle.refusal.specs.Tests.{both, either, choose}
 use Rattle.refusal.specs.Refusals.{accepted, turn}
-use Rattle.refusal.specs.declared.Verdict.{Verdict}
-use Rattle.refusal.specs.declared.Verdict.the-variants.{Accepted, ListLengths, NoPins, Outside, PlaceTaken, RoomTooSmall}
-use Rattle.grid.specs.Place.{difference, larger, sameNumber, onBoard, inside, closer, tooNear}
+use Rattle.refusal.specs.declared.Verdict.the-variants.{Accepted}
+use Rattle.grid.specs.Place.{difference, larger, sameNumber, onBoard, inside, closer, tooNear, isStraight}
 use Rattle.grid.specs.Weight.{distanceOf, weightOf, pairOf, byPart, byNumber, comesBefore}
 use Rattle.tree.specs.Growth.{allInside, pairAt, sooner, keptIf, pinsFrom, without, runsFrom, between, earliest, earliestOf, next, grown, runsAmong, pinsOf, runsOf}
-use Rattle.tree.specs.Boxes.{fails, belowBoth, under, overlap, boxesShare, isEnd, common, clash, clashAny, boxesMeet}
-use Rattle.tree.specs.Bends.{straight, bent, howMany}
-use Rattle.copper.specs.declared.Shape.{Shape}
+use Rattle.tree.specs.Boxes.{belowBoth, under, overlap, boxesShare, isEnd, common, clash, clashAny, boxesMeet}
+use Rattle.tree.specs.Bends.{bent, howMany}
 use Rattle.copper.specs.declared.Shape.the-variants.{Straight, Lower, Upper}
-use Rattle.copper.specs.Shapes.{isStraight, lowerCorner, upperCorner, legsOf}
+use Rattle.copper.specs.Shapes.{lowerCorner, upperCorner, legsOf}
 use Rattle.copper.specs.Length.{sameStep, stepsAcross, stepsUp, smaller, stepsOf, stepsOfAll, among, different, lengthOf}
 use Rattle.wiring.specs.declared.Shaped.{Shaped}
 use Rattle.wiring.specs.declared.Wiring.{Wiring}
@@ -80,5 +78,5 @@ answers =
 
 -- W1 to W8.
 pub worked : map (λ (b : Board). bareOf (b .xs) (b .ys) 62 .wiring) boards ≡ answers
-unfolding bareOf bareVerdict wrongLengths feedOf spotsOf crowded crowdAny crowd wiringOf wiringFavouring wiringWith wiringVerdict answerWith turnedAway laidWith legEntries runEntries shapedRuns weighedOf weighedAt howMany bent straight bestChoice shortestOf shortest lengthOfChoice legsOfChoice choicesOf withShapes withShape shapesOf bentShapes lengthOf different among stepsOfAll stepsOf smaller stepsUp stepsAcross sameStep legsOf lowerCorner upperCorner isStraight boxesMeet clashAny clash common isEnd boxesShare overlap under belowBoth fails runsOf pinsOf runsAmong grown next earliestOf earliest between runsFrom without pinsFrom keptIf sooner pairAt allInside comesBefore byPart byNumber pairOf weightOf distanceOf difference larger sameNumber onBoard inside closer tooNear accepted turn both either choose
+unfolding bareOf bareVerdict wrongLengths feedOf spotsOf crowded crowdAny crowd wiringOf wiringFavouring wiringWith wiringVerdict answerWith turnedAway laidWith legEntries runEntries shapedRuns weighedOf weighedAt howMany bent bestChoice shortestOf shortest lengthOfChoice legsOfChoice choicesOf withShapes withShape shapesOf bentShapes lengthOf different among stepsOfAll stepsOf smaller stepsUp stepsAcross sameStep legsOf lowerCorner upperCorner isStraight boxesMeet clashAny clash common isEnd boxesShare overlap under belowBoth runsOf pinsOf runsAmong grown next earliestOf earliest between runsFrom without pinsFrom keptIf sooner pairAt allInside comesBefore byPart byNumber pairOf weightOf distanceOf difference larger sameNumber onBoard inside closer tooNear accepted turn both either choose
 worked = refl

@@ -1,5 +1,5 @@
 -- Bare wiring: lists of x and y as a feed, and its refusals.
-use mathlib.Core.Bool.{Bool}
+use mathlib.Core.Bool.{Bool, not}
 use mathlib.Core.List.{List, [], _∷_, _++_}
 use Prim.Native.Nat.{ℕ, _-_}
 use lib.IntN.{ℤ, pos}
@@ -12,7 +12,6 @@ use Rattle.refusal.specs.declared.Verdict.the-variants.{Accepted, ListLengths, 
 use Rattle.grid.specs.declared.Spot.{Spot}
 use Rattle.grid.specs.declared.Spot.the-variants.{Absent, At}
 use Rattle.tree.specs.Growth.{allInside}
-use Rattle.tree.specs.Boxes.{fails}
 use Rattle.wiring.specs.declared.Laid.{Laid}
 use Rattle.wiring.specs.Crowding.{crowded}
 use Rattle.wiring.specs.Answer.{turnedAway, wiringOf}
@@ -37,14 +36,14 @@ feedOf xs ys = spotsOf xs ys ++ replicate (most - length (spotsOf xs ys)) Absent
 
 -- x and y lists differ in length, or exceed 32.
 unfoldable pub wrongLengths : List ℤ → List ℤ → Bool
-wrongLengths xs ys = either (fails (eqb (length xs) (length ys))) (ltb most (length xs))
+wrongLengths xs ys = either (not (eqb (length xs) (length ys))) (ltb most (length xs))
 
 -- Bare wiring: 16, 17, 8, 9, before it is wired.
 unfoldable pub bareVerdict : List ℤ → List ℤ → Verdict
 bareVerdict xs ys =
     turn (wrongLengths xs ys) ListLengths
     (turn (eqb (length xs) 0) NoPins
-    (turn (fails (allInside (feedOf xs ys))) Outside
+    (turn (not (allInside (feedOf xs ys))) Outside
     (turn (crowded (feedOf xs ys)) PlaceTaken Accepted)))
 
 -- Bare wiring: then 18, 19, and the answer.

@@ -5,11 +5,11 @@ use lib.IntN.{ℤ}
 use lib.Signed.{leZ}
 use Rattle.refusal.specs.Tests.{choose}
 use Rattle.grid.specs.declared.Place.{Place}
-use Rattle.grid.specs.Place.{difference, sameNumber}
+use Rattle.grid.specs.Place.{difference, sameNumber, isStraight}
 use Rattle.grid.specs.Weight.{distanceOf}
 use Rattle.copper.specs.declared.Arms.{Arms}
 use Rattle.copper.specs.declared.Tally.{Tally}
-use Rattle.copper.specs.Shapes.{isStraight, cornerOf, shapeOf}
+use Rattle.copper.specs.Shapes.{cornerOf, shapeOf}
 
 -- How far b lies beyond a.
 unfoldable pub beyond : ℤ → ℤ → ℕ

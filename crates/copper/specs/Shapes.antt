@@ -3,16 +3,12 @@ use mathlib.Core.Bool.{Bool}
 use mathlib.Core.List.{List, [], _∷_}
 use Prim.Native.Nat.{ℕ}
 use lib.Signed.{leZ}
-use Rattle.refusal.specs.Tests.{either, choose}
+use Rattle.refusal.specs.Tests.{choose}
 use Rattle.grid.specs.declared.Place.{Place}
-use Rattle.grid.specs.Place.{sameNumber}
+use Rattle.grid.specs.Place.{isStraight}
 use Rattle.copper.specs.declared.Shape.{Shape}
 use Rattle.copper.specs.declared.Shape.the-variants.{Straight, Lower, Upper}
 use Rattle.copper.specs.declared.Leg.{Leg}
-
--- A run whose ends share x or y is straight.
-unfoldable pub isStraight : Place → Place → Bool
-isStraight a b = either (sameNumber (a .x) (b .x)) (sameNumber (a .y) (b .y))
 
 -- The place in the column of one end and the row of the other.
 abbrev pub crossing : Place → Place → Place

@@ -3,9 +3,9 @@ ghost use mathlib.Core.Path.{_≡_};
 ghost use mathlib.Core.Bool.{true};
 ghost use Prim.Native.Nat.{max};
 ghost use lib.Signed.{leZ};
-ghost use Rattle.copper.specs.Shapes.{isStraight, crossing, lowerCorner, upperCorner, cornerOf, firstLeg, secondLeg, legCount, shapeOf};
+ghost use Rattle.copper.specs.Shapes.{crossing, lowerCorner, upperCorner, cornerOf, firstLeg, secondLeg, legCount, shapeOf};
 ghost use Rattle.copper.specs.Arms.{reach, armsTo, longest, paidFor, noTally, reachedBy, leadingOn, owed, Fair};
-ghost use Rattle.grid.specs.Place.{difference};
+ghost use Rattle.grid.specs.Place.{difference, isStraight};
 use grid::Place;
 
 // A straight run, or the two shapes of a bent one.

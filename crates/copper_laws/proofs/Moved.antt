@@ -8,11 +8,11 @@ use lib.Dec.{leb}
 use borrow.Author.Tests.{leb-true, leb-false}
 use Rattle.refusal.specs.Tests.{choose}
 use Rattle.grid.specs.declared.Place.{Place}
-use Rattle.grid.specs.Place.{sameNumber}
+use Rattle.grid.specs.Place.{sameNumber, isStraight}
 use Rattle.grid.proofs.Signed.{off, leZ-off}
 use Rattle.grid.proofs.Flat.{Site, site, Held}
 use Rattle.copper.specs.declared.Shape.the-variants.{Straight, Lower, Upper}
-use Rattle.copper.specs.Shapes.{isStraight, crossing, lowerCorner, upperCorner, cornerOf, shapeOf}
+use Rattle.copper.specs.Shapes.{crossing, lowerCorner, upperCorner, cornerOf, shapeOf}
 use Rattle.copper_laws.proofs.Cover.{straight, bend}
 use Rattle.copper_laws.proofs.Sharing.{near-tip, far-tip, straight-false}
 use Rattle.copper_laws.proofs.Counted.{either-is}

@@ -3,13 +3,14 @@ use mathlib.Core.Path.{_≡_, refl, sym, ap, _∙_}
 use mathlib.Core.Bool.{Bool, true, false, cond}
 use Prim.Native.Nat.{ℕ, zero, suc, _+_, _-_, _<_, min, max}
 use native.Mathlib.Omega.{arith}
-use lib.IntN.{ℤ, pos, negsuc, natAbs, subℕ, _+ℤ_, _-ℤ_, -ℤ-+ℤ-cancel, +ℤ-idl, +ℤ-invr}
+use lib.IntN.{ℤ, pos, negsuc, subℕ, _+ℤ_}
 use lib.Signed.{leZ}
 use lib.Dec.{eqb, leb, ltb}
 use borrow.Author.Tests.{leb-true, leb-false, ltb-true, ltb-false, lt-ltb, le-ltb, eq-eqb, eqb-true}
 use Rattle.refusal.specs.Tests.{choose}
 use Rattle.grid.specs.Place.{difference, sameNumber}
 use Rattle.grid.proofs.Signed.{off, I32, leZ-off, difference-off}
+use Rattle.grid.proofs.Board.{number-same, number-self}
 use Rattle.copper.specs.Length.{smaller}
 use Rattle.copper_laws.proofs.Tests.{same-test}
 
@@ -54,26 +55,12 @@ next-off (pos n) h = (omega arith, omega arith)
 next-off (negsuc zero) h = (omega arith, refl)
 next-off (negsuc (suc n)) h = rw (lt-ltb 1 (suc (suc n)) (omega arith)) (omega arith, omega arith)
 
-nothing : (z : ℤ) → natAbs z ≡ 0 → z ≡ pos 0
-nothing (pos n) e = ap pos e
-nothing (negsuc n) e = absurd (omega arith)
-
--- The test of two numbers says that they are the same.
-pub same-number : (a b : ℤ) → sameNumber a b ≡ true → a ≡ b
-unfolding sameNumber difference
-same-number a b e =
-    sym (-ℤ-+ℤ-cancel a b) ∙ ap (λ (z : ℤ). z +ℤ b) (nothing (a -ℤ b) (eqb-true (natAbs (a -ℤ b)) 0 e)) ∙ +ℤ-idl b
-
-pub number-same : (a : ℤ) → sameNumber a a ≡ true
-unfolding sameNumber difference
-number-same a = eq-eqb (natAbs (a -ℤ a)) 0 (ap natAbs (+ℤ-invr a))
-
 -- The same test on moved numbers.
 pub same-back : (a : ℕ) (z : ℤ) → Low z → sameNumber (back a) z ≡ eqb a (off z)
 same-back a z h =
     same-test (sameNumber (back a) z) (eqb a (off z))
-    (λ e. eq-eqb a (off z) (sym (off-back a) ∙ ap off (same-number (back a) z e)))
-    (λ e. rw (eqb-true a (off z) e, back-off z h) (number-same z))
+    (λ e. eq-eqb a (off z) (sym (off-back a) ∙ ap off (number-same (back a) z e)))
+    (λ e. rw (eqb-true a (off z) e, back-off z h) (number-self z))
 
 pub same-off : (a b : ℤ) → Low a → Low b → sameNumber a b ≡ eqb (off a) (off b)
 same-off a b p q = ap (λ (z : ℤ). sameNumber z b) (sym (back-off a p)) ∙ same-back (off a) b q

@@ -9,12 +9,12 @@ use lib.Dec.{eqb, leb}
 use borrow.Author.Tests.{leb-true, leb-false}
 use Rattle.refusal.specs.Tests.{choose}
 use Rattle.grid.specs.declared.Place.{Place}
-use Rattle.grid.specs.Place.{difference}
+use Rattle.grid.specs.Place.{difference, isStraight}
 use Rattle.grid.proofs.Signed.{off, I32, off-max, leZ-off, difference-off}
 use Rattle.grid.proofs.Flat.{span, site, Held, distance-span}
 use Rattle.copper.specs.declared.Arms.{Arms}
 use Rattle.copper.specs.declared.Tally.{Tally}
-use Rattle.copper.specs.Shapes.{isStraight, cornerOf, shapeOf}
+use Rattle.copper.specs.Shapes.{cornerOf, shapeOf}
 use Rattle.copper.specs.Arms.{beyond, reach, armsTo, longest, spread, paidFor, noTally, reachedBy, leadingOn, owed, Fair}
 use Rattle.copper_laws.proofs.Cover.{straight}
 use Rattle.copper_laws.proofs.Sharing.{near-tip, far-tip}

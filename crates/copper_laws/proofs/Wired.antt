@@ -12,11 +12,12 @@ use Rattle.refusal.specs.Tests.{choose}
 use Rattle.grid.specs.declared.Place.{Place}
 use Rattle.grid.proofs.Signed.{off-max}
 use Rattle.grid.proofs.Flat.{Site, site, Held}
+use Rattle.grid.specs.Place.{isStraight}
 use Rattle.copper.specs.declared.Shape.{Shape}
 use Rattle.copper.specs.declared.Shape.the-variants.{Straight, Lower, Upper}
 use Rattle.copper.specs.declared.Leg.{Leg}
 use Rattle.copper.specs.declared.Tally.{Tally}
-use Rattle.copper.specs.Shapes.{isStraight, lowerCorner, upperCorner, shapeOf, legsOf}
+use Rattle.copper.specs.Shapes.{lowerCorner, upperCorner, shapeOf, legsOf}
 use Rattle.copper.specs.Length.{lengthOf, legsOfRuns}
 use Rattle.copper.specs.Arms.{spread, owed}
 use Rattle.copper_laws.proofs.Sums.{oneIf, sumBelow, sum-none}

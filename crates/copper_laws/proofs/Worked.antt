@@ -4,9 +4,9 @@ use Prim.Native.Nat.{ℕ, zero, suc}
 use lib.IntN.{pos, negsuc}
 use Rattle.refusal.specs.Tests.{both, either, choose}
 use Rattle.grid.specs.declared.Place.{Place}
-use Rattle.grid.specs.Place.{difference, sameNumber}
+use Rattle.grid.specs.Place.{difference, sameNumber, isStraight}
 use Rattle.grid.specs.Weight.{distanceOf}
-use Rattle.copper.specs.Shapes.{isStraight, lowerCorner, upperCorner, shapeOf}
+use Rattle.copper.specs.Shapes.{lowerCorner, upperCorner, shapeOf}
 use Rattle.copper.specs.Arms.{beyond, reach, armsTo, longest, spread, paidFor, reachedBy, leadingOn, owed}
 use Rattle.copper_laws.proofs.Least.{best}
 use Rattle.copper_laws.proofs.Cost.{free}

@@ -1,10 +1,10 @@
 -- What a sound desk says of its parts: each test that `sound` joins, as a fact. Assumes nothing.
-use mathlib.Core.Path.{_≡_, refl, ap, sym, _∙_}
-use mathlib.Core.Bool.{Bool, true, false, not}
+use mathlib.Core.Path.{_≡_, refl, ap, _∙_}
+use mathlib.Core.Bool.{Bool, true, false}
 use mathlib.Core.List.{_∷_, reverse, reverse-append}
 use Prim.Native.Nat.{ℕ, zero, suc, _-_, _<_, _≤_}
 use native.Mathlib.Omega.{arith}
-use borrow.Author.Tests.{eqb-true, eqb-false, leb-true}
+use borrow.Author.Tests.{eqb-true, eqb-false, leb-true, not-true}
 use lib.Dec.{eqb}
 use lib.ListN.{length, take, drop, getD}
 use lib.Seq.{take-suc, drop-cons, length-take-le}
@@ -12,16 +12,12 @@ use Rattle.refusal.specs.Tests.{choose}
 use Rattle.refusal.proofs.Tests.{both-left, both-right}
 use Rattle.drawing.specs.Pins.{pins, lawful}
 use Rattle.drawing.specs.Edits.{pinOf, makeable, made, takeable, unmade}
-use Rattle.drawing.proofs.Numbered.{makeable-numbered, takeable-numbered}
+use Rattle.drawing.proofs.Making.{makeable-number, takeable-number}
 use Rattle.journal.proofs.Own.{own-length}
 use Rattle.journal.proofs.Turns.{turn-first}
 use Rattle.journal.specs.Journal.{seats, records, noEdit, seated, replayable, takeableAll}
 use Rattle.desk.specs.declared.Desk.{Desk}
 use Rattle.desk.specs.Desk.{seatOf, live, editsOf, standingOf, takenBackOf, jobsOf, jobsApart, soundOpen, soundClosed, soundSeat, soundTo, sound}
-
-no-is : (b : Bool) → not b ≡ true → b ≡ false
-no-is true e = sym e
-no-is false e = refl
 
 -- Of n sound seats each is sound.
 pub seat-among : (d : Desk) (n s : ℕ) → soundTo n d ≡ true → s < n → soundSeat d s ≡ true
@@ -79,7 +75,7 @@ module _ (d : Desk) (h : sound d ≡ true) where
 
     pub job-not-zero : seatOf d s .job ≡ 0 → ⊥
     unfolding soundOpen
-    job-not-zero = eqb-false _ _ (no-is _ (both-left _ _ opened))
+    job-not-zero = eqb-false _ _ (not-true _ (both-left _ _ opened))
 
     pub standing-within : seatOf d s .standing ≤ length (editsOf d s)
     unfolding soundOpen
@@ -116,7 +112,7 @@ module _ (d : Desk) (h : sound d ≡ true) where
 
     pub undo-numbered : (seatOf d s .standing ≡ 0 → ⊥) → pinOf (getD (editsOf d s) (seatOf d s .standing - 1) noEdit) < pins
     undo-numbered z =
-        takeable-numbered (seatOf d s .pins) _
+        takeable-number (seatOf d s .pins) _
         (turn-first takeable unmade (seatOf d s .pins) _ _ (rw (latest-first z) at standing-takeable))
 
     -- So does the next to redo among the taken-back ones; its pin is at most 31.
@@ -127,5 +123,5 @@ module _ (d : Desk) (h : sound d ≡ true) where
     pub redo-numbered : seatOf d s .standing < length (editsOf d s)
         → pinOf (getD (editsOf d s) (seatOf d s .standing) noEdit) < pins
     redo-numbered b =
-        makeable-numbered (seatOf d s .pins) _
+        makeable-number (seatOf d s .pins) _
         (turn-first makeable made (seatOf d s .pins) _ _ (rw (next-first b) at taken-back-replayable))

@@ -4,5 +4,4 @@ pub mod Rules
 pub mod Making
 mod Loops
 mod Tests
-pub mod Numbered
 mod Worked

@@ -1,28 +1,26 @@
 -- Edits: one that can be made leaves a drawing that keeps the rules, and taking it back gives the pins before; one that can be taken back
 -- gives the pins again when it is made again. Assumes nothing.
-use mathlib.Core.Path.{_≡_, refl, ap, sym, _∙_}
-use mathlib.Core.Bool.{Bool, true, false, not}
+use mathlib.Core.Path.{_≡_, refl, ap, sym}
+use mathlib.Core.Bool.{true, false, not}
 use mathlib.Core.List.{List}
 use mathlib.Core.Logic.{⊎-elim}
-use Prim.Native.Nat.{ℕ, _<_, _≤_}
-use native.Mathlib.Omega.{arith}
+use Prim.Native.Nat.{ℕ, _<_}
 use borrow.Author.Tests.{not-true, ltb-true, lt-ltb}
 use lib.ListN.{length, getD, set}
 use lib.Seq.{getD-set-same, set-set, set-getD, set-out}
-use Rattle.refusal.specs.Tests.{both}
 use Rattle.refusal.proofs.Tests.{both-left, both-right, both-of}
 use Rattle.grid.specs.declared.Place.{Place}
 use Rattle.grid.specs.Place.{inside, samePlace}
 use Rattle.grid.proofs.Flat.{order}
+use Rattle.grid.proofs.Board.{place-same, place-self}
 use Rattle.drawing.specs.declared.Held.{Held}
 use Rattle.drawing.specs.declared.Stand.{Stand}
 use Rattle.drawing.specs.declared.Stand.the-variants.{Absent, There}
 use Rattle.drawing.specs.declared.Pin.{Pin}
 use Rattle.drawing.specs.declared.Edit.{Edit}
 use Rattle.drawing.specs.declared.Edit.the-variants.{Placed, Moved, Removed}
-use Rattle.drawing.specs.Pins.{pins, absent, there, holding, thereIn, isThere, samePin, samePins, meetsAny, crowded, within, settled, lawful}
+use Rattle.drawing.specs.Pins.{pins, absent, there, holding, thereIn, isThere, meetsAny, crowded, within, settled, lawful}
 use Rattle.drawing.specs.Edits.{pinOf, movedPin, made, unmade, standsIn, standsAt, fits, placeable, movable, makeable, takeable}
-use Rattle.drawing.proofs.Places.{place-same, place-self}
 use Rattle.drawing.proofs.Rules.{pin-same, pin-self, pins-same, pins-self, absent-meets, lawful-set, lawful-settled, settled-lawful}
 
 -- The edit that does what taking an edit back does.

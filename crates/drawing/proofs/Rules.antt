@@ -1,24 +1,24 @@
 -- The rules of a drawing's pins: what the tests say of each pin, and which pin can take another's number. Assumes nothing.
 use mathlib.Core.Path.{_≡_, refl, ap, sym, _∙_}
-use mathlib.Core.Bool.{Bool, true, false, not}
-use mathlib.Core.List.{List, [], _∷_, map}
+use mathlib.Core.Bool.{true, false, not}
+use mathlib.Core.List.{List, [], _∷_}
 use Prim.Native.Nat.{ℕ, zero, suc, _<_}
 use native.Mathlib.Omega.{arith}
 use borrow.Author.Tests.{not-true, eqb-true, eq-eqb}
 use lib.ListN.{length, getD, set, length-set, length-map, List·getD-map}
 use lib.Seq.{getD-set-same, set-set}
 use Rattle.refusal.specs.Tests.{both, either}
-use Rattle.refusal.proofs.Tests.{both-left, both-right, both-of}
+use Rattle.refusal.proofs.Tests.{both-left, both-right, both-of, either-false, either-no}
 use Rattle.grid.specs.declared.Place.{Place}
-use Rattle.grid.specs.declared.Spot.{Spot}
 use Rattle.grid.specs.declared.Spot.the-variants as spot
 use Rattle.grid.specs.Place.{inside, tooNear}
+use Rattle.grid.proofs.Board.{place-same, place-self}
 use Rattle.drawing.specs.declared.Held.{Held}
 use Rattle.drawing.specs.declared.Stand.{Stand}
 use Rattle.drawing.specs.declared.Stand.the-variants.{Absent, There}
 use Rattle.drawing.specs.declared.Pin.{Pin}
 use Rattle.drawing.specs.Pins.{pins, absent, sameHeld, sameIn, samePin, samePins, meetIn, meets, meetsAny, within, withinIn, allWithin, allApart, settled, lawful, spotIn, spotOf, feedOf}
-use Rattle.drawing.proofs.Places.{near-turned, place-same, place-self}
+use Rattle.drawing.proofs.Places.{near-turned}
 
 -- ---- pins that are the same
 
@@ -70,20 +70,6 @@ pub meets-turned : (q r : Pin) → meets q r ≡ meets r q
 unfolding meets
 meets-turned q r = stands-turned (q .stand) (r .stand)
 
-either-no-left : (a b : Bool) → either a b ≡ false → a ≡ false
-unfolding either
-either-no-left true b e = cc
-either-no-left false b e = refl
-
-either-no-right : (a b : Bool) → either a b ≡ false → b ≡ false
-unfolding either
-either-no-right true b e = cc
-either-no-right false b e = e
-
-either-no : {a b : Bool} → a ≡ false → b ≡ false → either a b ≡ false
-unfolding either
-either-no p q = rw (p, q)
-
 -- A pin that is absent is near none.
 pub absent-meets : (l : List Pin) → meetsAny absent l ≡ false
 unfolding meetsAny meets either
@@ -98,23 +84,23 @@ meets-absent q = stands-turned (q .stand) Absent
 clear-set : (q r : Pin) (l : List Pin) (p : ℕ) → meetsAny q l ≡ false → meets q r ≡ false → meetsAny q (set l p r) ≡ false
 unfolding meetsAny
 clear-set q r [] p e m = refl
-clear-set q r (s ∷ l) zero e m = either-no m (either-no-right _ _ e)
-clear-set q r (s ∷ l) (suc p) e m = either-no (either-no-left _ _ e) (clear-set q r l p (either-no-right _ _ e) m)
+clear-set q r (s ∷ l) zero e m = either-no m (either-false _ _ e .1)
+clear-set q r (s ∷ l) (suc p) e m = either-no (either-false _ _ e .0) (clear-set q r l p (either-false _ _ e .1) m)
 
 clear-at : (q : Pin) (l : List Pin) (p : ℕ) → meetsAny q l ≡ false → meets q (getD l p absent) ≡ false
 unfolding meetsAny
 clear-at q [] p e = meets-absent q
-clear-at q (s ∷ l) zero e = either-no-left _ _ e
-clear-at q (s ∷ l) (suc p) e = clear-at q l p (either-no-right _ _ e)
+clear-at q (s ∷ l) zero e = either-false _ _ e .0
+clear-at q (s ∷ l) (suc p) e = clear-at q l p (either-false _ _ e .1)
 
 -- Pin p can be changed to one that no other is too near to.
 apart-set : (q : Pin) (l : List Pin) (p : ℕ) → allApart l ≡ true → meetsAny q (set l p absent) ≡ false → allApart (set l p q) ≡ true
 unfolding allApart meetsAny
 apart-set q [] p a e = refl
-apart-set q (r ∷ l) zero a e = both-of (ap not (either-no-right _ _ e)) (both-right _ _ a)
+apart-set q (r ∷ l) zero a e = both-of (ap not (either-false _ _ e .1)) (both-right _ _ a)
 apart-set q (r ∷ l) (suc p) a e =
-    both-of (ap not (clear-set r q l p (not-true _ (both-left _ _ a)) (meets-turned r q ∙ either-no-left _ _ e)))
-    (apart-set q l p (both-right _ _ a) (either-no-right _ _ e))
+    both-of (ap not (clear-set r q l p (not-true _ (both-left _ _ a)) (meets-turned r q ∙ either-false _ _ e .0)))
+    (apart-set q l p (both-right _ _ a) (either-false _ _ e .1))
 
 -- Of pins apart from each other none is too near to another.
 apart-at : (l : List Pin) (p : ℕ) → allApart l ≡ true → meetsAny (getD l p absent) (set l p absent) ≡ false

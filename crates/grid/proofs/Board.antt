@@ -1,20 +1,19 @@
 -- Numbers and places of the board in ℕ, and what their range allows. Assumes nothing.
 use mathlib.Core.Path.{_≡_, refl, sym, ap, _∙_}
-use mathlib.Core.Bool.{Bool, true, false}
-use Prim.Native.Nat.{ℕ, suc, _+_, _-_, _<_, _≤_}
+use mathlib.Core.Bool.{true, false}
+use Prim.Native.Nat.{ℕ, suc, _+_, _-_, _≤_}
 use native.Mathlib.Omega.{arith}
-use lib.IntN.{ℤ, pos, negsuc, negℤ, natAbs, _-ℤ_}
-use lib.Signed.{ltZ, leZ, mag}
-use lib.Dec.{leb, ltb, lit<}
+use lib.IntN.{ℤ, pos, negsuc, negℤ, natAbs, _+ℤ_, _-ℤ_, -ℤ-+ℤ-cancel, +ℤ-idl, +ℤ-invr}
+use lib.Signed.{ltZ, mag}
+use lib.Dec.{ltb, lit<}
 use mir.Syntax.{w32, w64}
 use mir.Val.{SFits, toZ, ofZ}
 use mir.Facts.{toZ-ofZ, sfits-widen}
-use borrow.Author.Tests.{lt-ltb, le-ltb, ltb-true, ltb-false, leb-true, leb-false, le-leb, lt-leb}
-use Rattle.refusal.specs.Tests.{both}
+use borrow.Author.Tests.{eq-eqb, eqb-true, lt-ltb, le-ltb, ltb-true, ltb-false, leb-true}
 use Rattle.refusal.proofs.Tests.{both-left, both-right, both-of}
 use Rattle.grid.specs.declared.Place.{Place}
-use Rattle.grid.specs.Place.{limit, leastGap, onBoard, inside, difference, larger, closer}
-use Rattle.grid.proofs.Signed.{off, I32, Small, leZ-off, off-range, difference-off, max-off, off-max, rd}
+use Rattle.grid.specs.Place.{limit, leastGap, onBoard, difference, larger, closer, sameNumber, samePlace}
+use Rattle.grid.proofs.Signed.{off, I32, Small, leZ-off, difference-off, max-off, off-max, rd}
 
 -- A number of the board, moved up.
 pub record Board (z : ℤ) : Type 0 where
@@ -38,12 +37,44 @@ board {z} f e =
       high = omega (arith, leb-true (off z) (off (pos limit)) (sym (leZ-off z (pos limit) (f .sfits) (lit< tt)) ∙ both-right _ _ e), high-is);
     }
 
+-- A number of the board is one that an i32 holds.
+pub number-held : (z : ℤ) → onBoard z ≡ true → I32 z
+unfolding onBoard
+number-held (pos n) e = omega (arith, leb-true n limit (both-right _ _ e))
+number-held (negsuc n) e = omega (arith, leb-true n (limit - 1) (both-left _ _ e))
+
 -- A number that is on the board is far from the ends of i32.
 pub small : {z : ℤ} → Board z → Small z
 small h = omega arith
 
 pub board-small : {z : ℤ} → SFits w32 z → onBoard z ≡ true → Small z
 board-small f e = small (board f e)
+
+-- Numbers that do not differ are the same,
+nothing : (z : ℤ) → natAbs z ≡ 0 → z ≡ pos 0
+nothing (pos n) e = ap pos e
+nothing (negsuc n) e = absurd (omega arith)
+
+pub number-same : (a b : ℤ) → sameNumber a b ≡ true → a ≡ b
+unfolding sameNumber difference
+number-same a b e =
+    sym (-ℤ-+ℤ-cancel a b) ∙ ap (λ (z : ℤ). z +ℤ b) (nothing (a -ℤ b) (eqb-true (natAbs (a -ℤ b)) 0 e)) ∙ +ℤ-idl b
+
+pub number-self : (a : ℤ) → sameNumber a a ≡ true
+unfolding sameNumber difference
+number-self a = eq-eqb (natAbs (a -ℤ a)) 0 (ap natAbs (+ℤ-invr a))
+
+-- and so are places.
+pub place-same : (a b : Place) → samePlace a b ≡ true → a ≡ b
+unfolding samePlace
+place-same a b e =
+    let p : a .x ≡ b .x = number-same (a .x) (b .x) (both-left _ _ e) in
+    let q : a .y ≡ b .y = number-same (a .y) (b .y) (both-right _ _ e) in
+    λ i. record { x = p i; y = q i }
+
+pub place-self : (a : Place) → samePlace a a ≡ true
+unfolding samePlace
+place-self a = both-of (number-self (a .x)) (number-self (a .y))
 
 -- A difference above minus the gap is below the gap where its size is; one that is not is not.
 gap-arm : (g : ℕ) (z : ℤ) → ltZ (negsuc g) z ≡ true → ltZ z (pos (suc g)) ≡ ltb (natAbs z) (suc g)

@@ -1,16 +1,18 @@
 -- Geometry in ℕ: a place of the grid moved up by 2 ^ 31 on both axes, differences and distances there. Assumes nothing.
-use mathlib.Core.Path.{_≡_, refl, sym, ap, _∙_}
+use mathlib.Core.Path.{_≡_, refl}
 use mathlib.Core.Bool.{Bool, true, false}
 use mathlib.Core.Logic.{_⊎_, inl, inr}
-use Prim.Native.Nat.{ℕ, _+_, _-_, _<_, _≤_, max}
+use Prim.Native.Nat.{ℕ, _+_, _-_, _<_, _≤_}
 use native.Mathlib.Omega.{arith}
-use lib.Dec.{ltb}
+use lib.Dec.{ltb, eqb}
 use lib.IntN.{ℤ}
-use borrow.Author.Tests.{ltb-true, ltb-false}
+use borrow.Author.Tests.{ltb-true, ltb-false, eqb-true, eqb-false}
+use Rattle.refusal.proofs.Tests.{both-left, both-right}
 use Rattle.grid.specs.declared.Place.{Place}
-use Rattle.grid.specs.Place.{difference}
+use Rattle.grid.specs.Place.{inside, difference}
 use Rattle.grid.specs.Weight.{distanceOf}
-use Rattle.grid.proofs.Signed.{off, I32, difference-off, off-inj}
+use Rattle.grid.proofs.Signed.{off, I32, difference-off}
+use Rattle.grid.proofs.Board.{number-held}
 
 -- How far two natural numbers are apart. It stays shut: its laws are below.
 unfoldable pub gap : ℕ → ℕ → ℕ
@@ -58,6 +60,14 @@ order-by false a b e = inl (ltb-false b a e)
 pub order : (a b : ℕ) → (a ≤ b) ⊎ (b < a)
 order a b = order-by (ltb b a) a b refl
 
+-- Two numbers are the same or not.
+same-by : (t : Bool) (a b : ℕ) → eqb a b ≡ t → (a ≡ b) ⊎ (a ≡ b → ⊥)
+same-by true a b e = inl (eqb-true a b e)
+same-by false a b e = inr (eqb-false a b e)
+
+pub same-or-not : (a b : ℕ) → (a ≡ b) ⊎ (a ≡ b → ⊥)
+same-or-not a b = same-by (eqb a b) a b refl
+
 -- A place in ℕ.
 pub record Site : Type 0 where
   pub x : ℕ
@@ -79,6 +89,11 @@ site a = record { x = off (a .x); y = off (a .y) }
 pub record Held (a : Place) : Type 0 where
   pub x : I32 (a .x)
   pub y : I32 (a .y)
+
+-- So are those of a place of the board.
+pub place-held : (a : Place) → inside a ≡ true → Held a
+unfolding inside
+place-held a e = record { x = number-held (a .x) (both-left _ _ e); y = number-held (a .y) (both-right _ _ e) }
 
 pub difference-gap : (a b : ℤ) → I32 a → I32 b → difference a b ≡ gap (off a) (off b)
 unfolding gap

@@ -4,7 +4,7 @@ use Prim.Native.Nat.{ℕ}
 use lib.IntN.{ℤ, pos, negℤ, natAbs, _-ℤ_}
 use lib.Signed.{ltZ, leZ}
 use lib.Dec.{ltb, eqb}
-use Rattle.refusal.specs.Tests.{both, choose}
+use Rattle.refusal.specs.Tests.{both, either, choose}
 use Rattle.grid.specs.declared.Place.{Place}
 
 -- x and y go from -20,000 to 20,000.
@@ -42,6 +42,10 @@ sameNumber a b = eqb (difference a b) 0
 -- Two places are the same.
 unfoldable pub samePlace : Place → Place → Bool
 samePlace a b = both (sameNumber (a .x) (b .x)) (sameNumber (a .y) (b .y))
+
+-- A run whose ends share x or y is straight.
+unfoldable pub isStraight : Place → Place → Bool
+isStraight a b = either (sameNumber (a .x) (b .x)) (sameNumber (a .y) (b .y))
 
 -- The larger of two numbers.
 unfoldable pub larger : ℤ → ℤ → ℤ

@@ -1,6 +1,6 @@
 -- Rows of refusals that stand in ascending rank: each refusal exactly, also where two have one number and carry different records.
 -- From the definition of rows; assumes nothing.
-use mathlib.Core.Path.{_≡_, refl, ap, sym}
+use mathlib.Core.Path.{_≡_, refl, ap}
 use mathlib.Core.Bool.{Bool, true, false}
 use mathlib.Core.List.{List, [], _∷_}
 use Prim.Native.Nat.{ℕ, zero, suc, _+_, _*_, _<_, _≤_}
@@ -13,7 +13,7 @@ use Rattle.refusal.specs.declared.Verdict.{Verdict}
 use Rattle.refusal.specs.declared.Verdict.the-variants.{Accepted}
 use Rattle.refusal.specs.declared.Carried.{Carried}
 use Rattle.refusal.specs.declared.Carried.the-variants.{Nothing, Record}
-use Rattle.refusal.proofs.Rows.{Row, firstOf, Given, NoneHolds, refusalAt, Exactly, given-is, none-is}
+use Rattle.refusal.proofs.Rows.{Row, firstOf, Given, NoneHolds, refusalAt, Exactly, given-is, none-is, to-first, to-later}
 
 abbrev carriedIn : Carried → ℕ
 carriedIn Nothing = 0
@@ -50,17 +50,6 @@ below-first v (r ∷ rows) z y a e =
     by : (b : Bool) → v ≡ choose b (r .refusal) (firstOf rows Accepted) → (v ≡ firstOf rows Accepted → ⊥) → ⊥
     by true f k = omega (arith, a .0, ap rank f)
     by false f k = k f
-
--- The two ways of one row, by its condition.
-to-first : (b : Bool) (v next : Verdict) → (v ≡ next → ⊥) → choose b v next ≡ v → b ≡ true
-unfolding choose
-to-first true v next n e = refl
-to-first false v next n e = absurd (n (sym e))
-
-to-later : (b : Bool) (v next w : Verdict) → (v ≡ w → ⊥) → choose b v next ≡ w → (b ≡ false) × (next ≡ w)
-unfolding choose
-to-later true v next w n e = absurd (n e)
-to-later false v next w n e = (refl, e)
 
 accepted-rank : rank Accepted ≡ 0
 unfolding rank choose

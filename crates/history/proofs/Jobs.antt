@@ -7,10 +7,9 @@ use borrow.Author.Tests.{not-true, eqb-true, eqb-false, ne-eqb}
 use lib.Dec.{eqb}
 use lib.ListN.{set}
 use Rattle.refusal.specs.Tests.{both, either}
-use Rattle.refusal.proofs.Tests.{both-left, both-right, both-of}
+use Rattle.refusal.proofs.Tests.{both-left, both-right, both-of, either-false, either-no}
 use Rattle.desk.specs.Refusals.{sameJob, jobAmong}
 use Rattle.desk.specs.Desk.{jobsApart}
-use Rattle.history.proofs.Passed.{neither-left, neither-right}
 
 both-false : (b : Bool) → both b false ≡ false
 unfolding both
@@ -26,10 +25,6 @@ turned-by i j false h = rw (h, ne-eqb j i (λ (e : j ≡ i). eqb-false i j h (sy
 same-turned : (i j : ℕ) → sameJob i j ≡ sameJob j i
 same-turned i j = turned-by i j (eqb i j) refl
 
-neither-of : {a b : Bool} → a ≡ false → b ≡ false → either a b ≡ false
-unfolding either
-neither-of p q = rw (p, q)
-
 -- A closed seat shares its job with none.
 pub none-among : (l : List ℕ) → jobAmong 0 l ≡ false
 unfolding jobAmong sameJob both either
@@ -39,14 +34,14 @@ none-among (i ∷ l) = none-among l
 among-set : (j k : ℕ) (l : List ℕ) (s : ℕ) → jobAmong j l ≡ false → sameJob j k ≡ false → jobAmong j (set l s k) ≡ false
 unfolding jobAmong
 among-set j k [] s h e = h
-among-set j k (i ∷ l) zero h e = neither-of e (neither-right (sameJob j i) _ h)
-among-set j k (i ∷ l) (suc s) h e = neither-of (neither-left _ _ h) (among-set j k l s (neither-right (sameJob j i) _ h) e)
+among-set j k (i ∷ l) zero h e = either-no e (either-false (sameJob j i) _ h .1)
+among-set j k (i ∷ l) (suc s) h e = either-no (either-false _ _ h .0) (among-set j k l s (either-false (sameJob j i) _ h .1) e)
 
 -- One seat has another job, open nowhere: still no job is repeated.
 pub apart-set : (k : ℕ) (l : List ℕ) (s : ℕ) → jobsApart l ≡ true → jobAmong k l ≡ false → jobsApart (set l s k) ≡ true
 unfolding jobsApart jobAmong
 apart-set k [] s h e = refl
-apart-set k (i ∷ l) zero h e = both-of (ap not (neither-right (sameJob k i) _ e)) (both-right _ _ h)
+apart-set k (i ∷ l) zero h e = both-of (ap not (either-false (sameJob k i) _ e .1)) (both-right _ _ h)
 apart-set k (i ∷ l) (suc s) h e =
-    both-of (ap not (among-set i k l s (not-true _ (both-left _ _ h)) (same-turned i k ∙ neither-left _ _ e)))
-    (apart-set k l s (both-right _ _ h) (neither-right (sameJob k i) _ e))
+    both-of (ap not (among-set i k l s (not-true _ (both-left _ _ h)) (same-turned i k ∙ either-false _ _ e .0)))
+    (apart-set k l s (both-right _ _ h) (either-false (sameJob k i) _ e .1))

@@ -5,21 +5,17 @@ use mathlib.Core.List.{List, [], _∷_}
 use Prim.Native.Nat.{ℕ, zero, suc, _+_, _*_, _/_, _<_}
 use native.Mathlib.Omega.{arith}
 use lib.ListN.{length, take, drop}
-use Rattle.refusal.specs.Tests.{either, choose}
+use Rattle.refusal.specs.Tests.{either, choose, both}
 use Rattle.refusal.specs.Refusals.{accepted, turn}
 use Rattle.refusal.specs.declared.Verdict.{Verdict}
 use Rattle.refusal.specs.declared.Verdict.the-variants.{Accepted, MapLength, OtherJob, FaultyRecord}
-use Rattle.refusal.proofs.Rows.{Row, firstOf}
+use Rattle.refusal.proofs.Rows.{Row, firstOf, given, distinct, unlike, behind}
 use Rattle.drawing.specs.declared.Pin.{Pin}
 use Rattle.pinmap.specs.declared.Record.{Record}
 use Rattle.pinmap.specs.declared.Reading.{Reading}
 use Rattle.pinmap.specs.Record.{recordSize, recordOf, otherJob, pinAbove, notBlank, outside, notAbove, placeTaken, judged}
 use Rattle.pinmap.specs.Map.{noPins, refusedBy, withRecord, readFrom, wrongLength, readMap}
 use Rattle.history.proofs.Ascending.{rank, Ascending}
-
--- One row: a refusal and its condition.
-abbrev pub given : Bool → Verdict → Row
-given b v = record { condition = b; refusal = v }
 
 -- A record's pin is above 31 or not above the one before, byte 3 is not zero, a place is outside, or a place is that of an earlier record.
 abbrev pub faulty : ℕ → List Pin → Record → Bool
@@ -47,12 +43,11 @@ one-row true b v w = refl
 one-row false b v w = refl
 
 -- A record that is judged, and what is said of the later ones where it has no fault.
-judged-then : (a b : Bool) (v w : Verdict) (x : Reading) → accepted v ≡ false → accepted w ≡ false
-    → choose (accepted (turn a v (turn b w Accepted))) x (refusedBy (turn a v (turn b w Accepted))) .verdict ≡ turn a v (turn b w (x .verdict))
-unfolding turn choose accepted
-judged-then true b v w x p q = rw p
-judged-then false true v w x p q = rw q
-judged-then false false v w x p q = refl
+judged-then : (a b : Bool) (n : ℕ) (x : Reading)
+    → choose (accepted (turn a (OtherJob n) (turn b (FaultyRecord n) Accepted))) x (refusedBy (turn a (OtherJob n) (turn b (FaultyRecord n) Accepted))) .verdict
+    ≡ turn a (OtherJob n) (turn b (FaultyRecord n) (x .verdict))
+unfolding firstOf distinct unlike both accepted
+judged-then a b n x = behind (λ (r : Reading). r .verdict) refusedBy (λ v. refl) x (given a (OtherJob n) ∷ given b (FaultyRecord n) ∷ []) refl
 
 judged-is : (job number next : ℕ) (earlier : List Pin) (r : Record)
     → judged job number next earlier r ≡ turn (otherJob job r) (OtherJob number) (turn (faulty next earlier r) (FaultyRecord number) Accepted)
@@ -73,9 +68,8 @@ records-first zero map job number next earlier = refl
 records-first (suc left) map job number next earlier =
     rw (
       judged-is job number next earlier (recordOf (take recordSize map)),
-      judged-then (otherJob job (recordOf (take recordSize map))) (faulty next earlier (recordOf (take recordSize map))) (OtherJob number) (FaultyRecord number)
-          (readFrom left (drop recordSize map) job (number + 1) (recordOf (take recordSize map) .pin + 1) (withRecord earlier (recordOf (take recordSize map))))
-          refl refl,
+      judged-then (otherJob job (recordOf (take recordSize map))) (faulty next earlier (recordOf (take recordSize map))) number
+          (readFrom left (drop recordSize map) job (number + 1) (recordOf (take recordSize map) .pin + 1) (withRecord earlier (recordOf (take recordSize map)))),
       records-first left (drop recordSize map) job (number + 1) (recordOf (take recordSize map) .pin + 1) (withRecord earlier (recordOf (take recordSize map))),
     )
 

@@ -7,7 +7,7 @@ use Prim.Native.Nat.{ℕ, zero, suc, _<_}
 use native.Mathlib.Omega.{arith}
 use borrow.Author.Tests.{not-false, eqb-true, eqb-false}
 use lib.Dec.{eqb}
-use lib.ListN.{length, replicate, take, drop, getD, set}
+use lib.ListN.{length, replicate, take, drop, getD, set, drop-of-length-le}
 use lib.Seq.{getD-set-same}
 use Rattle.refusal.specs.Tests.{both, choose}
 use Rattle.refusal.specs.Refusals.{accepted}
@@ -186,8 +186,7 @@ closed-until-opening calls d s o n = stays (λ (q : Seat). q .opened) false isOp
 -- ---- opening and closing
 
 pub nil-of : (l : List Edit) → length l ≡ 0 → l ≡ []
-nil-of [] h = refl
-nil-of (e ∷ l) h = absurd (omega arith)
+nil-of l h = drop-of-length-le l {i = 0} (omega arith)
 
 module _ (d : Desk) (s job : ℕ) (map : List ℕ) (z : accepted (step d (opening s job map) .verdict) ≡ true) where
   opens-here : Opens (lookAt d s) job map

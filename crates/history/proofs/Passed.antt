@@ -7,11 +7,11 @@ use Prim.Native.Nat.{ℕ, _<_, _≤_}
 use borrow.Author.Tests.{not-false, eqb-false, leb-false, ltb-false}
 use lib.Dec.{eqb, leb}
 use lib.ListN.{length}
-use Rattle.refusal.specs.Tests.{either}
 use Rattle.refusal.specs.Refusals.{toldOf, accepted, turn}
 use Rattle.refusal.specs.declared.Verdict.{Verdict}
 use Rattle.refusal.specs.declared.Verdict.the-variants.{SeatAbove, NotOpen, DeskBroken}
 use Rattle.refusal.proofs.Rows.{passed}
+use Rattle.refusal.proofs.Tests.{either-false}
 use Rattle.grid.specs.declared.Place.{Place}
 use Rattle.grid.specs.Place.{samePlace}
 use Rattle.drawing.specs.declared.Stand.{Stand}
@@ -30,17 +30,6 @@ use Rattle.desk.specs.Refusals.{Look, seatAbove, jobAmong, pinAt, notThere, ful
 pub row : (b : Bool) (v w : Verdict) → accepted (turn b v w) ≡ true → eqb (toldOf v .number) 0 ≡ false → (b ≡ false) × (accepted w ≡ true)
 unfolding accepted
 row b v w e n = passed b v w n e
-
--- Neither test holds.
-pub neither-left : (a b : Bool) → either a b ≡ false → a ≡ false
-unfolding either
-neither-left true b e = e
-neither-left false b e = refl
-
-pub neither-right : (a b : Bool) → either a b ≡ false → b ≡ false
-unfolding either
-neither-right true b e = cc
-neither-right false b e = e
 
 -- The rows 28, 1 and 2 are passed: the desk is sound, the seat is one of the desk's, and open.
 pub record Reached (l : Look) : Type 0 where
@@ -126,7 +115,7 @@ pin-elsewhere q at e n = stand-elsewhere (q .stand) at e n
 
 -- The row 6 is passed: the pin is there.
 is-there : (l : Look) (p : ℕ) → notThere l p ≡ false → (p < pins) × (isThere (pinAt l p) ≡ true)
-is-there l p e = (leb-false pins p (neither-left (leb pins p) _ e), not-false _ (neither-right (leb pins p) _ e))
+is-there l p e = (leb-false pins p (either-false (leb pins p) _ e .0), not-false _ (either-false (leb pins p) _ e .1))
 
 pub moves : (l : Look) (p : ℕ) (at : Place) → accepted (turnedMoving l p at) ≡ true → Enters l (moved (l .pins) p at)
 unfolding turnedMoving
@@ -141,9 +130,9 @@ moves l p at e =
       reaches = a .0;
       fits =
           moved-makeable (l .pins) p (t .0) (heldBy (pinAt l p)) (pin-held (pinAt l p) (t .1)) at
-          (pin-elsewhere (pinAt l p) at (t .1) (neither-left (standsAt (pinAt l p) at) _ (d .0)))
+          (pin-elsewhere (pinAt l p) at (t .1) (either-false (standsAt (pinAt l p) at) _ (d .0) .0))
           (not-false _ (c .0))
-          (neither-right (standsAt (pinAt l p) at) _ (d .0));
+          (either-false (standsAt (pinAt l p) at) _ (d .0) .1);
       room = f .0;
     }
 

@@ -10,29 +10,22 @@ use borrow.Author.Tests.{not-true}
 use lib.Dec.{eqb, leb, ltb}
 use lib.ListN.{length}
 use Rattle.refusal.specs.Tests.{both, either, choose}
-use Rattle.refusal.specs.Refusals.{accepted, turn}
-use Rattle.refusal.specs.declared.Verdict.the-variants.{Accepted, SeatAbove, NotOpen, OpenAlready, JobZero, JobElsewhere, NoSuchPin, PinThere, Outside, PlaceTaken, NothingStands, NothingTakenBack, JournalFull, RoomTooSmall, DeskBroken, NoPins, BoxesMeet}
-use Rattle.refusal.proofs.Rows.{Row, firstOf, Given, NoneHolds, refusalAt, unlike, distinct, Exactly, exactly}
+use Rattle.refusal.specs.Refusals.{accepted}
+use Rattle.refusal.specs.declared.Verdict.the-variants.{Accepted, SeatAbove, NotOpen, OpenAlready, JobZero, JobElsewhere, NoSuchPin, PinThere, Outside, PlaceTaken, NothingStands, NothingTakenBack, JournalFull, RoomTooSmall, DeskBroken}
+use Rattle.refusal.proofs.Rows.{Row, firstOf, Given, NoneHolds, refusalAt, unlike, distinct, Exactly, exactly, given, numberOf, unlike-first}
 use Rattle.grid.specs.declared.Place.{Place}
-use Rattle.grid.specs.declared.Spot.{Spot}
 use Rattle.grid.specs.Place.{inside}
 use Rattle.drawing.specs.Pins.{pins, isThere, crowded, feedOf}
 use Rattle.drawing.specs.Edits.{standsAt}
 use Rattle.pinmap.specs.Map.{mapOf}
 use Rattle.desk.specs.declared.Desk.{Desk}
-use Rattle.tree.specs.Growth.{pinsOf, runsOf}
-use Rattle.tree.specs.Boxes.{boxesMeet}
-use Rattle.tree.specs.Trees.{none}
-use Rattle.copper.specs.declared.Leg.{Leg}
-use Rattle.wiring.specs.declared.Laid.{Laid}
-use Rattle.wiring.specs.Choices.{bestChoice, legsOfChoice}
-use Rattle.wiring.specs.Answer.{laidWith, answerWith, turnedAway, wiringVerdict, wiringWith, wiringFavouring, wiringOf}
+use Rattle.wiring.proofs.Refusing.{feedRows, wiring-verdict}
 use Rattle.desk.specs.Calls.{Call, seatIn, opening, closing, placing, moving, removing, undoing, redoing, writing, wiring}
 use Rattle.desk.specs.Refusals.{Look, seatAbove, jobAmong, pinAt, notThere, full, turnedOpening, turnedClosing, turnedPlacing, turnedMoving, turnedRemoving, turnedUndoing, turnedRedoing, turnedWriting, turnedWiring, verdictOf}
 use Rattle.desk.specs.Desk.{sound, lookAt, answerOf, step, emptyDesk}
 use Rattle.history.specs.History.{after}
 use Rattle.history.proofs.Ascending.{rank, Ascending, exactly-ascending}
-use Rattle.history.proofs.MapRows.{given, mapRows, map-first, map-ascends}
+use Rattle.history.proofs.MapRows.{mapRows, map-first, map-ascends}
 use Rattle.history.proofs.Demand.{desk-as-told}
 
 -- The desk can take a job at a seat: 28, 1, 3, 4, 5.
@@ -115,20 +108,9 @@ writingRows l room =
     ∷ given (ltb room (length (mapOf (l .job) (l .pins)))) RoomTooSmall
     ∷ []
 
--- The legs that wiring a feed needs.
-abbrev pub legsNeeded : List Spot → List Leg
-legsNeeded feed = legsOfChoice feed (runsOf feed) (bestChoice false feed (runsOf feed))
-
 -- Wiring: 28, 1, 2, 17, 18, 19.
 abbrev pub wiringRows : Look → ℕ → List Row
-wiringRows l room =
-    given (l .broken) DeskBroken
-    ∷ given (seatAbove l) SeatAbove
-    ∷ given (not (l .opened)) NotOpen
-    ∷ given (none (pinsOf (feedOf (l .pins)))) NoPins
-    ∷ given (boxesMeet (feedOf (l .pins)) (runsOf (feedOf (l .pins)))) BoxesMeet
-    ∷ given (ltb room (length (legsNeeded (feedOf (l .pins))))) RoomTooSmall
-    ∷ []
+wiringRows l room = closingRows l ++ feedRows (feedOf (l .pins)) room
 
 opening-ascends : (l : Look) (job : ℕ) (map : List ℕ) → Ascending 0 (openingRows l job map)
 unfolding Ascending rank choose
@@ -173,25 +155,6 @@ exactly-redoing l = exactly (redoingRows l) Accepted refl refl
 pub exactly-writing : (l : Look) (room : ℕ) → Exactly (writingRows l room) Accepted (turnedWriting l room)
 unfolding turnedWriting firstOf distinct unlike accepted both
 exactly-writing l room = exactly (writingRows l room) Accepted refl refl
-
--- The verdict that an answer carries is the one that decided it.
-verdict-by : (a b c : Bool) (l : Laid) → l .wiring .verdict ≡ Accepted
-    → choose (accepted (turn a NoPins (turn b BoxesMeet (turn c RoomTooSmall Accepted)))) l
-    (turnedAway (turn a NoPins (turn b BoxesMeet (turn c RoomTooSmall Accepted)))) .wiring .verdict
-    ≡ turn a NoPins (turn b BoxesMeet (turn c RoomTooSmall Accepted))
-unfolding choose accepted turn turnedAway
-verdict-by true b c l e = refl
-verdict-by false true c l e = refl
-verdict-by false false true l e = refl
-verdict-by false false false l e = e
-
-wiring-verdict : (feed : List Spot) (room : ℕ) → wiringOf feed room .wiring .verdict
-    ≡ turn (none (pinsOf feed)) NoPins
-    (turn (boxesMeet feed (runsOf feed)) BoxesMeet (turn (ltb room (length (legsNeeded feed))) RoomTooSmall Accepted))
-unfolding wiringOf wiringFavouring wiringWith wiringVerdict answerWith laidWith
-wiring-verdict feed room =
-    verdict-by (none (pinsOf feed)) (boxesMeet feed (runsOf feed)) (ltb room (length (legsNeeded feed)))
-    (answerWith feed (runsOf feed) (bestChoice false feed (runsOf feed))) refl
 
 -- Each of wiring's refusals exactly under its condition.
 pub exactly-wiring : (l : Look) (room : ℕ) → Exactly (wiringRows l room) Accepted (turnedWiring l room)
@@ -245,6 +208,18 @@ pub no-other-refusal : (d : Desk) (c : Call)
 no-other-refusal d c =
     let x : Exactly (rowsOf (lookAt d (seatIn c)) c) Accepted (step d c .verdict) = each-refusal-exactly d c in
     ⊎-elim (λ g. inl (g .0, g .1, x .refused (g .0) (g .1) .1 (g .2))) (λ n. inr (x .passes .1 n)) (one-or-none (rowsOf (lookAt d (seatIn c)) c))
+
+-- Undo and redo never need a further record: neither is refused with 12.
+never-full : (rows : List Row) → unlike JournalFull rows ≡ true → firstOf rows Accepted ≡ JournalFull → ⊥
+never-full rows u e = unlike-first JournalFull rows Accepted u (λ (f : JournalFull ≡ Accepted). omega (arith, ap numberOf f)) (sym e)
+
+pub undo-never-full : (d : Desk) (s : ℕ) → step d (undoing s) .verdict ≡ JournalFull → ⊥
+unfolding step answerOf verdictOf turnedUndoing firstOf unlike both
+undo-never-full d s e = never-full (undoingRows (lookAt d s)) refl e
+
+pub redo-never-full : (d : Desk) (s : ℕ) → step d (redoing s) .verdict ≡ JournalFull → ⊥
+unfolding step answerOf verdictOf turnedRedoing firstOf unlike both
+redo-never-full d s e = never-full (redoingRows (lookAt d s)) refl e
 
 -- 28 comes first: a broken desk is answered 28 by every call, and a sound one by none.
 broken-given : (d : Desk) (c : Call) → (step d c .verdict ≡ DeskBroken) ↔ (not (sound d) ≡ true)

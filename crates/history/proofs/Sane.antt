@@ -10,13 +10,13 @@ use lib.ListN.{length, getD, set, replicate, length-set, length-replicate}
 use lib.Seq.{getD-set-same, getD-set-other, map-set-same}
 use Rattle.refusal.specs.Tests.{both, either, choose}
 use Rattle.refusal.specs.Refusals.{accepted}
+use Rattle.grid.proofs.Flat.{same-or-not}
 use Rattle.drawing.specs.declared.Pin.{Pin}
 use Rattle.drawing.specs.declared.Edit.{Edit}
 use Rattle.drawing.specs.Pins.{lawful}
 use Rattle.drawing.specs.Edits.{makeable, made, placed, moved, removed}
 use Rattle.pinmap.proofs.RoundTrip.{read-lawful}
 use Rattle.journal.specs.Journal.{seats, replayable}
-use Rattle.journal.proofs.Own.{same-or-not}
 use Rattle.journal.proofs.Turns.{turn-nil, turn-first, turn-rest, turn-cons}
 use Rattle.desk.specs.Calls.{Call, seatIn, opening, closing, placing, moving, removing, undoing, redoing, writing, wiring}
 use Rattle.desk.specs.Refusals.{sameJob, jobAmong, verdictOf}

@@ -10,11 +10,11 @@ use lib.ListN.{length, getD, set, take, drop, length-set, length-map, length-rev
 use lib.Seq.{getD-set-same, getD-set-other, ext-getD, take-at, drop-at, getD-at, take-nil, drop-nil, length-take-le}
 use Rattle.refusal.specs.Tests.{choose}
 use Rattle.refusal.proofs.Tests.{choose-yes, choose-no}
+use Rattle.grid.proofs.Flat.{same-or-not}
 use Rattle.drawing.specs.declared.Pin.{Pin}
 use Rattle.drawing.specs.declared.Edit.{Edit}
 use Rattle.journal.specs.declared.Record.{Record}
 use Rattle.journal.specs.Journal.{seats, records, noEdit, own, seated}
-use Rattle.journal.proofs.Own.{same-or-not}
 use Rattle.journal.proofs.Filled.{take-filled, filled-length}
 use Rattle.desk.specs.declared.Seat.{Seat}
 use Rattle.desk.specs.declared.Desk.{Desk}

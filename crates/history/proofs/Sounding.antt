@@ -9,9 +9,8 @@ use native.Mathlib.Omega.{arith}
 use lib.ListN.{length, take, length-append, length-reverse, take-append-drop, List·getD-append, List·getD-eq-default}
 use lib.Seq.{getD-at, length-take-le}
 use Rattle.refusal.specs.Tests.{choose}
-use Rattle.grid.proofs.Flat.{order}
+use Rattle.grid.proofs.Flat.{order, same-or-not}
 use Rattle.journal.specs.Journal.{seats, ownedBelow}
-use Rattle.journal.proofs.Own.{same-or-not}
 use Rattle.journal.proofs.Seated.{owned-all}
 use Rattle.desk.specs.declared.Desk.{Desk}
 use Rattle.desk.specs.Calls.{Call}

@@ -1,43 +1,32 @@
 -- What wiring a seat answers, on ANY desk: its verdict is the one that the call is answered; refused, the answer is empty and the lent list as it was.
 -- From the rows of wiring and what a refused wiring of a feed is; assumes nothing.
 use mathlib.Core.Path.{_≡_, refl}
-use mathlib.Core.Bool.{Bool, true, false}
+use mathlib.Core.Bool.{false}
 use mathlib.Core.List.{List}
 use Prim.Native.Nat.{ℕ}
 use lib.ListN.{length, replicate}
-use Rattle.refusal.specs.Tests.{choose}
-use Rattle.refusal.specs.Refusals.{accepted, turn}
+use Rattle.refusal.specs.Tests.{both}
+use Rattle.refusal.specs.Refusals.{accepted}
 use Rattle.refusal.specs.declared.Verdict.{Verdict}
-use Rattle.refusal.specs.declared.Verdict.the-variants.{Accepted, SeatAbove, NotOpen, DeskBroken}
-use Rattle.refusal.proofs.Rows.{Exactly}
+use Rattle.refusal.specs.declared.Verdict.the-variants.{Accepted}
+use Rattle.refusal.proofs.Rows.{Exactly, firstOf, distinct, unlike}
 use Rattle.drawing.specs.Pins.{feedOf}
 use Rattle.copper.specs.declared.Shape.the-variants.{Straight}
 use Rattle.copper.specs.declared.Leg.{Leg}
 use Rattle.wiring.specs.declared.Wiring.{Wiring}
-use Rattle.wiring.specs.declared.Laid.{Laid}
 use Rattle.wiring.specs.Answer.{shaped, runEntries, turnedAway, wiringOf}
 use Rattle.wiring.proofs.lent.Untouched.{Alone, turned-by, wiring-turned, untouched}
+use Rattle.wiring.proofs.Refusing.{laid-behind}
 use Rattle.desk.specs.declared.Desk.{Desk}
 use Rattle.desk.specs.Calls.{wiring}
 use Rattle.desk.specs.Refusals.{turnedClosing, turnedWiring, verdictOf}
 use Rattle.desk.specs.Desk.{seatOf, lookAt, answerOf, wiredOf, wiredSeatOf, lentOf}
-use Rattle.history.proofs.Refused.{wiringRows, exactly-wiring}
-
--- The verdict that an answer carries behind the rows 28, 1 and 2.
-carried-by : (a b c : Bool) (w : Laid)
-    → choose (accepted (turn a DeskBroken (turn b SeatAbove (turn c NotOpen Accepted)))) w
-    (turnedAway (turn a DeskBroken (turn b SeatAbove (turn c NotOpen Accepted)))) .wiring .verdict
-    ≡ turn a DeskBroken (turn b SeatAbove (turn c NotOpen (w .wiring .verdict)))
-unfolding choose accepted turn turnedAway
-carried-by true b c w = refl
-carried-by false true c w = refl
-carried-by false false true w = refl
-carried-by false false false w = refl
+use Rattle.history.proofs.Refused.{wiringRows, exactly-wiring, closingRows}
 
 -- The verdict in the answer of wiring a seat is what the call is answered,
 pub wired-verdict : (d : Desk) (s room : ℕ) → wiredOf d s room .laid .wiring .verdict ≡ answerOf d (wiring s room)
-unfolding wiredOf answerOf verdictOf turnedClosing turnedWiring
-wired-verdict d s room = carried-by _ _ _ (wiringOf (feedOf (seatOf d s .pins)) room)
+unfolding wiredOf answerOf verdictOf turnedClosing turnedWiring firstOf distinct unlike both accepted
+wired-verdict d s room = laid-behind (closingRows (lookAt d s)) refl (wiringOf (feedOf (seatOf d s .pins)) room)
 
 -- with a lent list its length is the room;
 pub lent-verdict : (d : Desk) (s : ℕ) (lent : List Leg) → wiredSeatOf d s lent .wiring .verdict ≡ answerOf d (wiring s (length lent))

@@ -3,7 +3,6 @@ pub mod Own
 pub mod Seated
 pub mod Filled
 pub mod Turns
-pub mod Edits
 pub mod Cut
 mod Passing
 mod Dropping

@@ -1,26 +1,17 @@
 -- A seat's edits among the records, and what dropping and appending leave of them. From the definitions of `own` and `kept`; assumes nothing.
 use mathlib.Core.Path.{_≡_, refl, ap, sym, _∙_}
-use mathlib.Core.Bool.{Bool, true, false}
 use mathlib.Core.List.{List, [], _∷_, _++_, append-nil}
-use mathlib.Core.Logic.{_⊎_, inl, inr, ⊎-elim}
+use mathlib.Core.Logic.{⊎-elim}
 use Prim.Native.Nat.{ℕ, zero, suc, _+_, _-_, _≤_}
 use native.Mathlib.Omega.{arith}
-use borrow.Author.Tests.{eqb-true, eqb-false, eq-eqb, ne-eqb}
-use lib.Dec.{eqb}
+use borrow.Author.Tests.{eq-eqb, ne-eqb}
 use lib.ListN.{length, take, length-append}
 use lib.Seq.{take-nil}
 use Rattle.refusal.proofs.Tests.{choose-yes, choose-no}
+use Rattle.grid.proofs.Flat.{same-or-not}
 use Rattle.drawing.specs.declared.Edit.{Edit}
 use Rattle.journal.specs.declared.Record.{Record}
 use Rattle.journal.specs.Journal.{recorded, own, kept, added}
-
-cases-of : (a b : ℕ) (t : Bool) → eqb a b ≡ t → (a ≡ b) ⊎ (a ≡ b → ⊥)
-cases-of a b true e = inl (eqb-true a b e)
-cases-of a b false e = inr (eqb-false a b e)
-
--- Two numbers are the same or not.
-pub same-or-not : (a b : ℕ) → (a ≡ b) ⊎ (a ≡ b → ⊥)
-same-or-not a b = cases-of a b (eqb a b) refl
 
 -- No records.
 module _ (s : ℕ) where

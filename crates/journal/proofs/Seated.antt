@@ -2,16 +2,17 @@
 use mathlib.Core.Path.{_≡_, refl}
 use mathlib.Core.Bool.{true, false}
 use mathlib.Core.List.{List, [], _∷_, _++_}
-use mathlib.Core.Logic.{_⊎_, ⊎-elim}
-use Prim.Native.Nat.{ℕ, zero, suc, _+_, _-_, _<_, _≤_}
+use mathlib.Core.Logic.{⊎-elim}
+use Prim.Native.Nat.{ℕ, zero, suc, _+_, _<_, _≤_}
 use native.Mathlib.Omega.{arith}
 use borrow.Author.Tests.{ltb-true, lt-ltb, le-ltb}
 use lib.ListN.{length}
 use Rattle.refusal.proofs.Tests.{both-left, both-right, both-of, both-yes, both-no}
+use Rattle.grid.proofs.Flat.{same-or-not}
 use Rattle.drawing.specs.declared.Edit.{Edit}
 use Rattle.journal.specs.declared.Record.{Record}
 use Rattle.journal.specs.Journal.{seats, recorded, kept, added, seated, ownedBelow}
-use Rattle.journal.proofs.Own.{same-or-not, own-nil, own-here, own-past, kept-nil, kept-here, kept-none, kept-past}
+use Rattle.journal.proofs.Own.{own-nil, own-here, own-past, kept-nil, kept-here, kept-none, kept-past}
 
 -- One record more at the front.
 module _ (r : Record) (l : List Record) where

@@ -1,16 +1,12 @@
 -- Trees that are told alike cost the same: only the near pins of the runs, and where the ends of the runs stand, matter. Assumes nothing.
-use mathlib.Core.Path.{_≡_, refl, sym, ap, ap₂, _∙_}
-use mathlib.Core.Bool.{Bool, true, false, not}
-use Prim.Native.Nat.{ℕ, zero, suc, _+_, _-_, _≤_, _<_}
+use mathlib.Core.Path.{_≡_, refl}
+use mathlib.Core.Bool.{Bool, true, false}
+use Prim.Native.Nat.{ℕ, zero, suc, _+_, _≤_, _<_}
 use native.Mathlib.Nat.{sub-zero}
 use native.Mathlib.Omega.{arith}
-use Rattle.refusal.specs.Tests.{choose}
 use Rattle.grid.specs.declared.Place.{Place}
 use Rattle.copper.specs.declared.Tally.{Tally}
-use Rattle.copper.specs.Shapes.{isStraight}
-use Rattle.copper.specs.Arms.{reachedBy, leadingOn}
-use Rattle.least.specs.declared.Found.{Found}
-use Rattle.least.specs.Asking.{markOf, lesserOf, doubledIf, isBent, bentInto, firstTally, nextTally, pinCost, pinOf, weighedFrom, weighedOf, foundTree}
+use Rattle.least.specs.Asking.{doubledIf, isBent, bentInto, firstTally, nextTally, pinCost, pinOf, weighedFrom, weighedOf, foundTree}
 
 -- Two trees of n runs are told alike.
 pub record Alike (at bt : ℕ → Place) (near neat : ℕ → ℕ) (n : ℕ) : Type 0 where

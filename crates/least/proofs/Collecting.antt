@@ -1,9 +1,9 @@
 -- The runs that lead on from a pin are asked one after the other: what is kept of them on the way, and what the pin and the run answer.
 -- From the laws of one step and the bounds of costs. Assumes nothing.
-use mathlib.Core.Path.{_≡_, refl, sym, ap, ap₂, _∙_}
+use mathlib.Core.Path.{_≡_, refl, sym, ap, _∙_}
 use mathlib.Core.Bool.{Bool, true, false, not}
 use mathlib.Core.List.{List}
-use Prim.Native.Nat.{ℕ, zero, suc, _+_, _-_, _*_, _^_, _≤_, _<_, min}
+use Prim.Native.Nat.{ℕ, zero, suc, _+_, _-_, _*_, _^_, _≤_, _<_}
 use native.Mathlib.Nat.{mul-le-mul}
 use native.Mathlib.Omega.{arith}
 use lib.IntN.{ℤ}
@@ -11,20 +11,21 @@ use lib.ListN.{length, getD, set, length-set}
 use lib.Seq.{getD-set-same, getD-set-other}
 use lib.Dec.{eqb}
 use lib.Pow.{pow-mono}
-use borrow.Author.Tests.{eqb-true, eqb-false}
+use borrow.Author.Tests.{eqb-true, eqb-false, not-true, not-false}
 use Rattle.refusal.specs.Tests.{choose}
 use Rattle.grid.specs.declared.Place.{Place}
+use Rattle.grid.specs.Place.{isStraight}
 use Rattle.copper.specs.declared.Tally.{Tally}
-use Rattle.copper.specs.Shapes.{isStraight, shapeOf}
+use Rattle.copper.specs.Shapes.{shapeOf}
 use Rattle.copper.specs.Arms.{reachedBy}
 use Rattle.least.specs.declared.Asked.{Asked}
 use Rattle.least.specs.declared.Found.{Found}
-use Rattle.least.specs.Asking.{placeAt, nearAt, markOf, doubledIf, isBent, bentInto, firstTally, pinCost, pinOf, runOf, choicesFrom, weighedFrom, weighedOf, askedPin, askedRun, found, sizeFrom, Grown, Known, Weighable, Askable}
+use Rattle.least.specs.Asking.{placeAt, nearAt, markOf, isBent, bentInto, firstTally, pinOf, runOf, choicesFrom, weighedFrom, weighedOf, askedPin, askedRun, found, sizeFrom, Known, Weighable, Askable}
 use Rattle.least.proofs.Reading.{mark-small}
 use Rattle.least.proofs.Modesty.{modest-first}
 use Rattle.least.proofs.Stepping.{choices-sum, weighed-split, weighed-on, weighed-past, weighed-end, size-on, size-past}
 use Rattle.least.proofs.Bounds.{most, each, cost-most, choices-most, below-most}
-use Rattle.least.proofs.Weighing.{off-not, on-not, doubled-bent, doubled-straight}
+use Rattle.least.proofs.Weighing.{doubled-bent, doubled-straight}
 
 -- The runs of pin i before run r were asked; `weighed` choices were weighed for them.
 pub record Collected (xs ys : List ℤ) (near : List ℕ) (favoured : Bool) (n i : ℕ) (lower upper : List ℕ) (weighed r : ℕ) : Type 0 where
@@ -42,11 +43,7 @@ pub record Collected (xs ys : List ℤ) (near : List ℕ) (favoured : Bool) (n i
 one-shape : (at : ℕ → Place) (near : ℕ → ℕ) (i : ℕ) → bentInto at near i ≡ false → firstTally at near i true ≡ firstTally at near i false
 unfolding bentInto firstTally isBent reachedBy shapeOf choose
 one-shape at near zero e = refl
-one-shape at near (suc r) e = rw (straight (isStraight (at (near r)) (at (suc r))) e)
-  where
-    straight : (t : Bool) → not t ≡ false → t ≡ true
-    straight true e = refl
-    straight false e = sym e
+one-shape at near (suc r) e = rw (not-false (isStraight (at (near r)) (at (suc r))) e)
 
 -- The pin and the near pin of the run that reached it are in range.
 pub pin-in : (xs ys : List ℤ) (near : List ℕ) (n i : ℕ) → Askable xs ys near n i → (i < 32) × ((i ≡ 0 → ⊥) → nearAt near (i - 1) < 32)
@@ -169,7 +166,7 @@ module _ (xs ys : List ℤ) (near : List ℕ) (favoured : Bool) (n i : ℕ) wher
             → record { lower = f .cost; upper = f .cost; weighed = w + f .weighed } ≡ askedPin at on favoured n i
         unfolding askedPin pinOf weighedOf found
         answer-straight b eb no′ =
-            let k : bentInto at on i ≡ false = sym eb ∙ off-not b no′ in
+            let k : bentInto at on i ≡ false = sym eb ∙ not-true b no′ in
             let z : weighedFrom at on (n - i) i i 1 ≡ w + choicesFrom at on (n - i) i i 1 = omega (arith, weighed-split at on (n - i) i i 1, at-end) in
             rw (ef, es, doubled-straight (bentInto at on i) k, z, one-shape at on i k)
 
@@ -182,7 +179,7 @@ module _ (xs ys : List ℤ) (near : List ℕ) (favoured : Bool) (n i : ℕ) wher
               → record { lower = f .cost; upper = g .cost; weighed = w + f .weighed + g .weighed } ≡ askedPin at on favoured n i
           unfolding askedPin pinOf weighedOf found
           answer-bent b eb yes′ =
-              let k : bentInto at on i ≡ true = sym eb ∙ on-not b yes′ in
+              let k : bentInto at on i ≡ true = sym eb ∙ not-false b yes′ in
               let z : weighedFrom at on (n - i) i i (1 + 1) ≡ w + choicesFrom at on (n - i) i i 1 + choicesFrom at on (n - i) i i 1 =
               omega (arith, weighed-split at on (n - i) i i (1 + 1), choices-sum at on (n - i) i i 1 1, at-end) in
               rw (ef, es, eg, ev, doubled-bent (bentInto at on i) k, z)

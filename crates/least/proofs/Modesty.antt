@@ -1,34 +1,26 @@
 -- What pins of the board show is modest: their arms are no longer than the board, and no more is paid than there is.
 -- Assumes that the places are on the board.
-use mathlib.Core.Path.{_≡_, refl, sym, ap, _∙_}
+use mathlib.Core.Path.{_≡_}
 use mathlib.Core.Bool.{Bool, true, false, cond}
-use Prim.Native.Nat.{ℕ, zero, suc, _+_, _-_, _*_, _≤_, _<_, max}
+use Prim.Native.Nat.{ℕ, zero, suc, _-_, _≤_}
 use native.Mathlib.Omega.{arith}
-use lib.IntN.{ℤ, pos, negsuc}
 use lib.Dec.{eqb}
-use borrow.Author.Tests.{leb-true}
-use Rattle.refusal.specs.Tests.{both, choose}
+use Rattle.refusal.specs.Tests.{choose}
 use Rattle.refusal.proofs.Tests.{both-left, both-right}
 use Rattle.grid.specs.declared.Place.{Place}
-use Rattle.grid.specs.Place.{limit, onBoard, inside}
+use Rattle.grid.specs.Place.{onBoard, inside}
 use Rattle.grid.proofs.Signed.{off, I32}
 use Rattle.grid.proofs.Flat.{site, Held}
-use Rattle.grid.proofs.Board.{Board, board}
+use Rattle.grid.proofs.Board.{Board, board, number-held}
 use Rattle.copper.specs.declared.Arms.{Arms}
 use Rattle.copper.specs.declared.Shape.{Shape}
 use Rattle.copper.specs.declared.Shape.the-variants.{Straight, Lower, Upper}
 use Rattle.copper.specs.declared.Tally.{Tally}
 use Rattle.copper.specs.Shapes.{crossing, lowerCorner, upperCorner, cornerOf, shapeOf}
-use Rattle.copper.specs.Arms.{armsTo, longest, spread, noTally, reachedBy, leadingOn, owed, Fair}
+use Rattle.copper.specs.Arms.{armsTo, longest, spread, reachedBy, leadingOn, owed, Fair}
 use Rattle.copper_laws.proofs.Star.{armTo}
 use Rattle.copper_laws.proofs.Tallies.{arms-site, fair-reached, fair-leading}
 use Rattle.least.specs.Asking.{firstTally, nextTally, Modest}
-
--- A number of the board is one that an i32 holds.
-board-held : (z : ℤ) → onBoard z ≡ true → I32 z
-unfolding onBoard
-board-held (pos n) e = omega (arith, leb-true n limit (both-right _ _ e))
-board-held (negsuc n) e = omega (arith, leb-true n (limit - 1) (both-left _ _ e))
 
 -- A place of the board.
 record Ours (p : Place) : Type 0 where
@@ -42,12 +34,9 @@ unfolding inside
 ours p e =
     let a = both-left (onBoard (p .x)) (onBoard (p .y)) e in
     let b = both-right (onBoard (p .x)) (onBoard (p .y)) e in
-    let h = board-held (p .x) a in
-    let k = board-held (p .y) b in
+    let h = number-held (p .x) a in
+    let k = number-held (p .y) b in
     record { x = board (record { sfits = h }) a; y = board (record { sfits = k }) b; held-x = h; held-y = k }
-
-pub inside-held : (p : Place) → inside p ≡ true → Held p
-inside-held p e = let o = ours p e in record { x = o .held-x; y = o .held-y }
 
 held : {p : Place} → Ours p → Held p
 held o = record { x = o .held-x; y = o .held-y }

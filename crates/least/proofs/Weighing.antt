@@ -1,20 +1,20 @@
 -- Weighing a pin, one run on: what it asks for passes on, its sums fit, and what is found is as defined. From the laws of one step and the
 -- bounds of costs. Assumes nothing.
-use mathlib.Core.Path.{_≡_, refl, sym, ap, ap₂, _∙_}
+use mathlib.Core.Path.{_≡_, sym, ap, _∙_}
 use mathlib.Core.Bool.{Bool, true, false, not}
 use mathlib.Core.List.{List}
-use Prim.Native.Nat.{ℕ, zero, suc, _+_, _-_, _*_, _^_, _≤_, _<_, min}
-use native.Mathlib.Nat.{mul-le-mul-right}
+use Prim.Native.Nat.{ℕ, _+_, _-_, _*_, _^_, _≤_, _<_, min}
 use native.Mathlib.Omega.{arith}
 use lib.IntN.{ℤ}
 use lib.ListN.{getD}
 use lib.Pow.{pow-mono}
+use borrow.Author.Tests.{not-true, not-false}
 use Rattle.refusal.specs.Tests.{choose}
 use Rattle.grid.specs.declared.Place.{Place}
 use Rattle.copper.specs.declared.Tally.{Tally}
 use Rattle.copper.specs.Arms.{owed, Fair}
 use Rattle.least.specs.declared.Found.{Found}
-use Rattle.least.specs.Asking.{base, placeAt, nearAt, markOf, lesserOf, doubledIf, isBent, firstTally, nextTally, pinCost, pinOf, runOf, choicesFrom, found, sizeFrom, Modest, Grown, Known, Weighable}
+use Rattle.least.specs.Asking.{base, placeAt, nearAt, lesserOf, doubledIf, isBent, firstTally, nextTally, pinCost, pinOf, runOf, choicesFrom, found, sizeFrom, Known, Weighable}
 use Rattle.least.proofs.Reading.{mark-small}
 use Rattle.least.proofs.Modesty.{modest-fair, modest-owed, modest-first, modest-next}
 use Rattle.least.proofs.Stepping.{choices-sum, choices-on, choices-past, choices-end, size-on, size-past, cost-on, cost-past, cost-end}
@@ -35,15 +35,6 @@ doubled-bent t e = rw e
 pub doubled-straight : (t : Bool) → t ≡ false → doubledIf t 1 ≡ 1
 unfolding doubledIf choose
 doubled-straight t e = rw e
-
--- A test that does not hold fails, and the other way round.
-pub off-not : (b : Bool) → not b ≡ true → b ≡ false
-off-not true e = sym e
-off-not false e = refl
-
-pub on-not : (b : Bool) → not b ≡ false → b ≡ true
-on-not true e = refl
-on-not false e = sym e
 
 module _ (xs ys : List ℤ) (near lower upper : List ℕ) (favoured : Bool) (n i next : ℕ) (t : Tally) (w : Weighable xs ys near lower upper favoured n i next t) where
   abbrev at : ℕ → Place
@@ -141,9 +132,9 @@ module _ (xs ys : List ℤ) (near lower upper : List ℕ) (favoured : Bool) (n i
           e,
           asked .0,
           cost-on at go-on n i next favoured t l h,
-          lesser-straight (isBent at go-on next) _ _ (sym eb ∙ off-not b off),
+          lesser-straight (isBent at go-on next) _ _ (sym eb ∙ not-true b off),
           choices-on at go-on n i next l h 1,
-          doubled-straight (isBent at go-on next) (sym eb ∙ off-not b off),
+          doubled-straight (isBent at go-on next) (sym eb ∙ not-true b off),
         )
 
     -- A bent run has two.
@@ -163,8 +154,8 @@ module _ (xs ys : List ℤ) (near lower upper : List ℕ) (favoured : Bool) (n i
           asked .0,
           asked .1,
           cost-on at go-on n i next favoured t l h,
-          lesser-bent (isBent at go-on next) _ _ (sym eb ∙ on-not b on),
+          lesser-bent (isBent at go-on next) _ _ (sym eb ∙ not-false b on),
           choices-on at go-on n i next l h 1,
-          doubled-bent (isBent at go-on next) (sym eb ∙ on-not b on),
+          doubled-bent (isBent at go-on next) (sym eb ∙ not-false b on),
           choices-sum at go-on (n - (next + 1)) i (next + 1) 1 1,
         )

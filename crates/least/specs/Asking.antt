@@ -10,9 +10,8 @@ use lib.Dec.{eqb}
 use lib.ListN.{getD}
 use Rattle.refusal.specs.Tests.{choose}
 use Rattle.grid.specs.declared.Place.{Place}
-use Rattle.grid.specs.Place.{inside}
+use Rattle.grid.specs.Place.{inside, isStraight}
 use Rattle.copper.specs.declared.Tally.{Tally}
-use Rattle.copper.specs.Shapes.{isStraight}
 use Rattle.copper.specs.Arms.{noTally, reachedBy, leadingOn, owed, spread}
 use Rattle.least.specs.declared.Asked.{Asked}
 use Rattle.least.specs.declared.Found.{Found}

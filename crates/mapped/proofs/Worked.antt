@@ -10,7 +10,7 @@ use Rattle.grid.specs.Place.{difference, larger, sameNumber, samePlace, onBoard
 use Rattle.grid.specs.Weight.{distanceOf, weightOf, pairOf, byPart, byNumber, comesBefore}
 use Rattle.drawing.specs.Pins.{isThere, meets, meetsAny, crowded, within, settled, allWithin, allApart, lawful, spotOf, feedOf}
 use Rattle.tree.specs.Growth.{pairAt, sooner, keptIf, pinsFrom, without, runsFrom, between, earliest, earliestOf, next, grown, runsAmong, pinsOf, runsOf}
-use Rattle.tree.specs.Boxes.{fails, belowBoth, under, overlap, boxesShare, isEnd, common, clash, clashAny, boxesMeet}
+use Rattle.tree.specs.Boxes.{belowBoth, under, overlap, boxesShare, isEnd, common, clash, clashAny, boxesMeet}
 use Rattle.tree.specs.Bends.{straight, bent, howMany}
 use Rattle.copper.specs.Shapes.{isStraight, lowerCorner, upperCorner, legsOf}
 use Rattle.copper.specs.Length.{sameStep, stepsAcross, stepsUp, smaller, stepsOf, stepsOfAll, among, different, lengthOf}

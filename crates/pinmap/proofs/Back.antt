@@ -6,7 +6,7 @@ use mathlib.Core.Logic.{⊎-elim}
 use mathlib.Core.List.{List, [], _∷_, _++_, append-nil, append-assoc}
 use Prim.Native.Nat.{ℕ, zero, suc, _+_, _*_, _<_, _≤_}
 use native.Mathlib.Omega.{arith}
-use lib.ListN.{length, getD, take, drop, set, length-take, length-drop, take-append-drop, List·getD-eq-default}
+use lib.ListN.{length, getD, take, drop, set, length-take, length-drop, take-append-drop, List·getD-eq-default, drop-of-length-le}
 use lib.Seq.{getD-set-other, getD-take, getD-drop}
 use Rattle.refusal.specs.declared.Verdict.{Verdict}
 use Rattle.refusal.specs.Tests.{choose}
@@ -50,8 +50,7 @@ bytes-take n m b i =
     ⊎-elim (λ (h : n ≤ i). rw (List·getD-eq-default (take n m) 0 {n = i} (omega (arith, length-take n m))) (omega arith)) (λ (h : i < n). rw (getD-take n m i 0 h) (b i)) (order n i)
 
 no-bytes : (m : List ℕ) → length m ≡ 0 → m ≡ []
-no-bytes [] e = refl
-no-bytes (a ∷ m) e = absurd (omega arith)
+no-bytes m e = drop-of-length-le m {i = 0} (omega arith)
 
 -- The pins so far: they keep the rules, and none from `next` on is there.
 pub record Kept (next : ℕ) (earlier : List Pin) : Type 0 where

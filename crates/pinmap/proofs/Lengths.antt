@@ -1,24 +1,15 @@
 -- Which lengths a map may have. Assumes nothing.
-use mathlib.Core.Path.{_≡_, refl, sym, _∙_}
-use mathlib.Core.Bool.{Bool, true, false, not}
+use mathlib.Core.Path.{_≡_, sym, _∙_, ap}
+use mathlib.Core.Bool.{true, false, not}
 use mathlib.Core.List.{List}
 use Prim.Native.Nat.{ℕ, _%_, _<_, _≤_}
 use lib.ListN.{length}
 use borrow.Author.Tests.{lt-ltb, le-ltb, ltb-false, eq-eqb, ne-eqb, eqb-true, not-false}
-use Rattle.refusal.specs.Tests.{either}
-use Rattle.refusal.proofs.Tests.{choose-yes, choose-no, either-left, either-right}
+use Rattle.refusal.proofs.Tests.{choose-yes, choose-no, either-left, either-right, either-false}
 use Rattle.refusal.specs.declared.Verdict.the-variants.{MapLength}
 use Rattle.pinmap.specs.Record.{recordSize}
 use Rattle.pinmap.specs.Map.{mostBytes, wrongLength, refusedBy, readFrom, noPins, readMap}
 use Rattle.pinmap.proofs.Progress.{countOf}
-
-not-of : {t : Bool} {s : Bool} → t ≡ s → not t ≡ not s
-not-of e = rw e
-
-either-none : (a b : Bool) → either a b ≡ false → (a ≡ false) × (b ≡ false)
-unfolding either
-either-none true b e = (cc, cc)
-either-none false b e = (refl, e)
 
 module _ (map : List ℕ) where
   pub too-long : mostBytes < length map → wrongLength map ≡ true
@@ -27,16 +18,16 @@ module _ (map : List ℕ) where
 
   pub not-whole : length map ≤ mostBytes → (length map % recordSize ≡ 0 → ⊥) → wrongLength map ≡ true
   unfolding wrongLength
-  not-whole h k = either-right _ (le-ltb _ _ h) ∙ not-of (ne-eqb _ _ k)
+  not-whole h k = either-right _ (le-ltb _ _ h) ∙ ap not (ne-eqb _ _ k)
 
   pub right-length : length map ≤ mostBytes → length map % recordSize ≡ 0 → wrongLength map ≡ false
   unfolding wrongLength
-  right-length h k = either-right _ (le-ltb _ _ h) ∙ not-of (eq-eqb _ _ k)
+  right-length h k = either-right _ (le-ltb _ _ h) ∙ ap not (eq-eqb _ _ k)
 
   pub length-right : wrongLength map ≡ false → (length map ≤ mostBytes) × (length map % recordSize ≡ 0)
   unfolding wrongLength
   length-right e =
-      let f = either-none _ _ e in
+      let f = either-false _ _ e in
       (ltb-false _ _ (f .0), eqb-true _ _ (not-false _ (f .1)))
 
 -- Reading, by the length.

@@ -3,19 +3,19 @@
 use mathlib.Core.Path.{_≡_, sym, ap, _∙_}
 use mathlib.Core.Bool.{true}
 use mathlib.Core.List.{List, [], _∷_, _++_}
-use Prim.Native.Nat.{ℕ, zero, suc, _+_, _-_, _*_, _/_, _%_, _<_}
+use Prim.Native.Nat.{ℕ, zero, suc, _+_, _*_, _/_, _%_, _<_}
 use native.Mathlib.Omega.{arith}
-use lib.IntN.{ℤ, pos, negsuc}
+use lib.IntN.{ℤ}
 use lib.ListN.{length, getD, set}
 use lib.Seq.{set-getD}
 use mir.Syntax.{w32}
 use mir.Val.{SFits}
-use borrow.Author.Tests.{leb-true}
 use Rattle.refusal.proofs.Tests.{both-left, both-right}
 use Rattle.grid.specs.declared.Place.{Place}
 use Rattle.grid.specs.Number.{numberAt, first, second, third, fourth, putAt}
-use Rattle.grid.specs.Place.{limit, onBoard, inside}
+use Rattle.grid.specs.Place.{inside}
 use Rattle.grid.proofs.Bytes.{join-split, first-byte, second-byte, third-byte, fourth-byte, written-read}
+use Rattle.grid.proofs.Board.{number-held}
 use Rattle.drawing.specs.declared.Held.{Held}
 use Rattle.drawing.specs.declared.Pin.{Pin}
 use Rattle.drawing.specs.Pins.{holding}
@@ -23,19 +23,14 @@ use Rattle.pinmap.specs.Record.{recordSize, recordOf, recordBytes}
 use Rattle.pinmap.proofs.Faults.{Faultless}
 use Rattle.pinmap.proofs.Written.{record-stored}
 
--- A number of the board is one that an i32 holds.
-number-held : (z : ℤ) → onBoard z ≡ true → SFits w32 z
-unfolding onBoard
-number-held (pos n) e = record { sfits = omega (arith, leb-true n limit (both-right _ _ e)) }
-number-held (negsuc n) e = record { sfits = omega (arith, leb-true n (limit - 1) (both-left _ _ e)) }
-
+-- A place of the board has numbers that an i32 holds.
 x-held : (a : Place) → inside a ≡ true → SFits w32 (a .x)
 unfolding inside
-x-held a e = number-held (a .x) (both-left _ _ e)
+x-held a e = record { sfits = number-held (a .x) (both-left _ _ e) }
 
 y-held : (a : Place) → inside a ≡ true → SFits w32 (a .y)
 unfolding inside
-y-held a e = number-held (a .y) (both-right _ _ e)
+y-held a e = record { sfits = number-held (a .y) (both-right _ _ e) }
 
 -- What a record's bytes say is what was written.
 pub record-read : (job pin : ℕ) (held : Held) → job < 65536 → inside (held .place) ≡ true

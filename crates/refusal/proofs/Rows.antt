@@ -1,24 +1,27 @@
 -- Rows of refusals: a call's answer is the first row whose condition holds, so that each refusal is given exactly under its own condition
 -- and after those before it. Assumes nothing.
 use mathlib.Core.Path.{_≡_, refl, sym, ap, _∙_}
-use mathlib.Core.Bool.{Bool, true, false, not, true≢false, false≢true}
+use mathlib.Core.Bool.{Bool, true, false, not, false≢true}
 use mathlib.Core.List.{List, [], _∷_}
 use mathlib.Core.Logic.{_↔_}
 use Prim.Native.Nat.{ℕ, zero, suc, _<_}
 use native.Mathlib.Omega.{arith}
 use lib.Dec.{eqb}
 use lib.ListN.{length}
-use borrow.Author.Tests.{eq-eqb}
+use borrow.Author.Tests.{eq-eqb, not-true}
 use Rattle.refusal.specs.declared.Verdict.{Verdict}
 use Rattle.refusal.specs.declared.Verdict.the-variants.{Accepted}
 use Rattle.refusal.specs.Tests.{both, choose}
 use Rattle.refusal.specs.Refusals.{toldOf, accepted, turn}
-use Rattle.refusal.proofs.Tests.{both-left, both-right}
+use Rattle.refusal.proofs.Tests.{opposite, both-left, both-right}
 
 -- One row: a refusal and its condition.
 pub record Row : Type 0 where
   pub condition : Bool
   pub refusal : Verdict
+
+abbrev pub given : Bool → Verdict → Row
+given b v = record { condition = b; refusal = v }
 
 -- The answer: the first row whose condition holds, or what is left to say.
 unfoldable pub firstOf : List Row → Verdict → Verdict
@@ -56,16 +59,13 @@ unfoldable pub distinct : List Row → Bool
 distinct [] = true
 distinct (r ∷ rows) = both (not (accepted (r .refusal))) (both (unlike (r .refusal) rows) (distinct rows))
 
-clash : {A : Type 0} {b : Bool} → b ≡ true → b ≡ false → A
-clash p q = absurd (true≢false (sym p ∙ q))
-
 same-number : (v w : Verdict) → v ≡ w → not (eqb (numberOf v) (numberOf w)) ≡ true → ⊥
 same-number v w e h = false≢true (sym (ap not (eq-eqb (numberOf v) (numberOf w) (ap numberOf e))) ∙ h)
 
 -- A row that was passed: its condition does not hold.
 pub passed : (b : Bool) (v w : Verdict) → accepted v ≡ false → accepted (turn b v w) ≡ true → (b ≡ false) × (accepted w ≡ true)
 unfolding turn choose
-passed true v w n e = clash e n
+passed true v w n e = absurd (opposite e n)
 passed false v w n e = (refl, e)
 
 -- A verdict whose number no row has is no row's refusal.
@@ -77,7 +77,7 @@ unlike-at v (r ∷ rows) (suc i) u h e =
     unlike-at v rows i (both-right (not (eqb (numberOf v) (numberOf (r .refusal)))) _ u) (omega arith) e
 
 -- Nor is it the answer, unless it is what is left to say.
-unlike-first : (v : Verdict) (rows : List Row) (rest : Verdict) → unlike v rows ≡ true → (v ≡ rest → ⊥) → v ≡ firstOf rows rest → ⊥
+pub unlike-first : (v : Verdict) (rows : List Row) (rest : Verdict) → unlike v rows ≡ true → (v ≡ rest → ⊥) → v ≡ firstOf rows rest → ⊥
 unfolding unlike firstOf turn choose
 unlike-first v [] rest u n e = n e
 unlike-first v (r ∷ rows) rest u n e =
@@ -93,12 +93,12 @@ unfolding unlike
 rest-unlike rest r rows u e = same-number rest (r .refusal) (sym e) (both-left _ _ u)
 
 -- The two ways of one row, by its condition.
-to-first : (b : Bool) (v next : Verdict) → (v ≡ next → ⊥) → choose b v next ≡ v → b ≡ true
+pub to-first : (b : Bool) (v next : Verdict) → (v ≡ next → ⊥) → choose b v next ≡ v → b ≡ true
 unfolding choose
 to-first true v next n e = refl
 to-first false v next n e = absurd (n (sym e))
 
-to-later : (b : Bool) (v next w : Verdict) → (v ≡ w → ⊥) → choose b v next ≡ w → (b ≡ false) × (next ≡ w)
+pub to-later : (b : Bool) (v next w : Verdict) → (v ≡ w → ⊥) → choose b v next ≡ w → (b ≡ false) × (next ≡ w)
 unfolding choose
 to-later true v next w n e = absurd (n e)
 to-later false v next w n e = (refl, e)
@@ -108,6 +108,10 @@ unfolding distinct
 rows-later r rows d =
     let e = both-right (not (accepted (r .refusal))) (both (unlike (r .refusal) rows) (distinct rows)) d in
     (both-left _ _ e, both-right (unlike (r .refusal) rows) _ e)
+
+row-refuses : (r : Row) (rows : List Row) → distinct (r ∷ rows) ≡ true → accepted (r .refusal) ≡ false
+unfolding distinct
+row-refuses r rows d = not-true _ (both-left _ _ d)
 
 unlike-later : (v : Verdict) (r : Row) (rows : List Row) → unlike v (r ∷ rows) ≡ true → unlike v rows ≡ true
 unfolding unlike
@@ -157,3 +161,17 @@ exactly rows rest d u =
       refused = λ i h. (only-given rows rest d u i h, given-is rows rest i);
       passes = (only-none rows rest u, none-is rows rest);
     }
+
+-- An answer that carries a verdict, behind rows that may turn it away: what it carries is the first row whose condition holds, or what the answer says.
+module _ {A : Type 0} (says : A → Verdict) (away : Verdict → A) (carries : (v : Verdict) → says (away v) ≡ v) (a : A) where
+  pub behind : (rows : List Row) → distinct rows ≡ true
+      → says (choose (accepted (firstOf rows Accepted)) a (away (firstOf rows Accepted))) ≡ firstOf rows (says a)
+  unfolding firstOf turn choose accepted
+  behind [] d = refl
+  behind (r ∷ rows) d = by (r .condition) (behind rows (rows-later r rows d .1))
+    where
+      by : (b : Bool) → says (choose (accepted (firstOf rows Accepted)) a (away (firstOf rows Accepted))) ≡ firstOf rows (says a)
+          → says (choose (accepted (choose b (r .refusal) (firstOf rows Accepted))) a (away (choose b (r .refusal) (firstOf rows Accepted))))
+          ≡ choose b (r .refusal) (firstOf rows (says a))
+      by true e = rw (row-refuses r rows d) (carries (r .refusal))
+      by false e = e

@@ -1,8 +1,12 @@
 -- What joined tests say of their parts. Assumes nothing.
-use mathlib.Core.Path.{_≡_, refl}
-use mathlib.Core.Bool.{Bool, true, false}
+use mathlib.Core.Path.{_≡_, refl, sym, _∙_}
+use mathlib.Core.Bool.{Bool, true, false, true≢false}
 use mathlib.Core.Logic.{_⊎_, inl, inr}
 use Rattle.refusal.specs.Tests.{both, either, choose}
+
+-- No test holds and fails.
+pub opposite : {t : Bool} → t ≡ true → t ≡ false → ⊥
+opposite e f = true≢false (sym e ∙ f)
 
 -- Where both hold, each holds.
 pub both-left : (a b : Bool) → both a b ≡ true → a ≡ true
@@ -41,6 +45,16 @@ pub either-cases : (a b : Bool) → either a b ≡ true → (a ≡ true) ⊎ (b 
 unfolding either
 either-cases true b e = inl refl
 either-cases false b e = inr e
+
+-- Where neither holds, each fails; and the other way round.
+pub either-false : (a b : Bool) → either a b ≡ false → (a ≡ false) × (b ≡ false)
+unfolding either
+either-false true b e = absurd (opposite refl e)
+either-false false b e = (refl, e)
+
+pub either-no : {a b : Bool} → a ≡ false → b ≡ false → either a b ≡ false
+unfolding either
+either-no p q = rw (p, q)
 
 -- A choice by a test that is known.
 pub choose-yes : {A : Type 0} {t : Bool} (a b : A) → t ≡ true → choose t a b ≡ a

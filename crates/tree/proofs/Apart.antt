@@ -1,7 +1,7 @@
 -- THE BOXES OF TWO RUNS WITHOUT A COMMON PIN SHARE NO POINT, so 18 is never given. Each of the two runs comes before a pair that crosses over to the other
 -- run, on its own side of it; four such pins are apart. From pins that stand on the board.
 use mathlib.Core.Path.{_≡_, refl, sym, ap, _∙_}
-use mathlib.Core.Bool.{Bool, true, false}
+use mathlib.Core.Bool.{Bool, true, false, not}
 use mathlib.Core.List.{List, [], _∷_, reverseAux}
 use mathlib.Core.Logic.{_⊎_, inl, inr}
 use Prim.Native.Nat.{ℕ, _<_}
@@ -17,9 +17,9 @@ use Rattle.grid.specs.declared.Spot.{Spot}
 use Rattle.grid.proofs.Flat.{Site}
 use Rattle.tree.specs.declared.Run.{Run}
 use Rattle.tree.specs.Growth.{placeOf, spotAt, allInside, pinsOf, runsOf}
-use Rattle.tree.specs.Boxes.{fails, boxesShare, isEnd, common, clash, clashAny, boxesMeet}
+use Rattle.tree.specs.Boxes.{boxesShare, isEnd, common, clash, clashAny, boxesMeet}
 use Rattle.tree.specs.Trees.{treeWith, none, treeOf}
-use Rattle.tree.proofs.Deciding.{decide, either-false, fails-yes, fails-of}
+use Rattle.tree.proofs.Deciding.{decide, either-false}
 use Rattle.tree.proofs.Membership.{Among, first, later}
 use Rattle.tree.proofs.Numbering.{siteAt, keyAt, keyed, stands, fits}
 use Rattle.tree.proofs.Branches.{
@@ -203,9 +203,9 @@ module _ (feed : List Spot) (full : length feed ≡ 32) (ok : allInside feed ≡
   clash-none r s hr hs = go (decide (common r s))
     where
       go : (common r s ≡ true) ⊎ (common r s ≡ false)
-          → both (fails (common r s)) (boxesShare (placeOf (spotAt feed (r .near))) (placeOf (spotAt feed (r .far))) (placeOf (spotAt feed (s .near))) (placeOf (spotAt feed (s .far)))) ≡ false
-      go (inl c) = both-no _ (fails-of c)
-      go (inr c) = both-yes _ (fails-yes c) ∙ boxes-apart r s hr hs c
+          → both (not (common r s)) (boxesShare (placeOf (spotAt feed (r .near))) (placeOf (spotAt feed (r .far))) (placeOf (spotAt feed (s .near))) (placeOf (spotAt feed (s .far)))) ≡ false
+      go (inl c) = both-no _ (ap not c)
+      go (inr c) = both-yes _ (ap not c) ∙ boxes-apart r s hr hs c
 
   any-none : (r : Run) → Among r (runsOf feed) → (l : List Run) → ((s : Run) → Among s l → Among s (runsOf feed)) → clashAny feed r l ≡ false
   unfolding clashAny

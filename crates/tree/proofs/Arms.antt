@@ -14,7 +14,7 @@ use Rattle.tree.specs.declared.Run.{Run}
 use Rattle.tree.specs.declared.Offer.{Offer}
 use Rattle.tree.specs.declared.Choice.{Choice}
 use Rattle.tree.specs.Growth.{present, placeOf, spotAt}
-use Rattle.tree.specs.Boxes.{fails, under, overlap, boxesShare, isEnd, common, clash}
+use Rattle.tree.specs.Boxes.{under, overlap, boxesShare, isEnd, common, clash}
 use Rattle.tree.specs.Offers.{noOffer, offerOf, firstOffer, betterOffer, nextOffer, betterChoice}
 
 -- ---- the earlier of a choice and a pin with what it keeps
@@ -54,11 +54,11 @@ module _ (first : ℕ) (from : Place) (pin : ℕ) (s : Spot) where
   first-absent e = rw e
 
   pub first-self : present s ≡ true → pin ≡ first → noOffer ≡ firstOffer first from pin s
-  unfolding firstOffer both fails choose
+  unfolding firstOffer both choose
   first-self e q = rw (e, eq-eqb pin first q)
 
   pub first-other : present s ≡ true → (pin ≡ first → ⊥) → offerOf first from pin (placeOf s) ≡ firstOffer first from pin s
-  unfolding firstOffer both fails choose
+  unfolding firstOffer both choose
   first-other e q = rw (e, ne-eqb pin first q)
 
 -- ---- what a pin keeps when one more pin is reached
@@ -77,11 +77,11 @@ module _ (near : ℕ) (from : Place) (pin : ℕ) (s : Spot) (o : Offer) where
 
 -- ---- boxes
 pub overlap-under : {s : Bool} (a b c d : ℤ) → s ≡ under a b c d → s ≡ true → false ≡ overlap a b c d
-unfolding overlap fails both choose
+unfolding overlap both choose
 overlap-under a b c d e h = rw (← e, h)
 
 pub overlap-else : {s t : Bool} (a b c d : ℤ) → s ≡ under a b c d → t ≡ under c d a b → s ≡ false → not t ≡ overlap a b c d
-unfolding overlap fails both choose
+unfolding overlap both choose
 overlap-else {t = true} a b c d e f h = rw (← e, h, ← f)
 overlap-else {t = false} a b c d e f h = rw (← e, h, ← f)
 
@@ -104,10 +104,10 @@ module _ {s : Bool} (r q : Run) (e : s ≡ isEnd (r .near) q) where
 
 module _ {s : Bool} (feed : List Spot) (r q : Run) (e : s ≡ common r q) where
   pub clash-common : s ≡ true → false ≡ clash feed r q
-  unfolding clash fails both choose
+  unfolding clash both choose
   clash-common h = rw (← e, h)
 
   pub clash-boxes : s ≡ false
       → boxesShare (placeOf (spotAt feed (r .near))) (placeOf (spotAt feed (r .far))) (placeOf (spotAt feed (q .near))) (placeOf (spotAt feed (q .far))) ≡ clash feed r q
-  unfolding clash fails both choose
+  unfolding clash both choose
   clash-boxes h = rw (← e, h)

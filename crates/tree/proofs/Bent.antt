@@ -7,17 +7,17 @@ use native.Mathlib.Omega.{arith}
 use lib.Dec.{eqb}
 use lib.IntN.{ℤ}
 use lib.ListN.{length}
-use borrow.Author.Tests.{eqb-true, eqb-false}
+use borrow.Author.Tests.{eqb-true, eqb-false, not-true}
 use Rattle.refusal.specs.Tests.{both, either, choose}
 use Rattle.grid.specs.declared.Spot.{Spot}
-use Rattle.grid.specs.Place.{difference, sameNumber}
+use Rattle.grid.specs.Place.{difference, sameNumber, isStraight}
 use Rattle.grid.proofs.Signed.{off, I32}
 use Rattle.grid.proofs.Flat.{gap, gap-self, difference-gap}
 use Rattle.tree.specs.declared.Run.{Run}
 use Rattle.tree.specs.Growth.{placeOf, spotAt, allInside, pinsOf, runsAmong, runsOf}
 use Rattle.tree.specs.Boxes.{isEnd}
-use Rattle.tree.specs.Bends.{straight, bent, howMany, bentAt, bentFrom, bentInto}
-use Rattle.tree.proofs.Deciding.{either-false, fails-no}
+use Rattle.tree.specs.Bends.{bent, howMany, bentAt, bentFrom, bentInto}
+use Rattle.tree.proofs.Deciding.{either-false}
 use Rattle.tree.proofs.Membership.{Among, first, later}
 use Rattle.tree.proofs.Numbering.{siteAt, keyAt, keyed, stands, fits}
 use Rattle.tree.proofs.Branches.{pick, Grown, branching, reached-there}
@@ -36,11 +36,11 @@ number-apart a b ha hb e q =
 module _ (feed : List Spot) (ok : allInside feed ≡ true) where
   -- The ends of a bent run share neither row nor column.
   bent-apart : (r : Run) → bent feed r ≡ true → (siteAt feed (r .near) .x ≡ siteAt feed (r .far) .x → ⊥) × (siteAt feed (r .near) .y ≡ siteAt feed (r .far) .y → ⊥)
-  unfolding bent straight
+  unfolding bent isStraight
   bent-apart r e =
       let a = placeOf (spotAt feed (r .near)) in
       let b = placeOf (spotAt feed (r .far)) in
-      let z = either-false (sameNumber (a .x) (b .x)) (sameNumber (a .y) (b .y)) (fails-no _ e) in
+      let z = either-false (sameNumber (a .x) (b .x)) (sameNumber (a .y) (b .y)) (not-true _ e) in
       let p = stands feed ok (r .near) .held in
       let q = stands feed ok (r .far) .held in
       (number-apart (a .x) (b .x) (p .x) (q .x) (z .0), number-apart (a .y) (b .y) (p .y) (q .y) (z .1))

@@ -1,7 +1,7 @@
 -- Two boxes share a point just where the test says so; and what a passed search for 18 says of the runs, by their positions.
 -- From places whose numbers an i32 holds.
-use mathlib.Core.Path.{_≡_, sym, _∙_}
-use mathlib.Core.Bool.{Bool, true, false}
+use mathlib.Core.Path.{_≡_, sym, _∙_, ap}
+use mathlib.Core.Bool.{Bool, true, false, not}
 use mathlib.Core.List.{List, [], _∷_}
 use mathlib.Core.Logic.{_⊎_, inl, inr}
 use Prim.Native.Nat.{ℕ, zero, suc, _<_, _≤_, min, max}
@@ -9,7 +9,7 @@ use native.Mathlib.Omega.{arith}
 use lib.IntN.{ℤ}
 use lib.Signed.{ltZ}
 use lib.ListN.{length, getD}
-use borrow.Author.Tests.{ltb-true, ltb-false}
+use borrow.Author.Tests.{ltb-true, ltb-false, not-false, not-true}
 use Rattle.refusal.specs.Tests.{both}
 use Rattle.refusal.proofs.Tests.{both-left, both-right, both-of}
 use Rattle.grid.specs.declared.Place.{Place}
@@ -18,8 +18,8 @@ use Rattle.grid.proofs.Signed.{off, I32, ltZ-off}
 use Rattle.grid.proofs.Flat.{Site, site, Held}
 use Rattle.tree.specs.declared.Run.{Run}
 use Rattle.tree.specs.Growth.{placeOf, spotAt, run}
-use Rattle.tree.specs.Boxes.{fails, belowBoth, under, overlap, boxesShare, common, clash, clashAny, boxesMeet}
-use Rattle.tree.proofs.Deciding.{decide, both-false, either-false, fails-yes, fails-no, fails-false}
+use Rattle.tree.specs.Boxes.{belowBoth, under, overlap, boxesShare, common, clash, clashAny, boxesMeet}
+use Rattle.tree.proofs.Deciding.{decide, both-false, either-false}
 use Rattle.tree.proofs.FourPins.{InBox}
 
 -- ---- boxes share a point just where the test says so
@@ -82,21 +82,21 @@ module _ (a b c d : ℤ) (ha : I32 a) (hb : I32 b) (hc : I32 c) (hd : I32 d) whe
   unfolding overlap
   overlap-yes e =
       larger-low (off a) (off b) (off c) (off d)
-      (under-no a b c d ha hb hc hd (fails-no (under a b c d) (both-left (fails (under a b c d)) (fails (under c d a b)) e)))
-      (under-no c d a b hc hd ha hb (fails-no (under c d a b) (both-right (fails (under a b c d)) (fails (under c d a b)) e)))
+      (under-no a b c d ha hb hc hd (not-true (under a b c d) (both-left (not (under a b c d)) (not (under c d a b)) e)))
+      (under-no c d a b hc hd ha hb (not-true (under c d a b) (both-right (not (under a b c d)) (not (under c d a b)) e)))
 
   overlap-no : (n : ℕ) → Common (off a) (off b) (off c) (off d) n → overlap a b c d ≡ false → ⊥
   unfolding overlap
-  overlap-no n h e = go (both-false (fails (under a b c d)) (fails (under c d a b)) e)
+  overlap-no n h e = go (both-false (not (under a b c d)) (not (under c d a b)) e)
     where
       apart : (l m r s : ℕ) → l < r → r ≤ n → n ≤ l → ⊥
       apart l m r s p q t = omega arith
 
-      go : (fails (under a b c d) ≡ false) ⊎ (fails (under c d a b) ≡ false) → ⊥
+      go : (not (under a b c d) ≡ false) ⊎ (not (under c d a b) ≡ false) → ⊥
       go (inl f) =
-          apart (max (off a) (off b)) 0 (min (off c) (off d)) 0 (under-yes a b c d ha hb hc hd (fails-false (under a b c d) f)) (h .low') (h .high)
+          apart (max (off a) (off b)) 0 (min (off c) (off d)) 0 (under-yes a b c d ha hb hc hd (not-false (under a b c d) f)) (h .low') (h .high)
       go (inr f) =
-          apart (max (off c) (off d)) 0 (min (off a) (off b)) 0 (under-yes c d a b hc hd ha hb (fails-false (under c d a b) f)) (h .low) (h .high')
+          apart (max (off c) (off d)) 0 (min (off a) (off b)) 0 (under-yes c d a b hc hd ha hb (not-false (under c d a b) f)) (h .low) (h .high')
 
 -- A point in both boxes.
 pub record Shared (a b c d : Site) : Type 0 where
@@ -144,7 +144,7 @@ module _ (a b c d : Place) (ha : Held a) (hb : Held b) (hc : Held c) (hd : Held 
 pub clash-apart : (feed : List Spot) (r s : Run) → clash feed r s ≡ false → common r s ≡ false
     → boxesShare (placeOf (spotAt feed (r .near))) (placeOf (spotAt feed (r .far))) (placeOf (spotAt feed (s .near))) (placeOf (spotAt feed (s .far))) ≡ false
 unfolding clash both
-clash-apart feed r s e f = rw (fails-yes f) at e
+clash-apart feed r s e f = rw (ap not f) at e
 
 any-clear : (feed : List Spot) (r : Run) (l : List Run) → clashAny feed r l ≡ false → (j : ℕ) → j < length l → clash feed r (getD l j (run 0 0)) ≡ false
 unfolding clashAny

@@ -8,9 +8,9 @@ use Prim.Native.Nat.{ℕ, zero, suc, _<_}
 use native.Mathlib.Omega.{arith}
 use lib.ListN.{length, getD}
 use Rattle.grid.specs.declared.Spot.{Spot}
+use Rattle.grid.proofs.Flat.{same-or-not}
 use Rattle.tree.specs.declared.Run.{Run}
 use Rattle.tree.specs.Growth.{run, allInside, pinsOf, without, next, grown, runsAmong, runsOf}
-use Rattle.tree.proofs.Deciding.{same}
 use Rattle.tree.proofs.Membership.{Among, first, later, Distinct, also, without-in, in-without, length-without, distinct-without, pins-there, pins-distinct}
 use Rattle.tree.proofs.Earliest.{Keyed, Earliest, next-earliest}
 use Rattle.tree.proofs.Numbering.{keyAt, keyed}
@@ -77,7 +77,7 @@ module _ {key : ℕ → ℕ → ℕ} where
       known (later m) = inl m
 
   all-reached : {reached left : List ℕ} {rs : List Run} → Listed key reached left rs → (p : ℕ) → Among p left → (r : ℕ) × (r < length rs) × (p ≡ farAt rs r)
-  all-reached (taking {left = left} {r = s} {rs = rs} e l) p m = go (same p (s .far)) (all-reached l p)
+  all-reached (taking {left = left} {r = s} {rs = rs} e l) p m = go (same-or-not p (s .far)) (all-reached l p)
     where
       go : (p ≡ s .far) ⊎ (p ≡ s .far → ⊥) → (Among p (without (s .far) left) → (r : ℕ) × (r < length rs) × (p ≡ farAt rs r))
           → (r : ℕ) × (r < suc (length rs)) × (p ≡ farAt (s ∷ rs) r)

@@ -12,9 +12,10 @@ use Rattle.refusal.specs.Tests.{choose}
 use Rattle.refusal.proofs.Tests.{choose-yes, choose-no}
 use Rattle.grid.specs.declared.Spot.{Spot}
 use Rattle.grid.specs.declared.Spot.the-variants.{Absent}
+use Rattle.grid.proofs.Flat.{same-or-not}
 use Rattle.tree.specs.declared.Run.{Run}
 use Rattle.tree.specs.Growth.{present, run, keptIf, pinsFrom, without, runsFrom, between}
-use Rattle.tree.proofs.Deciding.{opposite, same}
+use Rattle.tree.proofs.Deciding.{opposite}
 
 -- a stands in the list.
 pub data Among {A : Type 0} (a : A) : List A → Type 0 where
@@ -94,7 +95,7 @@ without-none n (m ∷ l) h =
 
 pub length-without : (n : ℕ) {l : List ℕ} → Distinct l → Among n l → length l ≡ suc (length (without n l))
 unfolding without
-length-without n (also {a = m} {l = l} d ds) h = go (same m n) h (length-without n ds)
+length-without n (also {a = m} {l = l} d ds) h = go (same-or-not m n) h (length-without n ds)
   where
     go : (m ≡ n) ⊎ (m ≡ n → ⊥) → Among n (m ∷ l) → (Among n l → length l ≡ suc (length (without n l)))
         → suc (length l) ≡ suc (length (keptIf (differs m n) m (without n l)))

@@ -2,31 +2,15 @@
 use mathlib.Core.Path.{_≡_}
 use mathlib.Core.Bool.{true}
 use mathlib.Core.List.{List}
-use Prim.Native.Nat.{ℕ, _<_, _-_}
+use Prim.Native.Nat.{ℕ, _<_}
 use native.Mathlib.Omega.{arith}
-use lib.IntN.{ℤ, pos, negsuc}
-use borrow.Author.Tests.{leb-true}
-use Rattle.refusal.proofs.Tests.{both-left, both-right}
-use Rattle.grid.specs.declared.Place.{Place}
 use Rattle.grid.specs.declared.Spot.{Spot}
-use Rattle.grid.specs.Place.{limit, onBoard, inside}
-use Rattle.grid.proofs.Signed.{I32}
-use Rattle.grid.proofs.Flat.{Held, Site, site}
+use Rattle.grid.proofs.Flat.{Site, site, place-held}
 use Rattle.grid.proofs.Keys.{OnBoard, on-board, Fits, key, key-swap, key-one, before-key}
 use Rattle.grid.proofs.Order.{Pin, pin-fits}
 use Rattle.tree.specs.Growth.{placeOf, spotAt, pairAt, allInside}
 use Rattle.tree.proofs.Filling.{inside-at}
 use Rattle.tree.proofs.Earliest.{Keyed}
-
--- A number of the board is one that an i32 holds.
-number-held : (z : ℤ) → onBoard z ≡ true → I32 z
-unfolding onBoard
-number-held (pos n) e = omega (arith, leb-true n limit (both-right _ _ e))
-number-held (negsuc n) e = omega (arith, leb-true n (limit - 1) (both-left _ _ e))
-
-place-held : (a : Place) → inside a ≡ true → Held a
-unfolding inside
-place-held a e = record { x = number-held (a .x) (both-left _ _ e); y = number-held (a .y) (both-right _ _ e) }
 
 -- Where a pin of a feed stands, in ℕ.
 abbrev pub siteAt : List Spot → ℕ → Site

@@ -10,9 +10,9 @@ use lib.ListN.{length, getD}
 use borrow.Author.Tests.{lt-ltb, ltb-true}
 use Rattle.grid.specs.declared.Spot.{Spot}
 use Rattle.grid.specs.Weight.{comesBefore}
+use Rattle.grid.proofs.Flat.{same-or-not}
 use Rattle.tree.specs.declared.Run.{Run}
 use Rattle.tree.specs.Growth.{run, pairAt, allInside, pinsOf, runsAmong, runsOf}
-use Rattle.tree.proofs.Deciding.{same}
 use Rattle.tree.proofs.Membership.{Among, first, later, without-in}
 use Rattle.tree.proofs.Earliest.{Keyed}
 use Rattle.tree.proofs.Numbering.{keyAt, keyed}
@@ -189,7 +189,7 @@ one-or (inr n) (inl b) = inl (inr b)
 one-or (inr n) (inr m) = inr (⊎-elim n m)
 
 ends-or : (q : Run) (a b : ℕ) → Ends q a b ⊎ (Ends q a b → ⊥)
-ends-or q a b = one-or (two-or (same a (q .near)) (same b (q .far))) (two-or (same a (q .far)) (same b (q .near)))
+ends-or q a b = one-or (two-or (same-or-not a (q .near)) (same-or-not b (q .far))) (two-or (same-or-not a (q .far)) (same-or-not b (q .near)))
 
 ends-flip : {u q : Run} → Ends u (q .near) (q .far) → Ends q (u .near) (u .far)
 ends-flip (inl e) = inl (sym (e .0), sym (e .1))

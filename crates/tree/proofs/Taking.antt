@@ -1,7 +1,7 @@
 -- The runs taken offer by offer are the runs of the growth: each pin left keeps its earliest pair with a reached pin, so the earliest
 -- offer is the earliest pair of all. From the keys of pairs.
 use mathlib.Core.Path.{_≡_, refl, sym, ap, ap₂, _∙_}
-use mathlib.Core.Bool.{true, false}
+use mathlib.Core.Bool.{true, false, not}
 use mathlib.Core.List.{List, [], _∷_}
 use mathlib.Core.Logic.{_⊎_, inl, inr}
 use Prim.Native.Nat.{ℕ, zero, suc, _+_, _<_, _≤_}
@@ -9,7 +9,7 @@ use native.Mathlib.Omega.{arith}
 use native.Mathlib.Decide.{decLt}
 use lib.Dec.{ltb, eqb}
 use lib.ListN.{length, List·getD-eq-default}
-use borrow.Author.Tests.{ltb-true, ltb-false, eq-eqb, ne-eqb}
+use borrow.Author.Tests.{ltb-true, ltb-false, eq-eqb, ne-eqb, not-true}
 use Rattle.refusal.specs.Tests.{both, choose}
 use Rattle.refusal.proofs.Tests.{choose-yes, choose-no, both-left, both-right, both-of}
 use Rattle.grid.specs.declared.Place.{Place}
@@ -19,9 +19,8 @@ use Rattle.tree.specs.declared.Run.{Run}
 use Rattle.tree.specs.declared.Offer.{Offer}
 use Rattle.tree.specs.declared.Choice.{Choice}
 use Rattle.tree.specs.Growth.{present, placeOf, spotAt, run, pairAt, pinsFrom, without, next, grown, runsAmong, pinsOf, runsOf}
-use Rattle.tree.specs.Boxes.{fails}
 use Rattle.tree.specs.Offers.{noOffer, offerOf, firstOffer, betterOffer, nextOffer, firstOffers, choiceOf, takenRuns}
-use Rattle.tree.proofs.Deciding.{opposite, decide, fails-yes, fails-no}
+use Rattle.tree.proofs.Deciding.{opposite, decide}
 use Rattle.tree.proofs.Membership.{Among, first, later, Distinct, also, without-in, in-without, length-without, distinct-without, pins-there, there-pins, pins-distinct, pins-few}
 use Rattle.tree.proofs.Earliest.{Keyed, Earliest, one-earliest, next-earliest}
 use Rattle.tree.proofs.Going.{after, nothing, something}
@@ -222,21 +221,21 @@ module _ {feed : List Spot} {key : ℕ → ℕ → ℕ} (keyed : Keyed feed key)
 
   first-waits : (f : ℕ) (p : Place) (k : ℕ) (s : Spot) → firstOffer f p k s .waits ≡ true → (present s ≡ true) × (k ≡ f → ⊥)
   unfolding firstOffer
-  first-waits f p k s w = go (decide (both (present s) (fails (eqb k f))))
+  first-waits f p k s w = go (decide (both (present s) (not (eqb k f))))
     where
       new : Offer
       new = offerOf f p k (placeOf s)
 
-      go : (both (present s) (fails (eqb k f)) ≡ true) ⊎ (both (present s) (fails (eqb k f)) ≡ false) → (present s ≡ true) × (k ≡ f → ⊥)
+      go : (both (present s) (not (eqb k f)) ≡ true) ⊎ (both (present s) (not (eqb k f)) ≡ false) → (present s ≡ true) × (k ≡ f → ⊥)
       go (inl e) = (
-        both-left (present s) (fails (eqb k f)) e,
-        λ q. opposite (eq-eqb k f q) (fails-no (eqb k f) (both-right (present s) (fails (eqb k f)) e)),
+        both-left (present s) (not (eqb k f)) e,
+        λ q. opposite (eq-eqb k f q) (not-true (eqb k f) (both-right (present s) (not (eqb k f)) e)),
       )
       go (inr e) = absurd (opposite w (ap (λ (o : Offer). o .waits) (choose-no new noOffer e)))
 
   first-keeps : (f : ℕ) (p : Place) (k : ℕ) (s : Spot) → present s ≡ true → (k ≡ f → ⊥) → firstOffer f p k s ≡ offerOf f p k (placeOf s)
   unfolding firstOffer
-  first-keeps f p k s e q = choose-yes (offerOf f p k (placeOf s)) noOffer (both-of e (fails-yes (ne-eqb k f q)))
+  first-keeps f p k s e q = choose-yes (offerOf f p k (placeOf s)) noOffer (both-of e (ap not (ne-eqb k f q)))
 
   -- A first offer to pin k.
   offered : (f k : ℕ) → Turned feed key k f (offerOf f (placeOf (spotAt feed f)) k (placeOf (spotAt feed k))) (offerOf f (placeOf (spotAt feed f)) k (placeOf (spotAt feed k)))

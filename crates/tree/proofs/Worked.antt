@@ -14,7 +14,7 @@ use Rattle.grid.specs.Place.{onBoard, inside, difference, larger}
 use Rattle.grid.specs.Weight.{distanceOf, weightOf, pairOf, byPart, byNumber, comesBefore}
 use Rattle.tree.specs.declared.Run.{Run}
 use Rattle.tree.specs.Growth.{allInside, run, pairAt, sooner, keptIf, pinsFrom, without, runsFrom, between, earliest, earliestOf, next, grown, runsAmong, pinsOf, runsOf}
-use Rattle.tree.specs.Boxes.{fails, belowBoth, under, overlap, boxesShare, isEnd, common, clash, clashAny, boxesMeet}
+use Rattle.tree.specs.Boxes.{belowBoth, under, overlap, boxesShare, isEnd, common, clash, clashAny, boxesMeet}
 use Rattle.tree.specs.Trees.{entries, treeWith, treeOf}
 
 -- A pin at x and y.
@@ -62,7 +62,7 @@ runs =
     ∷ []
 
 pub worked : map (λ spots. treeOf (feed spots)) boards ≡ map (treeWith Accepted) runs
-unfolding treeOf treeWith entries boxesMeet clashAny clash common isEnd boxesShare overlap under belowBoth fails runsOf pinsOf runsAmong grown next earliestOf earliest between runsFrom without pinsFrom keptIf sooner pairAt comesBefore byPart byNumber pairOf weightOf distanceOf difference larger both either choose
+unfolding treeOf treeWith entries boxesMeet clashAny clash common isEnd boxesShare overlap under belowBoth runsOf pinsOf runsAmong grown next earliestOf earliest between runsFrom without pinsFrom keptIf sooner pairAt comesBefore byPart byNumber pairOf weightOf distanceOf difference larger both either choose
 worked = refl
 
 -- A feed with no pins: 17.
@@ -80,13 +80,13 @@ abbrev place : ℤ → ℤ → Place
 place x y = record { x = x; y = y }
 
 pub touching : boxesShare (place (pos 0) (pos 0)) (place (pos 1) (pos 1)) (place (pos 2) (pos 2)) (place (pos 1) (pos 1)) ≡ true
-unfolding boxesShare overlap under belowBoth fails both choose
+unfolding boxesShare overlap under belowBoth both choose
 touching = refl
 
 pub sides : boxesShare (place m1 (pos 0)) (place (pos 1) (pos 1)) (place (pos 5) m2) (place (pos 1) (pos 7)) ≡ true
-unfolding boxesShare overlap under belowBoth fails both choose
+unfolding boxesShare overlap under belowBoth both choose
 sides = refl
 
 pub a-step-apart : boxesShare (place m1 (pos 0)) (place (pos 1) (pos 1)) (place (pos 5) m2) (place (pos 2) (pos 7)) ≡ false
-unfolding boxesShare overlap under belowBoth fails both choose
+unfolding boxesShare overlap under belowBoth both choose
 a-step-apart = refl

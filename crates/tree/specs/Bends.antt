@@ -1,23 +1,18 @@
 -- Straight and bent runs, and the bent runs at a pin.
-use mathlib.Core.Bool.{Bool}
+use mathlib.Core.Bool.{Bool, not}
 use mathlib.Core.List.{List, [], _∷_}
 use Prim.Native.Nat.{ℕ, _+_}
 use lib.Dec.{eqb}
-use Rattle.refusal.specs.Tests.{both, either, choose}
-use Rattle.grid.specs.declared.Place.{Place}
+use Rattle.refusal.specs.Tests.{both, choose}
 use Rattle.grid.specs.declared.Spot.{Spot}
-use Rattle.grid.specs.Place.{sameNumber}
+use Rattle.grid.specs.Place.{isStraight}
 use Rattle.tree.specs.declared.Run.{Run}
 use Rattle.tree.specs.Growth.{placeOf, spotAt}
-use Rattle.tree.specs.Boxes.{fails, isEnd}
+use Rattle.tree.specs.Boxes.{isEnd}
 
--- A run whose ends share x or y is straight.
-unfoldable pub straight : Place → Place → Bool
-straight a b = either (sameNumber (a .x) (b .x)) (sameNumber (a .y) (b .y))
-
--- Any other is bent.
+-- A run that is not straight is bent.
 unfoldable pub bent : List Spot → Run → Bool
-bent feed r = fails (straight (placeOf (spotAt feed (r .near))) (placeOf (spotAt feed (r .far))))
+bent feed r = not (isStraight (placeOf (spotAt feed (r .near))) (placeOf (spotAt feed (r .far))))
 
 -- How many of some runs pass a test.
 unfoldable pub howMany : (Run → Bool) → List Run → ℕ

@@ -1,19 +1,15 @@
 -- When the boxes of two runs share a point.
-use mathlib.Core.Bool.{Bool, true, false}
+use mathlib.Core.Bool.{Bool, false, not}
 use mathlib.Core.List.{List, [], _∷_}
 use Prim.Native.Nat.{ℕ}
 use lib.IntN.{ℤ}
 use lib.Signed.{ltZ}
 use lib.Dec.{eqb}
-use Rattle.refusal.specs.Tests.{both, either, choose}
+use Rattle.refusal.specs.Tests.{both, either}
 use Rattle.grid.specs.declared.Place.{Place}
 use Rattle.grid.specs.declared.Spot.{Spot}
 use Rattle.tree.specs.declared.Run.{Run}
 use Rattle.tree.specs.Growth.{placeOf, spotAt}
-
--- A test does not hold.
-unfoldable pub fails : Bool → Bool
-fails t = choose t false true
 
 -- A number is less than both c and d.
 unfoldable pub belowBoth : ℤ → ℤ → ℤ → Bool
@@ -25,7 +21,7 @@ under a b c d = both (belowBoth a c d) (belowBoth b c d)
 
 -- The stretch from a to b and the stretch from c to d share a number: neither lies wholly under the other.
 unfoldable pub overlap : ℤ → ℤ → ℤ → ℤ → Bool
-overlap a b c d = both (fails (under a b c d)) (fails (under c d a b))
+overlap a b c d = both (not (under a b c d)) (not (under c d a b))
 
 -- The box of a and b and the box of c and d share a point; boxes that only touch do.
 unfoldable pub boxesShare : Place → Place → Place → Place → Bool
@@ -42,7 +38,7 @@ common r s = either (isEnd (r .near) s) (isEnd (r .far) s)
 -- Two runs without a common pin have boxes that share a point.
 unfoldable pub clash : List Spot → Run → Run → Bool
 clash feed r s =
-    both (fails (common r s))
+    both (not (common r s))
     (boxesShare
     (placeOf (spotAt feed (r .near)))
     (placeOf (spotAt feed (r .far)))

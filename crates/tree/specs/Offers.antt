@@ -1,5 +1,5 @@
 -- How the runs are found: each pin not reached keeps one offer, the earliest pair that would reach it.
-use mathlib.Core.Bool.{true, false}
+use mathlib.Core.Bool.{true, false, not}
 use mathlib.Core.List.{List, [], _∷_}
 use Prim.Native.Nat.{ℕ, zero, suc}
 use lib.IntN.{pos}
@@ -14,7 +14,6 @@ use Rattle.tree.specs.declared.Offer.{Offer}
 use Rattle.tree.specs.declared.Choice.{Choice}
 use Rattle.tree.specs.declared.Taken.{Taken}
 use Rattle.tree.specs.Growth.{present, placeOf, spotAt, run}
-use Rattle.tree.specs.Boxes.{fails}
 use Rattle.tree.specs.Trees.{entries}
 
 -- What a pin keeps that does not wait.
@@ -28,7 +27,7 @@ offerOf near from pin to = record { waits = true; near = near; pair = pairOf nea
 -- What a pin keeps at first: the offer of the first pin, if it is there and another.
 unfoldable pub firstOffer : ℕ → Place → ℕ → Spot → Offer
 firstOffer first from pin s =
-    choose (both (present s) (fails (eqb pin first))) (offerOf first from pin (placeOf s)) noOffer
+    choose (both (present s) (not (eqb pin first))) (offerOf first from pin (placeOf s)) noOffer
 
 -- The earlier of two offers; the first where they are equal.
 unfoldable pub betterOffer : Offer → Offer → Offer

@@ -1,15 +1,15 @@
 -- What the parts of `wire_favouring` come to: a refusal of the tree, too little room, or the answer. From pins that stand on the board, no two
 -- of them too near.
-use mathlib.Core.Path.{_≡_, refl, sym, ap, ap₂, _∙_, subst}
+use mathlib.Core.Path.{_≡_, refl, sym, ap, ap₂, _∙_}
 use mathlib.Core.Bool.{Bool, true, false, not}
 use mathlib.Core.List.{List, [], _∷_, _++_}
-use Prim.Native.Nat.{ℕ, zero, suc, _+_, _-_, _/_, _%_, _≤_, _<_}
+use Prim.Native.Nat.{ℕ, zero, suc, _-_, _/_, _%_, _≤_, _<_}
 use native.Mathlib.Omega.{arith}
 use lib.IntN.{ℤ, pos}
-use lib.Dec.{ltb, eqb}
-use lib.ListN.{length, getD, take, replicate, List·getD-append, List·getD-eq-default, getD-replicate, length-replicate, length-append}
-use lib.Seq.{getD-append-add, take-at}
-use borrow.Author.Tests.{ltb-true, ltb-false, lt-ltb, le-ltb}
+use lib.Dec.{ltb}
+use lib.ListN.{length, getD, take, replicate, List·getD-eq-default}
+use lib.Seq.{take-at}
+use borrow.Author.Tests.{ltb-true, ltb-false, lt-ltb, le-ltb, not-true, not-false}
 use Rattle.refusal.specs.Tests.{both, choose}
 use Rattle.refusal.specs.Refusals.{accepted, turn}
 use Rattle.refusal.specs.declared.Verdict.{Verdict}
@@ -19,7 +19,7 @@ use Rattle.grid.specs.declared.Spot.{Spot}
 use Rattle.grid.specs.Place.{onBoard, inside}
 use Rattle.tree.specs.declared.Run.{Run}
 use Rattle.tree.specs.declared.Tree.{Tree}
-use Rattle.tree.specs.Growth.{run, placeOf, spotAt, allInside, pinsFrom, pinsOf, runsOf}
+use Rattle.tree.specs.Growth.{run, placeOf, spotAt, allInside, pinsOf, runsOf}
 use Rattle.tree.specs.Boxes.{boxesMeet}
 use Rattle.tree.specs.Trees.{entries, treeWith, none, treeOf}
 use Rattle.tree.proofs.Filling.{inside-at}
@@ -322,22 +322,14 @@ module _ (feed : List Spot) (full : length feed ≡ 32) (ok : allInside feed ≡
           rw v (unfold accepted choose answerWith laidWith in rw (length-is, weighed-is, entries-is, many-is, legs-is, count-is))
 
 -- ---- the same of the tree as the code has it
-pub off-not : (b : Bool) → not b ≡ true → b ≡ false
-off-not true e = sym e
-off-not false e = refl
-
-pub on-not : (b : Bool) → not b ≡ false → b ≡ true
-on-not true e = refl
-on-not false e = sym e
-
 module _ (feed : List Spot) (full : length feed ≡ 32) (ok : allInside feed ≡ true) (free : crowded feed ≡ false) (favoured : Bool) (room : ℕ)
     (t : Tree) (et : t ≡ treeOf feed) (b : Bool) (eb : b ≡ accepted (t .verdict)) where
   pub wire-refused : not b ≡ true → turnedAway (t .verdict) ≡ wiringFavouring favoured feed room
-  wire-refused y = tree-refuses favoured feed room t et (sym eb ∙ off-not b y)
+  wire-refused y = tree-refuses favoured feed room t et (sym eb ∙ not-true b y)
 
   module _ (y : not b ≡ false) where
     w : Wired feed t
-    w = tree-accepts feed t et (sym eb ∙ on-not b y)
+    w = tree-accepts feed t et (sym eb ∙ not-false b y)
 
     pub count-few : t .count ≤ 31
     count-few = omega (arith, few feed full ok free t w, w .count)

@@ -1,37 +1,36 @@
 -- THE SHAPES FOUND ARE THE FIRST OF THE SHORTEST: what is asked pin by pin tells, as a length and a mask, the choice that the definition finds by
 -- looking through all of them. From pins that stand on the board, no two of them too near, and boxes that do not meet.
-use mathlib.Core.Path.{_≡_, refl, sym, ap, ap₂, _∙_, subst}
+use mathlib.Core.Path.{_≡_, refl, sym, ap, ap₂, _∙_}
 use mathlib.Core.Bool.{Bool, true, false, not}
 use mathlib.Core.List.{List, [], _∷_, _++_, append-assoc, append-nil}
 use mathlib.Core.Logic.{_⊎_, inl, inr, ⊎-elim}
-use Prim.Native.Nat.{ℕ, zero, suc, _+_, _-_, _*_, _/_, _%_, _≤_, _<_}
+use Prim.Native.Nat.{ℕ, zero, suc, _+_, _*_, _/_, _%_, _≤_, _<_}
 use native.Mathlib.Nat.{add-mul-div-right, add-mul-mod-self-right, div-eq-of-lt, mod-eq-of-lt}
 use native.Mathlib.Omega.{arith}
-use lib.ListN.{length, getD}
-use Rattle.refusal.specs.Tests.{choose}
+use lib.ListN.{length}
+use borrow.Author.Tests.{not-false}
 use Rattle.grid.specs.declared.Place.{Place}
 use Rattle.grid.specs.declared.Spot.{Spot}
-use Rattle.grid.proofs.Flat.{Held}
+use Rattle.grid.specs.Place.{isStraight}
 use Rattle.tree.specs.declared.Run.{Run}
-use Rattle.tree.specs.Growth.{run, placeOf, spotAt, allInside, pinsOf, runsOf}
+use Rattle.tree.specs.Growth.{allInside, pinsOf, runsOf}
 use Rattle.tree.specs.Boxes.{boxesMeet}
 use Rattle.tree.proofs.Membership.{Among}
-use Rattle.tree.proofs.Listing.{Rooted, nearAt, farAt, runs-rooted}
 use Rattle.copper.specs.declared.Shape.{Shape}
 use Rattle.copper.specs.declared.Leg.{Leg}
-use Rattle.copper.specs.Shapes.{isStraight, shapeOf, legsOf}
+use Rattle.copper.specs.Shapes.{shapeOf, legsOf}
 use Rattle.copper.specs.Length.{lengthOf, legsOfRuns}
 use Rattle.copper_laws.proofs.Sums.{sumBelow, sum-same}
 use Rattle.copper_laws.proofs.Least.{May}
 use Rattle.copper_laws.proofs.Tallies.{bentAt, leastOf}
 use Rattle.copper_laws.proofs.Wired.{first-shortest}
 use Rattle.least.specs.Asking.{base, markOf}
-use Rattle.wiring.specs.Choices.{nearEnd, farEnd, choicesOf, legsOfChoice, lengthOfChoice, shortestOf, bestChoice}
-use Rattle.wiring.specs.Reaching.{runAt, reachedPin, reachedNear, reachedPlace, upperIn, shapesBy}
+use Rattle.wiring.specs.Choices.{nearEnd, farEnd, choicesOf, legsOfChoice, lengthOfChoice, bestChoice}
+use Rattle.wiring.specs.Reaching.{runAt, reachedNear, reachedPlace, upperIn, shapesBy}
 use Rattle.wiring.specs.Crowding.{crowded}
-use Rattle.wiring.proofs.Ordered.{isUpper, bends, maskFrom, choice-told, told-choice, choice-long, choices-rising, choice-may, bends-told, first-found}
+use Rattle.wiring.proofs.Ordered.{bends, maskFrom, choice-told, told-choice, choice-long, choices-rising, choice-may, bends-told, first-found}
 use Rattle.wiring.proofs.Masks.{maskBy, mask-sum, mask-choice, mask-less, mask-read}
-use Rattle.wiring.proofs.Laying.{places-held, near-place, far-place, grown, laid}
+use Rattle.wiring.proofs.Laying.{places-held, near-place, far-place, laid}
 
 -- Lists joined, n of them.
 unfoldable joinBelow : ℕ → (ℕ → List Leg) → List Leg
@@ -118,11 +117,7 @@ module _ (feed : List Spot) (full : length feed ≡ 32) (ok : allInside feed ≡
   -- Bends that may be, by the ends of the runs and by when their pins are reached.
   may-reached : (upper : ℕ → Bool) → ((r : ℕ) → r < n → isStraight (nearEnd feed (runAt runs r)) (farEnd feed (runAt runs r)) ≡ true → upper r ≡ false)
       → (r : ℕ) → r < n → May (bentAt at near r) (upper r)
-  may-reached upper h r l q = h r l (ap₂ isStraight (sym (near-place feed full ok f left e r l)) (sym (far-place feed full ok f left e r)) ∙ straight (isStraight (at (near r)) (at (suc r))) q)
-    where
-      straight : (t : Bool) → not t ≡ false → t ≡ true
-      straight true p = refl
-      straight false p = sym p
+  may-reached upper h r l q = h r l (ap₂ isStraight (sym (near-place feed full ok f left e r l)) (sym (far-place feed full ok f left e r)) ∙ not-false (isStraight (at (near r)) (at (suc r))) q)
 
   may-ends : (upper : ℕ → Bool) → ((r : ℕ) → r < n → May (bentAt at near r) (upper r))
       → (r : ℕ) → r < n → isStraight (nearEnd feed (runAt runs r)) (farEnd feed (runAt runs r)) ≡ true → upper r ≡ false

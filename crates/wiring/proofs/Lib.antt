@@ -7,4 +7,5 @@ pub mod Best
 pub mod Weighed
 pub mod Filling
 pub mod Answering
+pub mod Refusing
 pub mod Shortest

@@ -3,7 +3,7 @@
 use mathlib.Core.Path.{_≡_, refl, sym, ap, ap₂, _∙_, subst}
 use mathlib.Core.Bool.{Bool, true, false, not}
 use mathlib.Core.List.{List, [], _∷_, _++_}
-use mathlib.Core.Logic.{_⊎_, inl, inr, ⊎-elim}
+use mathlib.Core.Logic.{_⊎_, inl, inr}
 use Prim.Native.Nat.{ℕ, zero, suc, _+_, _-_, _*_, _^_, _≤_, _<_}
 use native.Mathlib.Nat.{pow-suc}
 use native.Mathlib.Omega.{arith}
@@ -12,18 +12,17 @@ use lib.ListN.{length}
 use lib.Pow.{pow-pos}
 use borrow.Author.Tests.{lt-ltb, le-ltb}
 use Rattle.refusal.specs.Tests.{choose}
-use Rattle.grid.specs.declared.Place.{Place}
 use Rattle.grid.specs.declared.Spot.{Spot}
+use Rattle.grid.specs.Place.{isStraight}
 use Rattle.tree.specs.declared.Run.{Run}
-use Rattle.tree.specs.Boxes.{fails}
-use Rattle.tree.specs.Bends.{straight, bent}
+use Rattle.tree.specs.Bends.{bent}
 use Rattle.tree.proofs.Membership.{Among, first, later, in-front, in-back, in-either}
 use Rattle.tree.proofs.Spanning.{none-among}
 use Rattle.copper.specs.declared.Shape.{Shape}
 use Rattle.copper.specs.declared.Shape.the-variants.{Straight, Lower, Upper}
-use Rattle.copper.specs.Shapes.{isStraight, shapeOf}
+use Rattle.copper.specs.Shapes.{shapeOf}
 use Rattle.least.specs.Asking.{differs, markOf}
-use Rattle.wiring.specs.Choices.{nearEnd, farEnd, bentShapes, shapesOf, withShape, withShapes, choicesOf, lengthOfChoice, shortest, shortestOf, bestChoice}
+use Rattle.wiring.specs.Choices.{nearEnd, farEnd, bentShapes, shapesOf, withShape, withShapes, choicesOf, lengthOfChoice, shortest, shortestOf}
 use Rattle.wiring.specs.Reaching.{runAt, shapesBy}
 
 -- A shape bends upwards.
@@ -82,7 +81,7 @@ either-bend s (inl (later (first e))) = rw e
 either-bend s (inr (first e)) = rw e
 either-bend s (inr (later (first e))) = rw e
 
-told-by : (s : Shape) (t v : Bool) → Among s (choose (choose t false true) (choose v (Upper ∷ Lower ∷ []) (Lower ∷ Upper ∷ [])) (Straight ∷ []))
+told-by : (s : Shape) (t v : Bool) → Among s (choose (not t) (choose v (Upper ∷ Lower ∷ []) (Lower ∷ Upper ∷ [])) (Straight ∷ []))
     → (s ≡ choose t Straight (choose (isUpper s) Upper Lower)) × (t ≡ true → isUpper s ≡ false)
 unfolding choose
 told-by s true v m = let z = only-straight s m in (z .0, λ e. z .1)
@@ -94,14 +93,14 @@ module _ (favoured : Bool) (feed : List Spot) (r : Run) where
   level = isStraight (nearEnd feed r) (farEnd feed r)
 
   shape-told : (s : Shape) → Among s (shapesOf favoured feed r) → (s ≡ shapeOf (isUpper s) (nearEnd feed r) (farEnd feed r)) × (level ≡ true → isUpper s ≡ false)
-  unfolding shapesOf bent straight isStraight fails shapeOf bentShapes
+  unfolding shapesOf bent isStraight shapeOf bentShapes
   shape-told s m = told-by s level favoured m
 
   told-shape : (u : Bool) → Among (shapeOf u (nearEnd feed r) (farEnd feed r)) (shapesOf favoured feed r)
-  unfolding shapesOf bent straight isStraight fails shapeOf bentShapes
+  unfolding shapesOf bent isStraight shapeOf bentShapes
   told-shape u = go level favoured u
     where
-      go : (t v u : Bool) → Among (choose t Straight (choose u Upper Lower)) (choose (choose t false true) (choose v (Upper ∷ Lower ∷ []) (Lower ∷ Upper ∷ [])) (Straight ∷ []))
+      go : (t v u : Bool) → Among (choose t Straight (choose u Upper Lower)) (choose (not t) (choose v (Upper ∷ Lower ∷ []) (Lower ∷ Upper ∷ [])) (Straight ∷ []))
       go true v u = unfold choose in first refl
       go false true true = unfold choose in first refl
       go false true false = unfold choose in later (first refl)

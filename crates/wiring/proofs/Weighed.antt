@@ -3,31 +3,29 @@
 use mathlib.Core.Path.{_≡_, refl, sym, ap, ap₂, _∙_, subst}
 use mathlib.Core.Bool.{Bool, true, false, not, cond}
 use mathlib.Core.List.{List, [], _∷_}
-use mathlib.Core.Logic.{_⊎_, inl, inr, ⊎-elim}
-use Prim.Native.Nat.{ℕ, zero, suc, _+_, _-_, _*_, _^_, _≤_, _<_}
+use Prim.Native.Nat.{ℕ, zero, suc, _+_, _*_, _^_, _≤_, _<_}
 use native.Mathlib.Nat.{pow-suc, mul-assoc, mul-comm}
 use native.Mathlib.Omega.{arith}
 use lib.Dec.{eqb}
-use lib.ListN.{length, getD}
+use lib.ListN.{length, drop-of-length-le}
 use lib.Pow.{pow-mono}
 use borrow.Author.Tests.{eq-eqb, ne-eqb, eqb-true, eqb-false}
-use Rattle.refusal.specs.Tests.{both, either, choose}
+use Rattle.refusal.specs.Tests.{both, choose}
 use Rattle.grid.specs.declared.Place.{Place}
 use Rattle.grid.specs.declared.Spot.{Spot}
 use Rattle.grid.proofs.Signed.{eqb-same}
+use Rattle.grid.specs.Place.{isStraight}
 use Rattle.tree.specs.declared.Run.{Run}
-use Rattle.tree.specs.Growth.{run, placeOf, spotAt, allInside, keptIf, without, pinsOf, runsOf}
-use Rattle.tree.specs.Boxes.{fails}
-use Rattle.tree.specs.Bends.{straight, bent, howMany, bentFrom, bentInto}
+use Rattle.tree.specs.Growth.{allInside, keptIf, without, pinsOf, runsOf}
+use Rattle.tree.specs.Bends.{bent, howMany, bentFrom, bentInto}
 use Rattle.tree.proofs.Membership.{Among, first, later, Distinct, also, without-none, distinct-without, pins-distinct}
 use Rattle.tree.proofs.Listing.{Listed, done, taking, Rooted, nearAt, farAt, runs-listed, runs-rooted}
 use Rattle.tree.proofs.Bent.{six-leading}
-use Rattle.copper.specs.Shapes.{isStraight}
 use Rattle.copper_laws.proofs.Sums.{sumBelow, sum-same, sum-none, sum-only}
 use Rattle.least.specs.Asking.{doubledIf}
 use Rattle.least.specs.Asking as asked
 use Rattle.least.proofs.Whole as whole
-use Rattle.wiring.specs.Choices.{nearEnd, farEnd, weighedAt, weighedOf}
+use Rattle.wiring.specs.Choices.{weighedAt, weighedOf}
 use Rattle.wiring.specs.Reaching.{runAt, reachedPin, reachedNear, reachedPlace}
 use Rattle.wiring.proofs.Positions.{near-before, near-pin, far-pin, first-pin, reached-once}
 use Rattle.wiring.proofs.Masks.{sum-front}
@@ -64,11 +62,6 @@ twice t = choose t 2 1
 
 abbrev twiceSome : ℕ → ℕ
 twiceSome n = choose (eqb n 0) 1 2
-
-bent-same : (t : Bool) → not t ≡ fails t
-unfolding fails choose
-bent-same true = refl
-bent-same false = refl
 
 power-twice : (w c k : ℕ) → w ≡ 2 ^ c * k → w + w ≡ 2 ^ (1 + c) * k
 power-twice w c k e =
@@ -128,8 +121,7 @@ unfolding both choose
 holds-both t s e = rw e
 
 none-long : {A : Type 0} (l : List A) → length l ≡ 0 → l ≡ []
-none-long [] z = refl
-none-long (a ∷ l) z = absurd (omega arith)
+none-long l z = drop-of-length-le l {i = 0} (omega arith)
 
 -- A pin alone.
 lone : (at : ℕ → Place) (near : ℕ → ℕ) (feed : List Spot) (f : ℕ) → asked.weighedOf at near 0 0 ≡ sumOver (weighedAt feed []) (f ∷ [])
@@ -157,8 +149,8 @@ module _ (feed : List Spot) (full : length feed ≡ 32) (ok : allInside feed ≡
   root = runs-rooted feed full ok f left e
 
   bent-told : (r : ℕ) → r < n → asked.isBent at near r ≡ bent feed (runAt runs r)
-  unfolding asked.isBent bent straight isStraight
-  bent-told r l = ap not (ap₂ isStraight (near-place feed full ok f left e r l) (far-place feed full ok f left e r)) ∙ bent-same (isStraight (nearEnd feed (runAt runs r)) (farEnd feed (runAt runs r)))
+  unfolding asked.isBent bent isStraight
+  bent-told r l = ap not (ap₂ isStraight (near-place feed full ok f left e r l) (far-place feed full ok f left e r))
 
   near-told : (r i : ℕ) → r < n → i < suc n → eqb (near r) i ≡ eqb (reachedPin runs i) (nearAt runs r)
   near-told r i l k =

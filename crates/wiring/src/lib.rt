@@ -65,7 +65,7 @@ fn reached_place(feed: [Spot; 32], runs: [Run; 31], i: usize) -> Place
     ensures { λ r. ⌜ r ≡ reachedPlace feed runs i ⌝ }
 {
     let pin = reached_pin(runs, i);
-    place_at(feed, pin)
+    tree::place_at(feed, pin)
 }
 
 // The x of the pins, as they are reached.
@@ -144,8 +144,8 @@ fn shaped_in(feed: [Spot; 32], favoured: bool, mask: u64, runs: [Run; 31], at: u
     ensures { λ r. ⌜ r ≡ shapedIn feed favoured mask runs at ⌝ }
 {
     let run = runs[at];
-    let near = place_at(feed, run.near);
-    let far = place_at(feed, run.far);
+    let near = tree::place_at(feed, run.near);
+    let far = tree::place_at(feed, run.far);
     let upper = upper_in(favoured, mask, at);
     let shape = copper::shape_of(upper, near, far);
     Shaped {
@@ -186,8 +186,8 @@ fn put_legs(legs: [Leg; 62], at: usize, feed: [Spot; 32], entry: Shaped) -> [Leg
     ensures { λ r. ⌜ r ≡ putLegs legs at (legsOfEntry feed entry) ⌝ }
 {
     let shape = entry.shape;
-    let near = place_at(feed, entry.near);
-    let far = place_at(feed, entry.far);
+    let near = tree::place_at(feed, entry.near);
+    let far = tree::place_at(feed, entry.far);
     let mut more = legs;
     more[at] = copper::first_leg(shape, near, far);
     if copper::leg_count(shape) == 2 {

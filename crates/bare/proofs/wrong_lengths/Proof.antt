@@ -2,19 +2,18 @@
 use borrow.Author.Tests.{eq-eqb, ne-eqb}
 use lib.ListN.{length}
 use Rattle.refusal.specs.Tests.{either, choose}
-use Rattle.tree.specs.Boxes.{fails}
 use Rattle.bare.specs.Bare.{wrongLengths}
 use Rattle.bare.proofs.wrong_lengths.Statement.{statement}
 use Rattle.bare.proofs.wrong_lengths.Tie as tie
 
 returns : tie.Need-returns
-unfolding wrongLengths fails choose either
+unfolding wrongLengths choose either
 returns c =
     let a = c .before .args in
     rw (ne-eqb (length (a .xs .now)) (length (a .ys .now)) (c .if1 .taken))
 
 returns-2 : tie.Need-returns-2
-unfolding wrongLengths fails choose either
+unfolding wrongLengths choose either
 returns-2 c =
     let a = c .before .args in
     rw (eq-eqb (length (a .xs .now)) (length (a .ys .now)) (c .if1 .left))

@@ -7,9 +7,8 @@ use mir.Val.{SFits}
 use mir.Facts.{toZ-ofZ}
 use borrow.Author.Tests.{not-true, not-false}
 use Rattle.refusal.specs.Tests.{choose}
-use Rattle.grid.specs.Place.{difference}
+use Rattle.grid.specs.Place.{difference, isStraight}
 use Rattle.grid.specs.Weight.{distanceOf}
-use Rattle.copper.specs.Shapes.{isStraight}
 use Rattle.copper.specs.Arms.{paidFor}
 use Rattle.copper.proofs.Differences.{difference-below}
 use borrow.Author.Needs.{needs}
