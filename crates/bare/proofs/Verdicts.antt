@@ -11,6 +11,7 @@ use Rattle.refusal.specs.Tests.{choose}
 use Rattle.refusal.specs.Refusals.{accepted, turn}
 use Rattle.refusal.proofs.Rows.{passed}
 use Rattle.refusal.proofs.Tests.{either-false, choose-yes, choose-no}
+use Rattle.refusal.specs.declared.Verdict.{Verdict}
 use Rattle.refusal.specs.declared.Verdict.the-variants.{Accepted, ListLengths, NoPins, Outside, PlaceTaken}
 use Rattle.tree.specs.Growth.{allInside}
 use Rattle.wiring.specs.Crowding.{crowded}
