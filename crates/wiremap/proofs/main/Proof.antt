@@ -1,4 +1,4 @@
--- `wiremap::main` meets its contract. Assumes nothing.
+-- `wiremap::main` is safe: what was printed lies within the buffer. Assumes nothing.
 use mathlib.Core.Path.{_≡_, refl, sym, ap}
 use mathlib.Core.List.{List}
 use Prim.Native.Nat.{ℕ, _≤_}
