@@ -3,3 +3,4 @@ pub mod Ordered
 pub mod Telling
 pub mod Showing
 pub mod Answering
+pub mod Worked
