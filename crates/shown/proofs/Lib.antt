@@ -1,2 +1,3 @@
 -- What is proved of answers of several lines beside the functions' contracts.
 pub mod Lines
+pub mod Worked
