@@ -22,6 +22,7 @@ pinOf (Placed p h) = p
 pinOf (Moved p a b) = p
 pinOf (Removed p h) = p
 
+-- What stands at a pin, moved to a place: where it is absent it stays so.
 abbrev pub movedIn : Stand → Place → Pin
 movedIn Absent to = absent
 movedIn (There h) to = there (holding to)
@@ -42,6 +43,7 @@ unmade l (Placed p h) = set l p absent
 unmade l (Moved p a b) = set l p (movedPin (getD l p absent) a)
 unmade l (Removed p h) = set l p (there h)
 
+-- A pin stands at that place.
 abbrev pub standsIn : Stand → Place → Bool
 standsIn Absent at = false
 standsIn (There h) at = samePlace (h .place) at
@@ -77,6 +79,7 @@ takeable l e = both (makeable (unmade l e) e) (both (settled (unmade l e) (pinOf
 abbrev pub nowhere : Place
 nowhere = record { x = pos 0; y = pos 0 }
 
+-- What a pin that is there holds; for an absent one, as if it stood nowhere.
 abbrev pub heldIn : Stand → Held
 heldIn Absent = holding nowhere
 heldIn (There h) = h

@@ -31,6 +31,7 @@ there h = record { stand = There h }
 abbrev pub holding : Place → Held
 holding at = record { place = at }
 
+-- A pin stands there.
 abbrev pub thereIn : Stand → Bool
 thereIn Absent = false
 thereIn (There h) = true
@@ -43,6 +44,7 @@ isThere q = thereIn (q .stand)
 unfoldable pub sameHeld : Held → Held → Bool
 sameHeld h k = samePlace (h .place) (k .place)
 
+-- Both are absent, or both stand there and hold the same.
 abbrev pub sameIn : Stand → Stand → Bool
 sameIn Absent Absent = true
 sameIn Absent (There k) = false
@@ -60,6 +62,7 @@ samePins [] (r ∷ m) = false
 samePins (q ∷ l) [] = false
 samePins (q ∷ l) (r ∷ m) = both (samePin q r) (samePins l m)
 
+-- Both stand there, and are too near each other.
 abbrev pub meetIn : Stand → Stand → Bool
 meetIn Absent t = false
 meetIn (There h) Absent = false
@@ -78,6 +81,7 @@ meetsAny q (r ∷ l) = either (meets q r) (meetsAny q l)
 unfoldable pub crowded : List Pin → ℕ → Place → Bool
 crowded l p at = meetsAny (there (holding at)) (set l p absent)
 
+-- A pin that stands there is on the board.
 abbrev pub withinIn : Stand → Bool
 withinIn Absent = true
 withinIn (There h) = inside (h .place)
@@ -104,6 +108,7 @@ allApart (q ∷ l) = both (not (meetsAny q l)) (allApart l)
 unfoldable pub lawful : List Pin → Bool
 lawful l = both (eqb (length l) pins) (both (allWithin l) (allApart l))
 
+-- Where a pin stands, as a feed has it.
 abbrev pub spotIn : Stand → Spot
 spotIn Absent = spot.Absent
 spotIn (There h) = spot.At (h .place)

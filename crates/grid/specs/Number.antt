@@ -14,16 +14,19 @@ joined a b c d = a * 16777216 + b * 65536 + c * 256 + d
 unfoldable pub numberAt : List ℕ → ℕ → ℤ
 numberAt bytes at = toZ w32 (joined (getD bytes at 0) (getD bytes (at + 1) 0) (getD bytes (at + 2) 0) (getD bytes (at + 3) 0))
 
--- The four bytes of a number, the high byte first.
+-- The high byte of a number, which comes first.
 unfoldable pub first : ℤ → ℕ
 first z = ofZ w32 z / 16777216
 
+-- The second byte of a number.
 unfoldable pub second : ℤ → ℕ
 second z = ofZ w32 z / 65536 % 256
 
+-- The third byte of a number.
 unfoldable pub third : ℤ → ℕ
 third z = ofZ w32 z / 256 % 256
 
+-- The low byte of a number.
 unfoldable pub fourth : ℤ → ℕ
 fourth z = ofZ w32 z % 256
 

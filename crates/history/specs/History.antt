@@ -27,22 +27,27 @@ unfoldable pub pinsBy : List Pin → List Edit → List Pin
 pinsBy first [] = first
 pinsBy first (e ∷ earlier) = made (pinsBy first earlier) e
 
+-- The seat is open.
 abbrev pub isOpen : Told → Bool
 isOpen shut = false
 isOpen (opened job first standing takenBack) = true
 
+-- The job of an open seat, 0 for a closed one.
 abbrev pub jobIn : Told → ℕ
 jobIn shut = 0
 jobIn (opened job first standing takenBack) = job
 
+-- The pins of an open seat: those of its latest opening, with its standing edits made in order.
 abbrev pub pinsIn : Told → List Pin
 pinsIn shut = []
 pinsIn (opened job first standing takenBack) = pinsBy first standing
 
+-- The standing edits of a seat, the latest first; a closed one has none.
 abbrev pub standingIn : Told → List Edit
 standingIn shut = []
 standingIn (opened job first standing takenBack) = standing
 
+-- The taken-back edits of a seat, the most recently taken back first; a closed one has none.
 abbrev pub takenBackIn : Told → List Edit
 takenBackIn shut = []
 takenBackIn (opened job first standing takenBack) = takenBack
@@ -51,6 +56,7 @@ takenBackIn (opened job first standing takenBack) = takenBack
 abbrev pub editsIn : Told → ℕ
 editsIn t = length (standingIn t) + length (takenBackIn t)
 
+-- The sum of some numbers.
 unfoldable pub sum : List ℕ → ℕ
 sum [] = 0
 sum (n ∷ l) = n + sum l

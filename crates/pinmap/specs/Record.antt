@@ -71,6 +71,7 @@ recordBytes job pin held =
     ∷ first (held .place .x) ∷ second (held .place .x) ∷ third (held .place .x) ∷ fourth (held .place .x)
     ∷ first (held .place .y) ∷ second (held .place .y) ∷ third (held .place .y) ∷ fourth (held .place .y) ∷ []
 
+-- The record of a pin that stands there, and nothing for an absent one.
 abbrev pub bytesIn : ℕ → ℕ → Stand → List ℕ
 bytesIn job pin Absent = []
 bytesIn job pin (There held) = recordBytes job pin held

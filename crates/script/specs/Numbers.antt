@@ -11,16 +11,19 @@ use Rattle.script.specs.Words.{minus, comma, pieces}
 use Rattle.script.specs.declared.Number.{Number}
 use Rattle.script.specs.declared.Coordinate.{Coordinate}
 
--- Seats and pins go to 4294967295, jobs to 65535; x and y from -2147483648 to 2147483647.
+-- Seats and pins go from 0 to 4294967295.
 abbrev pub most : ℕ
 most = 4294967295
 
+-- Jobs go from 0 to 65535.
 abbrev pub mostJob : ℕ
 mostJob = 65535
 
+-- x and y go up to 2147483647.
 abbrev pub mostAbove : ℕ
 mostAbove = 2147483647
 
+-- x and y go down to -2147483648.
 abbrev pub mostBelow : ℕ
 mostBelow = 2147483648
 
@@ -28,10 +31,11 @@ mostBelow = 2147483648
 abbrev pub beyond : ℕ
 beyond = 4294967296
 
--- A map has one to 4,200 bytes, a list of numbers up to 40.
+-- A map has one to 4,200 bytes.
 abbrev pub mostBytes : ℕ
 mostBytes = 4200
 
+-- A list has up to 40 numbers.
 abbrev pub mostNumbers : ℕ
 mostNumbers = 40
 
@@ -43,6 +47,7 @@ between low high b = both (leb low b) (leb b high)
 abbrev pub isDigit : ℕ → Bool
 isDigit b = between 48 57 b
 
+-- Every byte is a digit.
 unfoldable pub allDigits : List ℕ → Bool
 allDigits [] = true
 allDigits (b ∷ rest) = both (isDigit b) (allDigits rest)
@@ -52,6 +57,7 @@ unfoldable pub valueFrom : ℕ → List ℕ → ℕ
 valueFrom v [] = v
 valueFrom v (b ∷ rest) = valueFrom (v * 10 + (b - 48)) rest
 
+-- What digits come to.
 abbrev pub valueOf : List ℕ → ℕ
 valueOf w = valueFrom 0 w
 
@@ -71,6 +77,7 @@ hasMinus w = eqb (getD w 0 0) minus
 unfoldable pub isCoordinate : List ℕ → Bool
 isCoordinate w = choose (hasMinus w) (isNumber mostBelow (drop 1 w)) (isNumber mostAbove w)
 
+-- What a number with one minus before it, or none, comes to.
 unfoldable pub signed : List ℕ → ℤ
 signed w = choose (hasMinus w) (negℤ (pos (valueOf (drop 1 w)))) (pos (valueOf w))
 
@@ -82,39 +89,46 @@ coordinateOf w = choose (isCoordinate w) (Coordinate.At (signed w)) Coordinate.U
 abbrev pub none : List ℕ
 none = text "-"
 
--- Numbers separated by single commas, or none; up to 40.
+-- Every piece is a number for x or y.
 unfoldable pub allCoordinates : List (List ℕ) → Bool
 allCoordinates [] = true
 allCoordinates (w ∷ rest) = both (isCoordinate w) (allCoordinates rest)
 
+-- The numbers of a list: none for a single minus, else those between the commas.
 unfoldable pub listed : List ℕ → List ℤ
 listed w = choose (same w none) [] (map signed (pieces comma w))
 
+-- Numbers separated by single commas, up to 40 of them.
 unfoldable pub isRow : List ℕ → Bool
 isRow w = both (allCoordinates (pieces comma w)) (leb (length (pieces comma w)) mostNumbers)
 
+-- A list of numbers is such a row, or - for none.
 unfoldable pub isList : List ℕ → Bool
 isList w = either (same w none) (isRow w)
 
--- A hex digit, small or capital, and its value.
+-- The hex digits a to f.
 abbrev pub isSmall : ℕ → Bool
 isSmall b = between 97 102 b
 
+-- The hex digits A to F.
 abbrev pub isCapital : ℕ → Bool
 isCapital b = between 65 70 b
 
+-- A hex digit, small or capital.
 unfoldable pub isHex : ℕ → Bool
 isHex b = either (isDigit b) (either (isSmall b) (isCapital b))
 
+-- The value of a hex digit.
 unfoldable pub hexValue : ℕ → ℕ
 hexValue b = choose (isDigit b) (b - 48) (choose (isSmall b) (b - 87) (choose (isCapital b) (b - 55) 0))
 
--- Pairs of hex digits, and the bytes that they spell.
+-- Pairs of hex digits, and no digit over.
 unfoldable pub allPairs : List ℕ → Bool
 allPairs [] = true
 allPairs (a ∷ []) = false
 allPairs (a ∷ b ∷ rest) = both (both (isHex a) (isHex b)) (allPairs rest)
 
+-- The bytes that pairs of hex digits spell.
 unfoldable pub bytesOf : List ℕ → List ℕ
 bytesOf [] = []
 bytesOf (a ∷ []) = []

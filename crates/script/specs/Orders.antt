@@ -21,10 +21,11 @@ mostLine = 16384
 abbrev pub mostKept : ℕ
 mostKept = 16386
 
--- The most bytes and the most legs that a call lends.
+-- The most bytes that a call lends.
 abbrev pub mostRoom : ℕ
 mostRoom = 1024
 
+-- The most legs that a call lends.
 abbrev pub mostLegs : ℕ
 mostLegs = 64
 
@@ -49,34 +50,41 @@ pairCall name a b =
     (choose (same name (text "write")) (only (isNumber mostRoom b) (Order.Write (valueOf a) (valueOf b)))
     (choose (same name (text "wire")) (only (isNumber mostLegs b) (Order.Wire (valueOf a) (valueOf b))) Order.NotACall)))
 
--- Four words: open SEAT JOB MAP, bare ROOM XS YS.
+-- Four words are an opening, open SEAT JOB MAP: each of its three is in its range.
 unfoldable pub isOpening : List ℕ → List ℕ → List ℕ → Bool
 isOpening a b c = both (isNumber most a) (both (isNumber mostJob b) (isMap c))
 
+-- Four words are a bare wiring, bare ROOM XS YS: each of its three is in its range.
 unfoldable pub isBaring : List ℕ → List ℕ → List ℕ → Bool
 isBaring a b c = both (isNumber mostLegs a) (both (isList b) (isList c))
 
+-- open SEAT JOB MAP, with the length of the map.
 unfoldable pub opening : List ℕ → List ℕ → List ℕ → Order
 opening a b c = only (isOpening a b c) (Order.Open (valueOf a) (valueOf b) (length (bytesOf c)))
 
+-- bare ROOM XS YS, with the lengths of the lists.
 unfoldable pub baring : List ℕ → List ℕ → List ℕ → Order
 baring a b c = only (isBaring a b c) (Order.Bare (valueOf a) (length (listed b)) (length (listed c)))
 
+-- Four words: open SEAT JOB MAP, bare ROOM XS YS.
 unfoldable pub lentCall : List ℕ → List ℕ → List ℕ → List ℕ → Order
 lentCall name a b c =
     choose (same name (text "open")) (opening a b c)
     (choose (same name (text "bare")) (baring a b c) Order.NotACall)
 
--- Five words: place SEAT PIN X Y, move SEAT PIN X Y.
+-- The four words after place or move, SEAT PIN X Y, are each in their range.
 unfoldable pub isPlacing : List ℕ → List ℕ → List ℕ → List ℕ → Bool
 isPlacing a b c d = both (isNumber most a) (both (isNumber most b) (both (isCoordinate c) (isCoordinate d)))
 
+-- The place of x and y.
 abbrev pub placeOf : List ℕ → List ℕ → Place
 placeOf c d = record { x = signed c; y = signed d }
 
+-- The seat, the pin and the place of four such words.
 unfoldable pub placingOf : List ℕ → List ℕ → List ℕ → List ℕ → Placing
 placingOf a b c d = choose (isPlacing a b c d) (Placing.Of (valueOf a) (valueOf b) (placeOf c d)) Placing.Unread
 
+-- Five words: place SEAT PIN X Y, move SEAT PIN X Y.
 unfoldable pub placeCall : List ℕ → List ℕ → List ℕ → List ℕ → List ℕ → Order
 placeCall name a b c d =
     only (isPlacing a b c d)
@@ -109,27 +117,31 @@ isLong line = ltb mostLine (length (withoutReturn line))
 unfoldable pub orderOf : List ℕ → Order
 orderOf line = choose (isLong line) Order.NotACall (asked (wordsOf (withoutReturn line)))
 
--- The bytes of the map, where words are an opening, and the lists of x and of y, where they are a bare wiring.
+-- The bytes of the map, where words are an opening.
 unfoldable pub mapIn : List ℕ → List ℕ → List ℕ → List ℕ → List ℕ
 mapIn name a b c = choose (both (same name (text "open")) (isOpening a b c)) (bytesOf c) []
 
+-- One of the two lists, where words are a bare wiring.
 unfoldable pub listIn : List ℕ → List ℕ → List ℕ → List ℕ → List ℕ → List ℤ
 listIn name a b c list = choose (both (same name (text "bare")) (isBaring a b c)) (listed list) []
 
--- Those of words; only calls of four words have them.
+-- The bytes of the map that words state; only calls of four words have one.
 unfoldable pub mapAsked : List (List ℕ) → List ℕ
 mapAsked words = choose (eqb (length words) 4) (mapIn (word 0 words) (word 1 words) (word 2 words) (word 3 words)) []
 
+-- The list that word k states; only calls of four words have one.
 unfoldable pub listAsked : ℕ → List (List ℕ) → List ℤ
 listAsked k words =
     choose (eqb (length words) 4) (listIn (word 0 words) (word 1 words) (word 2 words) (word 3 words) (word k words)) []
 
--- Those of a line.
+-- The bytes of the map that a line states.
 unfoldable pub mapOf : List ℕ → List ℕ
 mapOf line = choose (isLong line) [] (mapAsked (wordsOf (withoutReturn line)))
 
+-- The list of x that a line states.
 unfoldable pub acrossOf : List ℕ → List ℤ
 acrossOf line = choose (isLong line) [] (listAsked 2 (wordsOf (withoutReturn line)))
 
+-- The list of y that a line states.
 unfoldable pub upOf : List ℕ → List ℤ
 upOf line = choose (isLong line) [] (listAsked 3 (wordsOf (withoutReturn line)))

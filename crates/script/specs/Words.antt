@@ -18,12 +18,15 @@ newline = 10
 abbrev pub return : ℕ
 return = 13
 
+-- The byte between the numbers of a list.
 abbrev pub comma : ℕ
 comma = 44
 
+-- The byte before a number below 0; alone, it stands for nothing.
 abbrev pub minus : ℕ
 minus = 45
 
+-- The byte that begins a remark.
 abbrev pub hash : ℕ
 hash = 35
 
@@ -64,13 +67,15 @@ unfoldable pub spacesOf : List ℕ → ℕ
 spacesOf [] = 0
 spacesOf (b ∷ rest) = choose (eqb b space) (suc (spacesOf rest)) 0
 
--- Where the next word begins and ends, from a position on.
+-- Where the next word begins, from a position on.
 unfoldable pub startAt : List ℕ → ℕ → ℕ
 startAt line at = at + spacesOf (drop at line)
 
+-- Where a separator comes next, from a position on; the end where none does.
 unfoldable pub stopAt : ℕ → List ℕ → ℕ → ℕ
 stopAt s line at = at + indexOf s (drop at line)
 
+-- Where the next word begins and ends, from a position on.
 abbrev pub wordAt : List ℕ → ℕ → Span
 wordAt line at = record { from = startAt line at; to = stopAt space line (startAt line at) }
 
@@ -78,11 +83,12 @@ wordAt line at = record { from = startAt line at; to = stopAt space line (startA
 unfoldable pub partOf : List ℕ → Span → List ℕ
 partOf line s = take (s .to - s .from) (drop (s .from) line)
 
--- Where a line has been read to after some words, and where the word of a number stands.
+-- Where a line has been read to after so many words.
 unfoldable pub afterWords : ℕ → List ℕ → ℕ
 afterWords zero line = 0
 afterWords (suc k) line = stopAt space line (startAt line (afterWords k line))
 
+-- Where the word of a number stands, counted from 0.
 unfoldable pub spanOf : ℕ → List ℕ → Span
 spanOf k line = wordAt line (afterWords k line)
 
