@@ -8,7 +8,7 @@ use lib.IntN.{ℤ}
 use Rattle.refusal.specs.Refusals.{accepted}
 use Rattle.tree.proofs.Deciding.{decide}
 use Rattle.wiring.specs.Answer.{turnedAway}
-use Rattle.wiring.proofs.lent.Fitting.{wiring-fits}
+use Rattle.lent.proofs.Fitting.{wiring-fits}
 use Rattle.bare.specs.Bare.{feedOf, bareVerdict, bareOf}
 use Rattle.bare.proofs.Feeds.{feed-many}
 use Rattle.bare.proofs.Verdicts.{lengths-right, well, refused, wired}

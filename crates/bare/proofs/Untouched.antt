@@ -6,8 +6,9 @@ use Prim.Native.Nat.{ℕ}
 use lib.IntN.{ℤ}
 use Rattle.refusal.specs.Refusals.{accepted}
 use Rattle.copper.specs.declared.Leg.{Leg}
-use Rattle.wiring.specs.Answer.{wiringOf, filledWith}
-use Rattle.wiring.proofs.lent.Untouched.{Alone, turned-by, wiring-turned, untouched}
+use Rattle.wiring.specs.Answer.{wiringOf}
+use Rattle.lent.specs.Lent.{filledWith}
+use Rattle.lent.proofs.Untouched.{Alone, turned-by, wiring-turned, untouched}
 use Rattle.bare.specs.Bare.{feedOf, bareVerdict, bareOf}
 
 -- A refused answer is its verdict and nothing else.

@@ -2,18 +2,18 @@
 use copper::Leg;
 use grid::Place;
 use grid::Spot;
+use lent::fill;
+use lent::wiring_of;
 use refusal::Verdict;
 use wiring::Laid;
 use wiring::Wiring;
-use wiring::lent::fill;
-use wiring::lent::wiring_of;
 ghost use mathlib.Core.Path.{_≡_};
 ghost use Prim.Native.Nat.{_≤_, _<_};
 ghost use lib.ListN.{length, drop};
 ghost use Rattle.grid.specs.Place.{inside};
 ghost use Rattle.tree.specs.Growth.{placeOf, allInside};
 ghost use Rattle.wiring.specs.Crowding.{crowd, crowdAny, crowded};
-ghost use Rattle.wiring.specs.Answer.{filledWith};
+ghost use Rattle.lent.specs.Lent.{filledWith};
 ghost use Rattle.bare.specs.Bare.{pinAt, feedOf, wrongLengths, bareOf};
 
 // A drawing has up to this many pins.

@@ -15,8 +15,9 @@ use Rattle.drawing.specs.Pins.{feedOf}
 use Rattle.drawing.proofs.Rules.{feed-long}
 use Rattle.copper.specs.declared.Leg.{Leg}
 use Rattle.wiring.specs.declared.Laid.{Laid}
-use Rattle.wiring.specs.Answer.{wiringOf, turnedAway, filledWith}
-use Rattle.wiring.proofs.lent.Fitting.{wiring-fits}
+use Rattle.wiring.specs.Answer.{wiringOf, turnedAway}
+use Rattle.lent.specs.Lent.{filledWith}
+use Rattle.lent.proofs.Fitting.{wiring-fits}
 use Rattle.journal.specs.Journal.{seats}
 use Rattle.desk.specs.declared.Desk.{Desk}
 use Rattle.desk.specs.declared.Wired.{Wired}

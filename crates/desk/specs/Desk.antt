@@ -14,7 +14,8 @@ use Rattle.drawing.specs.Pins.{pins, absent, lawful, feedOf}
 use Rattle.drawing.specs.Edits.{made, unmade, placed, moved, removed}
 use Rattle.pinmap.specs.Map.{readMap, mapOf, written}
 use Rattle.copper.specs.declared.Leg.{Leg}
-use Rattle.wiring.specs.Answer.{wiringOf, turnedAway, filledWith}
+use Rattle.wiring.specs.Answer.{wiringOf, turnedAway}
+use Rattle.lent.specs.Lent.{filledWith}
 use Rattle.journal.specs.declared.Record.{Record}
 use Rattle.journal.specs.Journal.{seats, records, blank, noEdit, own, kept, added, filled, seated, replayable, takeableAll}
 use Rattle.desk.specs.declared.Seat.{Seat}

@@ -805,7 +805,7 @@ impl Desk {
     {
         let wired = self.wire(seat, legs.len());
         let laid = wired.laid;
-        wiring::lent::fill(laid, legs);
+        lent::fill(laid, legs);
         WiredSeat {
             desk: wired.desk,
             wiring: laid.wiring,

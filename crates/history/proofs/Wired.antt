@@ -15,8 +15,8 @@ use Rattle.copper.specs.declared.Shape.the-variants.{Straight}
 use Rattle.copper.specs.declared.Leg.{Leg}
 use Rattle.wiring.specs.declared.Wiring.{Wiring}
 use Rattle.wiring.specs.Answer.{shaped, runEntries, turnedAway, wiringOf}
-use Rattle.wiring.proofs.lent.Untouched.{Alone, turned-by, wiring-turned, untouched}
 use Rattle.wiring.proofs.Refusing.{laid-behind}
+use Rattle.lent.proofs.Untouched.{Alone, turned-by, wiring-turned, untouched}
 use Rattle.desk.specs.declared.Desk.{Desk}
 use Rattle.desk.specs.Calls.{wiring}
 use Rattle.desk.specs.Refusals.{turnedClosing, turnedWiring, verdictOf}

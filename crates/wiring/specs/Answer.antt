@@ -4,7 +4,7 @@ use mathlib.Core.List.{List, [], _∷_, _++_}
 use Prim.Native.Nat.{ℕ, _-_}
 use lib.IntN.{pos}
 use lib.Dec.{ltb}
-use lib.ListN.{length, take, drop, replicate}
+use lib.ListN.{length, replicate}
 use Rattle.refusal.specs.Tests.{choose}
 use Rattle.refusal.specs.Refusals.{accepted, turn}
 use Rattle.refusal.specs.declared.Verdict.{Verdict}
@@ -85,7 +85,3 @@ wiringFavouring favoured feed room = wiringWith feed (runsOf feed) (bestChoice f
 -- Lower before upper.
 unfoldable pub wiringOf : List Spot → ℕ → Laid
 wiringOf = wiringFavouring false
-
--- The list that was lent: its first entries are the legs, and entries after these keep what they held.
-unfoldable pub filledWith : Laid → List Leg → List Leg
-filledWith laid lent = take (laid .wiring .legs) (laid .legs) ++ drop (laid .wiring .legs) lent

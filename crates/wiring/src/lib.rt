@@ -1,6 +1,4 @@
-// Wiring: the best shapes of the runs, the answer, choices weighed, and the legs that a host lends.
-pub mod lent;
-
+// Wiring: the best shapes of the runs, the answer with its legs, and the choices weighed.
 use copper::Leg;
 use copper::Shape;
 use grid::Place;

@@ -42,7 +42,7 @@ use Rattle.copper.specs.declared.Leg.{Leg}
 use Rattle.copper.proofs.Leg as T
 use Rattle.wiring.specs.declared.Laid.{Laid}
 use Rattle.wiring.specs.declared.Wiring.{Wiring}
-use Rattle.wiring.specs.Answer.{filledWith}
+use Rattle.lent.specs.Lent.{filledWith}
 use Rattle.bare.specs.Bare.{bareOf}
 use Rattle.bare.proofs.Fitting.{bare-fits}
 use Rattle.wiring.proofs.Laid as S
@@ -53,14 +53,14 @@ use Rattle.bare.proofs.wire_bare as wire
 use Rattle.bare.proofs.wire_bare.Symbol as wire-def
 use Rattle.bare.proofs.wire_bare.Symbol.{name as #wire-bare}
 use Rattle.bare.proofs.wire_bare.Met as wire-thm
-use Rattle.wiring.proofs.lent.fill as fill
-use Rattle.wiring.proofs.lent.fill.Symbol as fill-def
-use Rattle.wiring.proofs.lent.fill.Symbol.{name as #fill}
-use Rattle.wiring.proofs.lent.fill.Met as fill-thm
-use Rattle.wiring.proofs.lent.wiring_of as part
-use Rattle.wiring.proofs.lent.wiring_of.Symbol as part-def
-use Rattle.wiring.proofs.lent.wiring_of.Symbol.{name as #wiring-of}
-use Rattle.wiring.proofs.lent.wiring_of.Met as part-thm
+use Rattle.lent.proofs.fill as fill
+use Rattle.lent.proofs.fill.Symbol as fill-def
+use Rattle.lent.proofs.fill.Symbol.{name as #fill}
+use Rattle.lent.proofs.fill.Met as fill-thm
+use Rattle.lent.proofs.wiring_of as part
+use Rattle.lent.proofs.wiring_of.Symbol as part-def
+use Rattle.lent.proofs.wiring_of.Symbol.{name as #wiring-of}
+use Rattle.lent.proofs.wiring_of.Met as part-thm
 use Rattle.bare.proofs.wire_lent.Key.{name as #wire-lent}
 use Rattle.bare.proofs.wire_lent as f
 use Rattle.bare.proofs.wire_lent.Statement as stated
@@ -248,5 +248,5 @@ wire-lent-spec 𝓤 H 𝓜 𝓖 𝓡 =
     (tables 𝓤 H 𝓜 𝓡 code.env .C) (tables 𝓤 H 𝓜 𝓡 code.env .Λ) #wire-lent code.function (code.unfolded 𝓤 H 𝓜 𝓡)
     (lent-meets 𝓤 H (𝓖 .A) (givenOf 𝓤 H 𝓜 𝓖) (𝓜 .mem) (𝓡 .run) (tablesOf 𝓤 H 𝓜 (tables 𝓤 H 𝓜 𝓡 code.env))
     (cited 𝓤 H (Wire 𝓤 H (𝓖 .A) (𝓜 .mem) (𝓡 .run)) 𝓜 𝓡 code.env #wire-bare wire-def.routine code.calls-bare·wire-bare (wire-thm.met 𝓤 H 𝓜 𝓖 𝓡))
-    (cited 𝓤 H (Fill 𝓤 H (𝓖 .A) (𝓜 .mem) (𝓡 .run)) 𝓜 𝓡 code.env #fill fill-def.routine code.calls-wiring·lent·fill (fill-thm.met 𝓤 H 𝓜 𝓖 𝓡))
-    (cited 𝓤 H (Part 𝓤 H (𝓖 .A) (𝓜 .mem) (𝓡 .run)) 𝓜 𝓡 code.env #wiring-of part-def.routine code.calls-wiring·lent·wiring-of (part-thm.met 𝓤 H 𝓜 𝓖 𝓡)))
+    (cited 𝓤 H (Fill 𝓤 H (𝓖 .A) (𝓜 .mem) (𝓡 .run)) 𝓜 𝓡 code.env #fill fill-def.routine code.calls-lent·fill (fill-thm.met 𝓤 H 𝓜 𝓖 𝓡))
+    (cited 𝓤 H (Part 𝓤 H (𝓖 .A) (𝓜 .mem) (𝓡 .run)) 𝓜 𝓡 code.env #wiring-of part-def.routine code.calls-lent·wiring-of (part-thm.met 𝓤 H 𝓜 𝓖 𝓡)))

@@ -43,15 +43,15 @@ use denote.Exit.{yes}
 use Rattle.copper.specs.declared.Leg.{Leg}
 use Rattle.copper.proofs.Leg as T
 use Rattle.wiring.specs.declared.Laid.{Laid}
-use Rattle.wiring.specs.Answer.{filledWith}
+use Rattle.lent.specs.Lent.{filledWith}
 use Rattle.wiring.proofs.Laid as L
 use Rattle.wiring.proofs.Laid.Laws as L′
 use Rattle.wiring.proofs.Wiring as G
 use Rattle.wiring.proofs.Wiring.Laws as G′
-use Rattle.wiring.proofs.lent.fill as fill
-use Rattle.wiring.proofs.lent.fill.Symbol as fill-def
-use Rattle.wiring.proofs.lent.fill.Symbol.{name as #fill}
-use Rattle.wiring.proofs.lent.fill.Met as fill-thm
+use Rattle.lent.proofs.fill as fill
+use Rattle.lent.proofs.fill.Symbol as fill-def
+use Rattle.lent.proofs.fill.Symbol.{name as #fill}
+use Rattle.lent.proofs.fill.Met as fill-thm
 use Rattle.desk.specs.declared.Desk.{Desk}
 use Rattle.desk.specs.declared.Wired.{Wired}
 use Rattle.desk.specs.declared.WiredSeat.{WiredSeat}
@@ -277,4 +277,4 @@ wire-lent-spec 𝓤 H 𝓜 𝓖 𝓡 =
     (tables 𝓤 H 𝓜 𝓡 code.env .C) (tables 𝓤 H 𝓜 𝓡 code.env .Λ) #wire-lent code.function (code.unfolded 𝓤 H 𝓜 𝓡)
     (wire-lent-meets 𝓤 H (𝓖 .A) (givenOf 𝓤 H 𝓜 𝓖) (𝓜 .mem) (𝓡 .run) (tablesOf 𝓤 H 𝓜 (tables 𝓤 H 𝓜 𝓡 code.env))
     (cited 𝓤 H (Wire 𝓤 H (𝓖 .A) (𝓜 .mem) (𝓡 .run)) 𝓜 𝓡 code.env #wire wire-def.routine code.calls-desk·Desk·wire (wire-thm.met 𝓤 H 𝓜 𝓖 𝓡))
-    (cited 𝓤 H (Fill 𝓤 H (𝓖 .A) (𝓜 .mem) (𝓡 .run)) 𝓜 𝓡 code.env #fill fill-def.routine code.calls-wiring·lent·fill (fill-thm.met 𝓤 H 𝓜 𝓖 𝓡)))
+    (cited 𝓤 H (Fill 𝓤 H (𝓖 .A) (𝓜 .mem) (𝓡 .run)) 𝓜 𝓡 code.env #fill fill-def.routine code.calls-lent·fill (fill-thm.met 𝓤 H 𝓜 𝓖 𝓡)))

@@ -6,8 +6,9 @@ use native.Mathlib.Omega.{arith}
 use lib.ListN.{length, getD, set, length-append, length-take, length-drop}
 use Rattle.copper.specs.declared.Leg.{Leg}
 use Rattle.tree.proofs.Loops.{filled, filled-turn}
 use Rattle.wiring.specs.declared.Laid.{Laid}
-use Rattle.wiring.specs.Answer.{noLeg, filledWith}
+use Rattle.wiring.specs.Answer.{noLeg}
+use Rattle.lent.specs.Lent.{filledWith}
 
 -- Filling changes no length.
 pub filled-many : {A : Type 0} (t l : List A) (i : ℕ) → i ≤ length t → i ≤ length l → length (filled t l i) ≡ length l

@@ -1,11 +1,12 @@
 // The list of legs that a host lends: filled with the legs of an answer, later entries unchanged.
-use crate::Laid;
-use crate::Wiring;
 use copper::Leg;
+use wiring::Laid;
+use wiring::Wiring;
 ghost use mathlib.Core.Path.{_≡_};
 ghost use Prim.Native.Nat.{_≤_, _<_};
 ghost use lib.ListN.{length, getD};
-ghost use Rattle.wiring.specs.Answer.{noLeg, filledWith};
+ghost use Rattle.wiring.specs.Answer.{noLeg};
+ghost use Rattle.lent.specs.Lent.{filledWith};
 
 // How many legs an answer has.
 fn count_of(laid: Laid) -> usize

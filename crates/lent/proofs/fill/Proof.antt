@@ -1,4 +1,4 @@
--- `wiring::lent::fill` meets its contract: a walk of its MIR, by hand. The list is opened before the loop and closed after it; at each turn it is filled with one leg more.
+-- `lent::fill` meets its contract: a walk of its MIR, by hand. The list is opened before the loop and closed after it; at each turn it is filled with one leg more.
 -- Assumes nothing.
 use mathlib.Core.Path.{_≡_, refl, sym, _∙_, ap, subst}
 use mathlib.Core.Bool.{Bool, true, false}
@@ -51,23 +51,23 @@ use Rattle.copper.specs.declared.Leg.{Leg}
 use Rattle.copper.proofs.Leg as T
 use Rattle.copper.proofs.Leg.Laws as T′
 use Rattle.tree.proofs.Loops.{filled, filled-none}
 use Rattle.wiring.specs.declared.Laid.{Laid}
 use Rattle.wiring.specs.Answer.{noLeg}
-use Rattle.wiring.proofs.lent.Filling.{filled-many, leg-more, legs-all}
+use Rattle.lent.proofs.Filling.{filled-many, leg-more, legs-all}
 use Rattle.wiring.proofs.Laid as S
 use Rattle.wiring.proofs.Laid.Laws as S′
-use Rattle.wiring.proofs.lent.count_of as count′
-use Rattle.wiring.proofs.lent.count_of.Symbol as count-def
-use Rattle.wiring.proofs.lent.count_of.Symbol.{name as #count-of}
-use Rattle.wiring.proofs.lent.count_of.Met as count-thm
-use Rattle.wiring.proofs.lent.leg_at as leg′
-use Rattle.wiring.proofs.lent.leg_at.Symbol as leg-def
-use Rattle.wiring.proofs.lent.leg_at.Symbol.{name as #leg-at}
-use Rattle.wiring.proofs.lent.leg_at.Met as leg-thm
-use Rattle.wiring.proofs.lent.fill.Key.{name as #fill}
-use Rattle.wiring.proofs.lent.fill as f
-use Rattle.wiring.proofs.lent.fill.Statement as stated
-use Rattle.wiring.proofs.lent.fill.Code as code
+use Rattle.lent.proofs.count_of as count′
+use Rattle.lent.proofs.count_of.Symbol as count-def
+use Rattle.lent.proofs.count_of.Symbol.{name as #count-of}
+use Rattle.lent.proofs.count_of.Met as count-thm
+use Rattle.lent.proofs.leg_at as leg′
+use Rattle.lent.proofs.leg_at.Symbol as leg-def
+use Rattle.lent.proofs.leg_at.Symbol.{name as #leg-at}
+use Rattle.lent.proofs.leg_at.Met as leg-thm
+use Rattle.lent.proofs.fill.Key.{name as #fill}
+use Rattle.lent.proofs.fill as f
+use Rattle.lent.proofs.fill.Statement as stated
+use Rattle.lent.proofs.fill.Code as code
 
 abbrev stayed : Stays (f.ended .signature .params) (f.ended .kept)
 stayed = (stay-none (λ _. S.the-row) yes, (stay-slice (0 ∷ []) tt (plain (λ _. T.the-row)), tt))
@@ -300,5 +300,5 @@ fill-spec 𝓤 H 𝓜 𝓖 𝓡 =
     entered 𝓤 H (tripleOf 𝓤 H (𝓖 .A) f.signature (f.spec 𝓤 H (𝓖 .A) (𝓜 .mem) (𝓡 .run)))
     (tables 𝓤 H 𝓜 𝓡 code.env .C) (tables 𝓤 H 𝓜 𝓡 code.env .Λ) #fill code.function (code.unfolded 𝓤 H 𝓜 𝓡)
     (fill-meets 𝓤 H (𝓖 .A) (givenOf 𝓤 H 𝓜 𝓖) (𝓜 .mem) (𝓡 .run) (tablesOf 𝓤 H 𝓜 (tables 𝓤 H 𝓜 𝓡 code.env))
-    (cited 𝓤 H (CountOf 𝓤 H (𝓖 .A) (𝓜 .mem) (𝓡 .run)) 𝓜 𝓡 code.env #count-of count-def.routine code.calls-wiring·lent·count-of (count-thm.met 𝓤 H 𝓜 𝓖 𝓡))
-    (cited 𝓤 H (LegAt 𝓤 H (𝓖 .A) (𝓜 .mem) (𝓡 .run)) 𝓜 𝓡 code.env #leg-at leg-def.routine code.calls-wiring·lent·leg-at (leg-thm.met 𝓤 H 𝓜 𝓖 𝓡)))
+    (cited 𝓤 H (CountOf 𝓤 H (𝓖 .A) (𝓜 .mem) (𝓡 .run)) 𝓜 𝓡 code.env #count-of count-def.routine code.calls-lent·count-of (count-thm.met 𝓤 H 𝓜 𝓖 𝓡))
+    (cited 𝓤 H (LegAt 𝓤 H (𝓖 .A) (𝓜 .mem) (𝓡 .run)) 𝓜 𝓡 code.env #leg-at leg-def.routine code.calls-lent·leg-at (leg-thm.met 𝓤 H 𝓜 𝓖 𝓡)))

@@ -11,9 +11,10 @@ use Rattle.tree.specs.declared.Run.{Run}
 use Rattle.tree.specs.Growth.{runsOf}
 use Rattle.copper.specs.declared.Shape.{Shape}
 use Rattle.copper.specs.declared.Leg.{Leg}
 use Rattle.wiring.specs.declared.Laid.{Laid}
 use Rattle.wiring.specs.Choices.{bestChoice}
-use Rattle.wiring.specs.Answer.{laidWith, answerWith, turnedAway, wiringVerdict, wiringWith, wiringFavouring, wiringOf, filledWith}
+use Rattle.wiring.specs.Answer.{laidWith, answerWith, turnedAway, wiringVerdict, wiringWith, wiringFavouring, wiringOf}
+use Rattle.lent.specs.Lent.{filledWith}
 
 -- An answer that is refused is its verdict and nothing else.
 abbrev pub Alone : Laid → Type 0

@@ -1,0 +1,2 @@
+-- What is said of a lent list.
+pub mod Lent
