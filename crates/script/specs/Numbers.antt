@@ -11,19 +11,19 @@ use Rattle.script.specs.Words.{minus, comma, pieces}
 use Rattle.script.specs.declared.Number.{Number}
 use Rattle.script.specs.declared.Coordinate.{Coordinate}
 
--- Seats and pins go from 0 to 4294967295.
+-- Seats and pins go to 4,294,967,295.
 abbrev pub most : ℕ
 most = 4294967295
 
--- Jobs go from 0 to 65535.
+-- Jobs go to 65,535.
 abbrev pub mostJob : ℕ
 mostJob = 65535
 
--- x and y go up to 2147483647.
+-- x and y go up to 2,147,483,647.
 abbrev pub mostAbove : ℕ
 mostAbove = 2147483647
 
--- x and y go down to -2147483648.
+-- x and y go down to -2,147,483,648.
 abbrev pub mostBelow : ℕ
 mostBelow = 2147483648
 
@@ -31,7 +31,7 @@ mostBelow = 2147483648
 abbrev pub beyond : ℕ
 beyond = 4294967296
 
--- A map has one to 4,200 bytes.
+-- A map has up to 4,200 bytes.
 abbrev pub mostBytes : ℕ
 mostBytes = 4200
 
@@ -47,7 +47,7 @@ between low high b = both (leb low b) (leb b high)
 abbrev pub isDigit : ℕ → Bool
 isDigit b = between 48 57 b
 
--- Every byte is a digit.
+-- Every byte of a word is a digit.
 unfoldable pub allDigits : List ℕ → Bool
 allDigits [] = true
 allDigits (b ∷ rest) = both (isDigit b) (allDigits rest)
@@ -57,7 +57,7 @@ unfoldable pub valueFrom : ℕ → List ℕ → ℕ
 valueFrom v [] = v
 valueFrom v (b ∷ rest) = valueFrom (v * 10 + (b - 48)) rest
 
--- What digits come to.
+-- What the digits of a word come to.
 abbrev pub valueOf : List ℕ → ℕ
 valueOf w = valueFrom 0 w
 
@@ -77,7 +77,7 @@ hasMinus w = eqb (getD w 0 0) minus
 unfoldable pub isCoordinate : List ℕ → Bool
 isCoordinate w = choose (hasMinus w) (isNumber mostBelow (drop 1 w)) (isNumber mostAbove w)
 
--- What a number with one minus before it, or none, comes to.
+-- What a word with one minus before it or none comes to.
 unfoldable pub signed : List ℕ → ℤ
 signed w = choose (hasMinus w) (negℤ (pos (valueOf (drop 1 w)))) (pos (valueOf w))
 
@@ -89,28 +89,28 @@ coordinateOf w = choose (isCoordinate w) (Coordinate.At (signed w)) Coordinate.U
 abbrev pub none : List ℕ
 none = text "-"
 
--- Every piece is a number for x or y.
+-- Every one of some words is such a number.
 unfoldable pub allCoordinates : List (List ℕ) → Bool
 allCoordinates [] = true
 allCoordinates (w ∷ rest) = both (isCoordinate w) (allCoordinates rest)
 
--- The numbers of a list: none for a single minus, else those between the commas.
+-- The numbers that a list holds; none where it is a single minus.
 unfoldable pub listed : List ℕ → List ℤ
 listed w = choose (same w none) [] (map signed (pieces comma w))
 
--- Numbers separated by single commas, up to 40 of them.
+-- Numbers separated by single commas, up to 40.
 unfoldable pub isRow : List ℕ → Bool
 isRow w = both (allCoordinates (pieces comma w)) (leb (length (pieces comma w)) mostNumbers)
 
--- A list of numbers is such a row, or - for none.
+-- A list: none, or such numbers.
 unfoldable pub isList : List ℕ → Bool
 isList w = either (same w none) (isRow w)
 
--- The hex digits a to f.
+-- A small letter from a to f.
 abbrev pub isSmall : ℕ → Bool
 isSmall b = between 97 102 b
 
--- The hex digits A to F.
+-- A capital letter from A to F.
 abbrev pub isCapital : ℕ → Bool
 isCapital b = between 65 70 b
 
@@ -122,7 +122,7 @@ isHex b = either (isDigit b) (either (isSmall b) (isCapital b))
 unfoldable pub hexValue : ℕ → ℕ
 hexValue b = choose (isDigit b) (b - 48) (choose (isSmall b) (b - 87) (choose (isCapital b) (b - 55) 0))
 
--- Pairs of hex digits, and no digit over.
+-- Bytes that are pairs of hex digits.
 unfoldable pub allPairs : List ℕ → Bool
 allPairs [] = true
 allPairs (a ∷ []) = false

@@ -50,19 +50,19 @@ pairCall name a b =
     (choose (same name (text "write")) (only (isNumber mostRoom b) (Order.Write (valueOf a) (valueOf b)))
     (choose (same name (text "wire")) (only (isNumber mostLegs b) (Order.Wire (valueOf a) (valueOf b))) Order.NotACall)))
 
--- Four words are an opening, open SEAT JOB MAP: each of its three is in its range.
+-- The words after open are a seat, a job and a map.
 unfoldable pub isOpening : List ℕ → List ℕ → List ℕ → Bool
 isOpening a b c = both (isNumber most a) (both (isNumber mostJob b) (isMap c))
 
--- Four words are a bare wiring, bare ROOM XS YS: each of its three is in its range.
+-- The words after bare are a room and two lists.
 unfoldable pub isBaring : List ℕ → List ℕ → List ℕ → Bool
 isBaring a b c = both (isNumber mostLegs a) (both (isList b) (isList c))
 
--- open SEAT JOB MAP, with the length of the map.
+-- open SEAT JOB MAP.
 unfoldable pub opening : List ℕ → List ℕ → List ℕ → Order
 opening a b c = only (isOpening a b c) (Order.Open (valueOf a) (valueOf b) (length (bytesOf c)))
 
--- bare ROOM XS YS, with the lengths of the lists.
+-- bare ROOM XS YS.
 unfoldable pub baring : List ℕ → List ℕ → List ℕ → Order
 baring a b c = only (isBaring a b c) (Order.Bare (valueOf a) (length (listed b)) (length (listed c)))
 
@@ -72,15 +72,15 @@ lentCall name a b c =
     choose (same name (text "open")) (opening a b c)
     (choose (same name (text "bare")) (baring a b c) Order.NotACall)
 
--- The four words after place or move, SEAT PIN X Y, are each in their range.
+-- Four words are a seat, a pin, an x and a y.
 unfoldable pub isPlacing : List ℕ → List ℕ → List ℕ → List ℕ → Bool
 isPlacing a b c d = both (isNumber most a) (both (isNumber most b) (both (isCoordinate c) (isCoordinate d)))
 
--- The place of x and y.
+-- The place of an x and a y.
 abbrev pub placeOf : List ℕ → List ℕ → Place
 placeOf c d = record { x = signed c; y = signed d }
 
--- The seat, the pin and the place of four such words.
+-- Four words read as a seat, a pin and a place, where they are that.
 unfoldable pub placingOf : List ℕ → List ℕ → List ℕ → List ℕ → Placing
 placingOf a b c d = choose (isPlacing a b c d) (Placing.Of (valueOf a) (valueOf b) (placeOf c d)) Placing.Unread
 
@@ -121,27 +121,27 @@ orderOf line = choose (isLong line) Order.NotACall (asked (wordsOf (withoutRetur
 unfoldable pub mapIn : List ℕ → List ℕ → List ℕ → List ℕ → List ℕ
 mapIn name a b c = choose (both (same name (text "open")) (isOpening a b c)) (bytesOf c) []
 
--- One of the two lists, where words are a bare wiring.
+-- The numbers of a list, where words are a bare wiring.
 unfoldable pub listIn : List ℕ → List ℕ → List ℕ → List ℕ → List ℕ → List ℤ
 listIn name a b c list = choose (both (same name (text "bare")) (isBaring a b c)) (listed list) []
 
--- The bytes of the map that words state; only calls of four words have one.
+-- The bytes of the map in words; only calls of four words have one.
 unfoldable pub mapAsked : List (List ℕ) → List ℕ
 mapAsked words = choose (eqb (length words) 4) (mapIn (word 0 words) (word 1 words) (word 2 words) (word 3 words)) []
 
--- The list that word k states; only calls of four words have one.
+-- The numbers of the list that is the word of a number; only calls of four words have one.
 unfoldable pub listAsked : ℕ → List (List ℕ) → List ℤ
 listAsked k words =
     choose (eqb (length words) 4) (listIn (word 0 words) (word 1 words) (word 2 words) (word 3 words) (word k words)) []
 
--- The bytes of the map that a line states.
+-- The bytes of the map in a line.
 unfoldable pub mapOf : List ℕ → List ℕ
 mapOf line = choose (isLong line) [] (mapAsked (wordsOf (withoutReturn line)))
 
--- The list of x that a line states.
+-- The list of x in a line.
 unfoldable pub acrossOf : List ℕ → List ℤ
 acrossOf line = choose (isLong line) [] (listAsked 2 (wordsOf (withoutReturn line)))
 
--- The list of y that a line states.
+-- The list of y in a line.
 unfoldable pub upOf : List ℕ → List ℤ
 upOf line = choose (isLong line) [] (listAsked 3 (wordsOf (withoutReturn line)))

@@ -8,25 +8,27 @@ use Rattle.refusal.specs.Tests.{choose}
 use Rattle.script.specs.declared.Span.{Span}
 use Rattle.script.specs.declared.Cut.{Cut}
 
--- Bytes with a meaning of their own: space, newline, carriage return, comma, minus, and the sign before a remark.
+-- The byte of a space.
 abbrev pub space : ℕ
 space = 32
 
+-- The byte of a newline.
 abbrev pub newline : ℕ
 newline = 10
 
+-- The byte of a carriage return.
 abbrev pub return : ℕ
 return = 13
 
--- The byte between the numbers of a list.
+-- The byte of a comma.
 abbrev pub comma : ℕ
 comma = 44
 
--- The byte before a number below 0; alone, it stands for nothing.
+-- The byte of a minus.
 abbrev pub minus : ℕ
 minus = 45
 
--- The byte that begins a remark.
+-- The byte of the sign before a remark.
 abbrev pub hash : ℕ
 hash = 35
 
@@ -71,7 +73,7 @@ spacesOf (b ∷ rest) = choose (eqb b space) (suc (spacesOf rest)) 0
 unfoldable pub startAt : List ℕ → ℕ → ℕ
 startAt line at = at + spacesOf (drop at line)
 
--- Where a separator comes next, from a position on; the end where none does.
+-- Where the next separator stands, from a position on.
 unfoldable pub stopAt : ℕ → List ℕ → ℕ → ℕ
 stopAt s line at = at + indexOf s (drop at line)
 
@@ -88,7 +90,7 @@ unfoldable pub afterWords : ℕ → List ℕ → ℕ
 afterWords zero line = 0
 afterWords (suc k) line = stopAt space line (startAt line (afterWords k line))
 
--- Where the word of a number stands, counted from 0.
+-- Where the word of a number stands.
 unfoldable pub spanOf : ℕ → List ℕ → Span
 spanOf k line = wordAt line (afterWords k line)
 

@@ -13,7 +13,12 @@ put-decimal-requires : tie.Need-put-decimal-requires
 put-decimal-requires c κs = search needs
 
 returns : tie.Need-returns
-returns c = ((then-put (c .before .before .before .before .before .args .out .now) (c .before .before .before .before .before .args .at) (c .before .before .before .before .before .args .label .now) (decimal (c .before .before .before .before .before .args .n)) (c .before .before .put .ensures) (c .put-decimal .ensures .0 .0, c .put-decimal .ensures .1) .0, omega (arith, c .before .before .put .ensures .0)), then-put (c .before .before .before .before .before .args .out .now) (c .before .before .before .before .before .args .at) (c .before .before .before .before .before .args .label .now) (decimal (c .before .before .before .before .before .args .n)) (c .before .before .put .ensures) (c .put-decimal .ensures .0 .0, c .put-decimal .ensures .1) .1)
+returns c =
+    let s = c .before .before .before .before .before .args in
+    let a = c .before .before .put .ensures in
+    let b = c .put-decimal .ensures in
+    let h = then-put (s .out .now) (s .at) (s .label .now) (decimal (s .n)) a (b .0 .0, b .1) in
+    ((h .0, omega (arith, a .0)), h .1)
 
 pub put-field-spec : {M : Type 1} → statement M
 put-field-spec = tie.close (tie.spec put-requires put-decimal-requires returns)

@@ -25,7 +25,16 @@ put-field-requires : tie.Need-put-field-requires
 put-field-requires c κs = search needs
 
 returns : tie.Need-returns
-returns c = (((then-put (c .before .before .before .before .before .before .before .before .args .out .now) (c .before .before .before .before .before .before .before .before .args .at) (c .before .before .before .before .before .before .before .before .args .label .now) (integer (c .before .before .before .before .before .before .before .before .args .z)) (c .before .before .before .before .before .put .ensures) (put-as (c .before .before .before .before .before .put .last .0) (c .before .before .before .before .before .put .result) (ap (λ (n : ℕ). text "-" ++ decimal n) (c .before .magnitude .ensures ∙ ap natAbs (held (c .before .before .before .before .before .before .before .before .args .z) (c .before .before .before .before .before .before .before .before .fits .z .sfits))) ∙ integer-below (c .before .before .before .before .before .before .before .before .args .z) (c .before .before .before .before .before .before .before .before .fits .z) (c .before .before .before .before .if1 .taken)) (c .put-field .ensures .0 .0, c .put-field .ensures .1))) .0, omega (arith, c .before .before .before .before .before .put .ensures .0, c .put-field .ensures .0 .1)), (then-put (c .before .before .before .before .before .before .before .before .args .out .now) (c .before .before .before .before .before .before .before .before .args .at) (c .before .before .before .before .before .before .before .before .args .label .now) (integer (c .before .before .before .before .before .before .before .before .args .z)) (c .before .before .before .before .before .put .ensures) (put-as (c .before .before .before .before .before .put .last .0) (c .before .before .before .before .before .put .result) (ap (λ (n : ℕ). text "-" ++ decimal n) (c .before .magnitude .ensures ∙ ap natAbs (held (c .before .before .before .before .before .before .before .before .args .z) (c .before .before .before .before .before .before .before .before .fits .z .sfits))) ∙ integer-below (c .before .before .before .before .before .before .before .before .args .z) (c .before .before .before .before .before .before .before .before .fits .z) (c .before .before .before .before .if1 .taken)) (c .put-field .ensures .0 .0, c .put-field .ensures .1))) .1)
+returns c =
+    let s = c .before .before .before .before .before .before .before .before .args in
+    let f = c .before .before .before .before .before .before .before .before .fits .z in
+    let p = c .before .before .before .before .before .put in
+    let b = c .put-field .ensures in
+    let z = c .before .magnitude .ensures ∙ ap natAbs (held (s .z) (f .sfits)) in
+    let h =
+    then-put (s .out .now) (s .at) (s .label .now) (integer (s .z)) (p .ensures)
+    (put-as (p .last .0) (p .result) (ap (λ (n : ℕ). text "-" ++ decimal n) z ∙ integer-below (s .z) f (c .before .before .before .before .if1 .taken)) (b .0 .0, b .1)) in
+    ((h .0, omega (arith, p .ensures .0, b .0 .1)), h .1)
 
 magnitude-requires-2 : tie.Need-magnitude-requires-2
 magnitude-requires-2 c κs = search needs
@@ -34,7 +43,16 @@ put-decimal-requires : tie.Need-put-decimal-requires
 put-decimal-requires c κs = search needs
 
 returns-2 : tie.Need-returns-2
-returns-2 c = (((then-put (c .before .before .before .before .before .before .before .args .out .now) (c .before .before .before .before .before .before .before .args .at) (c .before .before .before .before .before .before .before .args .label .now) (integer (c .before .before .before .before .before .before .before .args .z)) (c .before .before .before .before .put .ensures) (put-as (c .before .before .before .before .put .last .0) (c .before .before .before .before .put .result) (ap (λ (n : ℕ). decimal n) (c .before .magnitude2 .ensures ∙ ap natAbs (held (c .before .before .before .before .before .before .before .args .z) (c .before .before .before .before .before .before .before .fits .z .sfits))) ∙ integer-above (c .before .before .before .before .before .before .before .args .z) (c .before .before .before .before .before .before .before .fits .z) (c .before .before .before .if1 .left)) (c .put-decimal .ensures .0 .0, c .put-decimal .ensures .1))) .0, omega (arith, c .before .before .before .before .put .ensures .0, c .put-decimal .ensures .0 .1)), (then-put (c .before .before .before .before .before .before .before .args .out .now) (c .before .before .before .before .before .before .before .args .at) (c .before .before .before .before .before .before .before .args .label .now) (integer (c .before .before .before .before .before .before .before .args .z)) (c .before .before .before .before .put .ensures) (put-as (c .before .before .before .before .put .last .0) (c .before .before .before .before .put .result) (ap (λ (n : ℕ). decimal n) (c .before .magnitude2 .ensures ∙ ap natAbs (held (c .before .before .before .before .before .before .before .args .z) (c .before .before .before .before .before .before .before .fits .z .sfits))) ∙ integer-above (c .before .before .before .before .before .before .before .args .z) (c .before .before .before .before .before .before .before .fits .z) (c .before .before .before .if1 .left)) (c .put-decimal .ensures .0 .0, c .put-decimal .ensures .1))) .1)
+returns-2 c =
+    let s = c .before .before .before .before .before .before .before .args in
+    let f = c .before .before .before .before .before .before .before .fits .z in
+    let p = c .before .before .before .before .put in
+    let b = c .put-decimal .ensures in
+    let z = c .before .magnitude2 .ensures ∙ ap natAbs (held (s .z) (f .sfits)) in
+    let h =
+    then-put (s .out .now) (s .at) (s .label .now) (integer (s .z)) (p .ensures)
+    (put-as (p .last .0) (p .result) (ap (λ (n : ℕ). decimal n) z ∙ integer-above (s .z) f (c .before .before .before .if1 .left)) (b .0 .0, b .1)) in
+    ((h .0, omega (arith, p .ensures .0, b .0 .1)), h .1)
 
 pub put-integer-spec : {M : Type 1} → statement M
 put-integer-spec =

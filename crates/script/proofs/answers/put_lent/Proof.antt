@@ -11,7 +11,10 @@ use Rattle.script.proofs.answers.put_lent.Statement.{statement}
 use Rattle.script.proofs.answers.put_lent.Tie as tie
 
 returns : tie.Need-returns
-returns c = ((omega (arith, ap length (lent-none (c .before .before .args .bytes .now) (c .if1 .taken))), omega arith), ap (sets (c .before .before .args .out .now) (c .before .before .args .at)) (lent-none (c .before .before .args .bytes .now) (c .if1 .taken)))
+returns c =
+    let s = c .before .before .args in
+    let e = lent-none (s .bytes .now) (c .if1 .taken) in
+    ((omega (arith, ap length e), omega arith), ap (sets (s .out .now) (s .at)) e)
 
 slice-aggregate-put : tie.Need-slice-aggregate-put
 slice-aggregate-put c = search needs
@@ -23,7 +26,14 @@ put-hex-requires : tie.Need-put-hex-requires
 put-hex-requires c κs = omega (arith, c .before .put .ensures .0)
 
 returns-2 : tie.Need-returns-2
-returns-2 c = (((put-as (c .before .before .before .before .before .before .before .args .out .now) (c .before .before .before .before .before .before .before .args .at) (lent-some (c .before .before .before .before .before .before .before .args .bytes .now) (c .before .before .before .before .before .if1 .left)) (then-put (c .before .before .before .before .before .before .before .args .out .now) (c .before .before .before .before .before .before .before .args .at) (text " ") (hex (c .before .before .before .before .before .before .before .args .bytes .now)) (c .before .before .put .ensures) (c .put-hex .ensures .0 .0, c .put-hex .ensures .1))) .0, omega (arith, c .before .before .put .ensures .0, c .put-hex .ensures .0 .1)), (put-as (c .before .before .before .before .before .before .before .args .out .now) (c .before .before .before .before .before .before .before .args .at) (lent-some (c .before .before .before .before .before .before .before .args .bytes .now) (c .before .before .before .before .before .if1 .left)) (then-put (c .before .before .before .before .before .before .before .args .out .now) (c .before .before .before .before .before .before .before .args .at) (text " ") (hex (c .before .before .before .before .before .before .before .args .bytes .now)) (c .before .before .put .ensures) (c .put-hex .ensures .0 .0, c .put-hex .ensures .1))) .1)
+returns-2 c =
+    let s = c .before .before .before .before .before .before .before .args in
+    let a = c .before .before .put .ensures in
+    let b = c .put-hex .ensures in
+    let h =
+    put-as (s .out .now) (s .at) (lent-some (s .bytes .now) (c .before .before .before .before .before .if1 .left))
+    (then-put (s .out .now) (s .at) (text " ") (hex (s .bytes .now)) a (b .0 .0, b .1)) in
+    ((h .0, omega (arith, a .0, b .0 .1)), h .1)
 
 pub put-lent-spec : {M : Type 1} → statement M
 put-lent-spec =
