@@ -1,5 +1,5 @@
 -- The rows of bare wiring before the pins are wired, 16, 17, 8, 9: each one's answer, and what an accepted feed keeps. Assumes nothing.
-use mathlib.Core.Path.{_≡_, refl, sym}
+use mathlib.Core.Path.{_≡_, refl, sym, ap, _∙_}
 use mathlib.Core.Bool.{true, false, not}
 use mathlib.Core.List.{List}
 use Prim.Native.Nat.{ℕ, _≤_}

@@ -23,7 +23,7 @@ use Rattle.drawing.proofs.Rules.{feed-long}
 use Rattle.wiring.specs.declared.Laid.{Laid}
 use Rattle.wiring.specs.Choices.{legsOfChoice, bestChoice}
 use Rattle.wiring.specs.Answer.{laidWith, turnedAway, answerWith, wiringVerdict, wiringWith, wiringFavouring, wiringOf}
-use Rattle.wiring.proofs.lent.Fitting.{wiring-fits}
+use Rattle.lent.proofs.Fitting.{wiring-fits}
 use Rattle.journal.specs.Journal.{seats}
 use Rattle.desk.specs.declared.Desk.{Desk}
 use Rattle.desk.specs.Refusals.{turnedClosing}

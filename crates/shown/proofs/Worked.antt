@@ -7,33 +7,32 @@ use Rattle.refusal.specs.Refusals.{accepted, turn}
 use Rattle.refusal.specs.declared.Verdict.the-variants.{MapLength, OtherJob}
 use Rattle.grid.specs.declared.Spot.{Spot}
 use Rattle.grid.specs.declared.Spot.the-variants.{Absent, At}
-use Rattle.grid.specs.Place.{difference, larger, sameNumber, onBoard, inside, closer, tooNear}
+use Rattle.grid.specs.Place.{difference, larger, sameNumber, isStraight}
 use Rattle.grid.specs.Weight.{distanceOf, weightOf, pairOf, byPart, byNumber, comesBefore}
-use Rattle.tree.specs.Growth.{allInside, pairAt, sooner, keptIf, pinsFrom, without, runsFrom, between, earliest, earliestOf, next, grown, runsAmong, pinsOf, runsOf}
-use Rattle.tree.specs.Boxes.{fails, belowBoth, under, overlap, boxesShare, isEnd, common, clash, clashAny, boxesMeet}
-use Rattle.tree.specs.Bends.{straight, bent, howMany}
-use Rattle.copper.specs.Shapes.{isStraight, lowerCorner, upperCorner, legsOf}
+use Rattle.tree.specs.Growth.{pairAt, sooner, keptIf, pinsFrom, without, runsFrom, between, earliest, earliestOf, next, grown, runsAmong, pinsOf, runsOf}
+use Rattle.tree.specs.Boxes.{belowBoth, under, overlap, boxesShare, isEnd, common, clash, clashAny, boxesMeet}
+use Rattle.tree.specs.Bends.{bent, howMany}
+use Rattle.copper.specs.Shapes.{lowerCorner, upperCorner, legsOf}
 use Rattle.copper.specs.Length.{sameStep, stepsAcross, stepsUp, smaller, stepsOf, stepsOfAll, among, different, lengthOf}
 use Rattle.wiring.specs.declared.Laid.{Laid}
 use Rattle.wiring.specs.Choices.{bentShapes, shapesOf, withShape, withShapes, choicesOf, legsOfChoice, lengthOfChoice, shortest, shortestOf, bestChoice, weighedAt, weighedOf}
 use Rattle.wiring.specs.Answer.{shapedRuns, runEntries, legEntries, laidWith, turnedAway, answerWith, wiringVerdict, wiringWith, wiringFavouring, wiringOf}
-use Rattle.wiring.specs.Bare.{crowd, crowdAny, crowded, spotsOf, feedOf, wrongLengths, bareVerdict, bareOf}
 use Rattle.script.specs.Text.{text}
 use Rattle.script.specs.Answers.{shown, integer, placeText, carriedText, toldLine, wiredLine, jobLine, runLine, legLine, drawingLine, pinLine}
 use Rattle.shown.specs.Shown.{shapedLine, linesOf, legText, spotText, pinsText, pinsIn, wiredText, laidText, jobText, mapText, drawnText}
 
 -- W3: (0,0), (4,2), (4,-2).
 abbrev w3 : Laid
-w3 = bareOf (pos 0 ∷ pos 4 ∷ pos 4 ∷ []) (pos 0 ∷ pos 2 ∷ negsuc 1 ∷ []) 62
+w3 = wiringOf (At (record { x = pos 0; y = pos 0 }) ∷ At (record { x = pos 4; y = pos 2 }) ∷ At (record { x = pos 4; y = negsuc 1 }) ∷ []) 62
 
 -- W3 as a map of job 7.
 pub map-of-w3 : mapText 7 (w3 .wiring) ≡ text "job 7 length 8 runs 2 weighed 5\n0 1 lower\n1 2 straight\n"
-unfolding bareOf bareVerdict wrongLengths feedOf spotsOf crowded crowdAny crowd wiringOf wiringFavouring wiringWith wiringVerdict answerWith turnedAway laidWith legEntries runEntries shapedRuns weighedOf weighedAt howMany bent straight bestChoice shortestOf shortest lengthOfChoice legsOfChoice choicesOf withShapes withShape shapesOf bentShapes lengthOf different among stepsOfAll stepsOf smaller stepsUp stepsAcross sameStep legsOf lowerCorner upperCorner isStraight boxesMeet clashAny clash common isEnd boxesShare overlap under belowBoth fails runsOf pinsOf runsAmong grown next earliestOf earliest between runsFrom without pinsFrom keptIf sooner pairAt allInside comesBefore byPart byNumber pairOf weightOf distanceOf difference larger sameNumber onBoard inside closer tooNear accepted turn both either choose shown jobLine runLine shapedLine linesOf jobText mapText
+unfolding wiringOf wiringFavouring wiringWith wiringVerdict answerWith turnedAway laidWith legEntries runEntries shapedRuns weighedOf weighedAt howMany bent bestChoice shortestOf shortest lengthOfChoice legsOfChoice choicesOf withShapes withShape shapesOf bentShapes lengthOf different among stepsOfAll stepsOf smaller stepsUp stepsAcross sameStep legsOf lowerCorner upperCorner isStraight boxesMeet clashAny clash common isEnd boxesShare overlap under belowBoth runsOf pinsOf runsAmong grown next earliestOf earliest between runsFrom without pinsFrom keptIf sooner pairAt comesBefore byPart byNumber pairOf weightOf distanceOf difference larger sameNumber accepted turn both either choose shown jobLine runLine shapedLine linesOf jobText mapText
 map-of-w3 = refl
 
 -- W3 with its legs.
 pub laid-w3 : laidText w3 ≡ text "0 length 8 runs 2 legs 3 weighed 5\n0 1 lower\n1 2 straight\nleg 0 0 4 0\nleg 4 0 4 2\nleg 4 2 4 -2\n"
-unfolding bareOf bareVerdict wrongLengths feedOf spotsOf crowded crowdAny crowd wiringOf wiringFavouring wiringWith wiringVerdict answerWith turnedAway laidWith legEntries runEntries shapedRuns weighedOf weighedAt howMany bent straight bestChoice shortestOf shortest lengthOfChoice legsOfChoice choicesOf withShapes withShape shapesOf bentShapes lengthOf different among stepsOfAll stepsOf smaller stepsUp stepsAcross sameStep legsOf lowerCorner upperCorner isStraight boxesMeet clashAny clash common isEnd boxesShare overlap under belowBoth fails runsOf pinsOf runsAmong grown next earliestOf earliest between runsFrom without pinsFrom keptIf sooner pairAt allInside comesBefore byPart byNumber pairOf weightOf distanceOf difference larger sameNumber onBoard inside closer tooNear accepted turn both either choose shown integer placeText wiredLine runLine legLine shapedLine linesOf legText wiredText laidText
+unfolding wiringOf wiringFavouring wiringWith wiringVerdict answerWith turnedAway laidWith legEntries runEntries shapedRuns weighedOf weighedAt howMany bent bestChoice shortestOf shortest lengthOfChoice legsOfChoice choicesOf withShapes withShape shapesOf bentShapes lengthOf different among stepsOfAll stepsOf smaller stepsUp stepsAcross sameStep legsOf lowerCorner upperCorner isStraight boxesMeet clashAny clash common isEnd boxesShare overlap under belowBoth runsOf pinsOf runsAmong grown next earliestOf earliest between runsFrom without pinsFrom keptIf sooner pairAt comesBefore byPart byNumber pairOf weightOf distanceOf difference larger sameNumber accepted turn both either choose shown integer placeText wiredLine runLine legLine shapedLine linesOf legText wiredText laidText
 laid-w3 = refl
 
 -- Refused maps: of a wrong length, and with a record of another job.
