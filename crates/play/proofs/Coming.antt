@@ -1,14 +1,16 @@
 -- How one log comes of another by what is read. Assumes nothing.
 use mathlib.Core.Path.{_≡_, refl, sym, _∙_, ap}
-use mathlib.Core.Bool.{Bool, true, false}
+use mathlib.Core.Bool.{true, false}
 use mathlib.Core.List.{List, [], _++_}
 use Prim.Native.Nat.{ℕ}
 use Rattle.desk.specs.declared.Desk.{Desk}
 use Rattle.desk.specs.Desk.{emptyDesk}
 use Rattle.play.specs.declared.Session.{Session}
 use Rattle.refusal.specs.Tests.{choose}
-use Rattle.play.specs.Log.{Log, logOf, heard, lastHeard, after, ComesOf, begun, Played}
+use Rattle.play.specs.Log.{Log, logOf, heard, lastHeard, after, ComesOf}
+use Rattle.play.specs.Lines.{Played}
 use Rattle.play.proofs.Hearing.{heard-parts, heard-ended, last-ended}
+use Rattle.play.proofs.Lines.{startOf, all-told}
 
 -- By a window, and by the end of the input.
 pub by-window : (l : Log) (w : List ℕ) {m : Log} → l .ended ≡ false → m ≡ heard l w → ComesOf l m
@@ -36,11 +38,9 @@ by-both {k} {l} {m} p h q =
     let g : heard l (q .input) ≡ heard k (p .input ++ q .input) = ap (λ (n : Log). heard n (q .input)) e ∙ heard-parts (p .input) (q .input) k in
     record { input = p .input ++ q .input; is = q .is ∙ ap (λ (n : Log). choose (m .ended) (lastHeard n) n) g }
 
--- From the start on.
-abbrev startOf : Desk → Log
-startOf d = record { desk = d; line = []; lines = 0; ended = false; out = begun .out }
-
-pub from-start : (s : Session) (line : List ℕ) {d : Desk} {out : List ℕ} → d ≡ emptyDesk → ComesOf (startOf d) (logOf s line out) → Played s
-from-start s line {d} {out} e p =
-    let is : logOf s line out ≡ after begun (p .input) (s .ended) = p .is ∙ ap (λ (d : Desk). after (startOf d) (p .input) (s .ended)) e in
-    record { input = p .input; desk = ap (λ (l : Log). l .desk) is; lines = ap (λ (l : Log). l .lines) is }
+-- From the start on: the lines of all that was read.
+pub from-start : (s : Session) (line : List ℕ) {d : Desk} {old out : List ℕ} → d ≡ emptyDesk → ComesOf (startOf d old) (logOf s line out) → Played s
+from-start s line {d} {old} {out} e p =
+    let is : logOf s line out ≡ after (startOf emptyDesk old) (p .input) (s .ended) = p .is ∙ ap (λ (d : Desk). after (startOf d old) (p .input) (s .ended)) e in
+    let t = all-told (s .ended) (p .input) emptyDesk old in
+    record { input = p .input; desk = ap (λ (l : Log). l .desk) is ∙ t .0; lines = ap (λ (l : Log). l .lines) is ∙ t .1 }

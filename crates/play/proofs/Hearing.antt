@@ -17,7 +17,7 @@ use Rattle.script.proofs.Steps.{order}
 use Rattle.play.specs.Log.{Log, nextLine, longer, stretched, heard, stopped, lastHeard}
 
 -- Cut and gone on with, then cut, is gone on with and cut.
-cut-once : (m : ℕ) (a b : List ℕ) → take m (take m a ++ b) ≡ take m (a ++ b)
+pub cut-once : (m : ℕ) (a b : List ℕ) → take m (take m a ++ b) ≡ take m (a ++ b)
 cut-once m a b = by (order (length a) m)
   where
     by : (length a ≤ m) ⊎ (m < length a) → take m (take m a ++ b) ≡ take m (a ++ b)

@@ -1,2 +1,3 @@
 -- What the words of a log in play mean.
 pub mod Log
+pub mod Lines

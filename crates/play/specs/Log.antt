@@ -1,16 +1,15 @@
 -- A log in play: what the bytes of the input make of it.
 use mathlib.Core.Path.{_≡_}
-use mathlib.Core.Bool.{Bool, true, false}
+use mathlib.Core.Bool.{Bool, true}
 use mathlib.Core.List.{List, [], _∷_, _++_}
 use Prim.Native.Nat.{ℕ, _+_, _%_, _^_}
 use lib.Dec.{eqb}
-use lib.ListN.{length, replicate, take}
+use lib.ListN.{length, take}
 use Rattle.refusal.specs.Tests.{choose}
 use Rattle.script.specs.Text.{over}
 use Rattle.script.specs.Words.{newline}
 use Rattle.script.specs.Orders.{mostKept}
 use Rattle.desk.specs.declared.Desk.{Desk}
-use Rattle.desk.specs.Desk.{emptyDesk}
 use Rattle.answer.specs.Answered.{played, answered}
 use Rattle.play.specs.declared.Session.{Session}
 
@@ -78,13 +77,3 @@ after l input ended = choose ended (lastHeard (heard l input)) (heard l input)
 pub record ComesOf (before now : Log) : Type 0 where
   pub input : List ℕ
   pub is : now ≡ after before input (now .ended)
-
--- The log at its start: the empty desk, and nothing read.
-abbrev pub begun : Log
-begun = record { desk = emptyDesk; line = []; lines = 0; ended = false; out = replicate 8192 0 }
-
--- What a session that began so has come to: its desk and its count of lines are what some input makes of them.
-pub record Played (s : Session) : Type 0 where
-  pub input : List ℕ
-  pub desk : s .desk ≡ after begun input (s .ended) .desk
-  pub lines : s .lines ≡ after begun input (s .ended) .lines
