@@ -1,4 +1,4 @@
--- Arms: how far the legs that leave a pin reach, and what a pin shows of them.
+-- How the length is added up: arms, how far the legs that leave a pin reach, and what a pin shows of them. No entry point's promise rests on these.
 use mathlib.Core.Bool.{Bool}
 use Prim.Native.Nat.{ℕ, _+_, _-_, _≤_, _<_, max}
 use lib.IntN.{ℤ}

@@ -28,7 +28,7 @@ cornerOf Straight near far = far
 cornerOf Lower near far = lowerCorner near far
 cornerOf Upper near far = upperCorner near far
 
--- Any other run is bent, and has two shapes.
+-- The shape of a run: straight where its ends share x or y; any other is bent, and has two shapes, `upper` saying which.
 unfoldable pub shapeOf : Bool → Place → Place → Shape
 shapeOf upper near far = choose (isStraight near far) Straight (choose upper Upper Lower)
 

@@ -75,7 +75,7 @@ makeable l (Removed p h) = both (ltb p pins) (samePin (getD l p absent) (there h
 unfoldable pub takeable : List Pin → Edit → Bool
 takeable l e = both (makeable (unmade l e) e) (both (settled (unmade l e) (pinOf e)) (samePins (made (unmade l e) e) l))
 
--- The place of a pin that is not there.
+-- What stands in for the place of a pin that is not there.
 abbrev pub nowhere : Place
 nowhere = record { x = pos 0; y = pos 0 }
 
@@ -84,7 +84,7 @@ abbrev pub heldIn : Stand → Held
 heldIn Absent = holding nowhere
 heldIn (There h) = h
 
--- What a pin holds.
+-- What a pin holds, an absent one as if it stood nowhere.
 unfoldable pub heldBy : Pin → Held
 heldBy q = heldIn (q .stand)
 

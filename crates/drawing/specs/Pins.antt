@@ -27,7 +27,7 @@ absent = record { stand = Absent }
 abbrev pub there : Held → Pin
 there h = record { stand = There h }
 
--- A pin that is to stand at a place.
+-- What a pin holds that stands at a place.
 abbrev pub holding : Place → Held
 holding at = record { place = at }
 
@@ -104,7 +104,7 @@ unfoldable pub allApart : List Pin → Bool
 allApart [] = true
 allApart (q ∷ l) = both (not (meetsAny q l)) (allApart l)
 
--- The rules of a drawing's pins: up to 32 of them, each on the board, no two too near.
+-- The rules of a drawing's pins: 32 numbers, each pin that is there on the board, no two too near.
 unfoldable pub lawful : List Pin → Bool
 lawful l = both (eqb (length l) pins) (both (allWithin l) (allApart l))
 

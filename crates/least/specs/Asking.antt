@@ -1,4 +1,4 @@
--- What a pin costs is asked of the runs below it, and what a run costs of the pin at its far end.
+-- How the least cost is found: what a pin costs is asked of the runs below it, and what a run costs of the pin at its far end. No entry point's promise rests on these.
 -- Pins are numbered by when they were reached: 0 is the first, and run r reaches pin r + 1 from pin `near r`; `at` tells where pins stand.
 -- A shape is a Bool: false is lower, true is upper. A cost is a length and a mask of shapes as one number, of which the length decides.
 use mathlib.Core.Path.{_≡_}

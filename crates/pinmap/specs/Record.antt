@@ -50,7 +50,7 @@ outside r = not (inside (r .place))
 abbrev pub notAbove : ℕ → Record → Bool
 notAbove next r = ltb (r .pin) next
 
--- Its place is that of an earlier record, or too near to it.
+-- Its place is that of an earlier record of another pin, or too near to it.
 abbrev pub placeTaken : List Pin → Record → Bool
 placeTaken earlier r = crowded earlier (r .pin) (r .place)
 

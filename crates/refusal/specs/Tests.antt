@@ -6,7 +6,7 @@ unfoldable pub both : Bool → Bool → Bool
 both true b = b
 both false b = false
 
--- One of the tests holds.
+-- At least one of the tests holds.
 unfoldable pub either : Bool → Bool → Bool
 either true b = true
 either false b = b

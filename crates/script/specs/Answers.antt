@@ -63,7 +63,7 @@ unfoldable pub hexPart : List ℕ → List ℕ
 hexPart [] = []
 hexPart (b ∷ rest) = text " " ++ hex (b ∷ rest)
 
--- An accepted writing: `0 BYTES HEX`, HEX the whole lent buffer; with room 0 the line ends after BYTES.
+-- An accepted writing: `0 BYTES HEX`, HEX the lent buffer (a call lends at most 1,024 bytes, and no more are printed); with room 0 the line ends after BYTES.
 unfoldable pub writtenLine : ℕ → List ℕ → List ℕ
 writtenLine bytes buffer = field "0 " bytes ++ hexPart (take 1024 buffer) ++ text "\n"
 

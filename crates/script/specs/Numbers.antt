@@ -27,7 +27,7 @@ mostAbove = 2147483647
 abbrev pub mostBelow : ℕ
 mostBelow = 2147483648
 
--- One more than the largest number of any range: all numbers beyond are as good.
+-- One more than the largest number of any range; it stands for all numbers beyond.
 abbrev pub beyond : ℕ
 beyond = 4294967296
 

@@ -27,6 +27,6 @@ bentAt feed runs n = howMany (λ r. both (isEnd n r) (bent feed r)) runs
 abbrev pub bentFrom : List Spot → List Run → ℕ → ℕ
 bentFrom feed runs n = howMany (λ r. both (eqb n (r .near)) (bent feed r)) runs
 
--- The bent runs that reach a pin: one, or none.
+-- The bent runs that reach a pin.
 abbrev pub bentInto : List Spot → List Run → ℕ → ℕ
 bentInto feed runs n = howMany (λ r. both (eqb n (r .far)) (bent feed r)) runs

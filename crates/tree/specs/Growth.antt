@@ -41,7 +41,7 @@ pairAt feed i j = pairOf i (placeOf (spotAt feed i)) j (placeOf (spotAt feed j))
 abbrev pub run : ℕ → ℕ → Run
 run near far = record { near = near; far = far }
 
--- A run is taken before another where its pair comes before the other's.
+-- The pair of a run comes before that of another.
 unfoldable pub sooner : List Spot → Run → Run → Bool
 sooner feed r s = comesBefore (pairAt feed (r .near) (r .far)) (pairAt feed (s .near) (s .far))
 

@@ -1,4 +1,4 @@
--- How the runs are found: each pin not reached keeps one offer, the earliest pair that would reach it.
+-- How the runs are found: each pin not reached keeps one offer, the earliest pair that would reach it. No entry point's promise rests on these.
 use mathlib.Core.Bool.{true, false, not}
 use mathlib.Core.List.{List, [], _∷_}
 use Prim.Native.Nat.{ℕ, zero, suc}
