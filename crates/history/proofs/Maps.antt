@@ -1,5 +1,5 @@
 -- Maps across desks: a map written from a seat opens under its job, at any seat of any desk that can take it, with the same pins; a map that was opened,
--- written before any accepted edit, undo, redo or closing of its seat, gives the same bytes. From the round trip of pin maps, Refused and Untouched; assumes nothing.
+-- written before any accepted edit or closing of its seat, gives the same bytes. From the round trip of pin maps, Refused and Untouched; assumes nothing.
 use mathlib.Core.Path.{_≡_, ap, _∙_}
 use mathlib.Core.Bool.{true}
 use mathlib.Core.List.{List, _++_}
@@ -27,7 +27,7 @@ use Rattle.desk.specs.Desk.{noSeat, seatOf, openSeat, withSeat, sound, lookAt, 
 use Rattle.desk.proofs.Sound.{eight-seats, pins-lawful}
 use Rattle.history.specs.History.{after}
 use Rattle.history.proofs.Passed.{writes}
-use Rattle.history.proofs.Opened.{NoneAt, isChange, JobsFit, job-fits, opened-map-read, opened-seat, same-until-change}
+use Rattle.history.proofs.Opened.{NoneAt, isEditOrClosing, JobsFit, job-fits, opened-map-read, opened-seat, opened-without-edits, same-until-edit}
 use Rattle.history.proofs.Refused.{takingRows}
 
 -- The bytes that writing a seat wrote: so many of the lent buffer.
@@ -103,15 +103,17 @@ map-written-after-calls-opens calls e s t buffer j z n = written-map-opens (afte
 
 -- ---- opened, then written
 
--- A map that was opened, written before any accepted edit, undo, redo or closing of its seat, gives the same bytes: whatever other calls came between.
+-- A map that was opened, written before any accepted edit (placing, moving, removing) or closing of its seat, gives the same bytes: whatever other calls
+-- came between, undo and redo too.
 pub opened-map-written : (d : Desk) (s job : ℕ) (map buffer : List ℕ) (calls : List Call) → Bytes map
-    → accepted (step d (opening s job map) .verdict) ≡ true → NoneAt isChange (step d (opening s job map) .desk) s calls
+    → accepted (step d (opening s job map) .verdict) ≡ true → NoneAt isEditOrClosing (step d (opening s job map) .desk) s calls
     → accepted (writtenOf (after (step d (opening s job map) .desk) calls) s buffer .verdict) ≡ true
     → bytesFrom (after (step d (opening s job map) .desk) calls) s buffer ≡ map
 opened-map-written d s job map buffer calls b z e w =
     let o = opened-seat d s job map z in
     let q : seatOf (after (step d (opening s job map) .desk) calls) s ≡ openSeat job (readMap map job .pins) =
-    same-until-change calls (step d (opening s job map) .desk) s (ap (λ (x : Seat). x .opened) o) e ∙ o in
+    same-until-edit calls (step d (opening s job map) .desk) s (ap (λ (x : Seat). x .opened) o) (ap (λ (x : Seat). x .standing) o)
+    (opened-without-edits d s job map z) e ∙ o in
     writing-writes-the-map (after (step d (opening s job map) .desk) calls) s buffer w
     ∙ ap (λ (x : Seat). mapOf (x .job) (x .pins)) q
     ∙ same-bytes job map b (opened-map-read d s job map z)

@@ -25,7 +25,7 @@ use Rattle.desk.specs.Desk.{closedSeat, noSeat, seatOf, live, editsOf, standing
 use Rattle.desk.proofs.Sound.{eight-seats, closed-owns-none}
 use Rattle.history.specs.History.{after}
 use Rattle.history.proofs.Passed.{Opens, opens, closes, places, moves, removes, undoes, redoes, writes, wires}
-use Rattle.history.proofs.Untouched.{other-seats-untouched, accepted-takes-effect, refused-leaves-the-desk, writing-leaves-the-desk, wiring-leaves-the-desk}
+use Rattle.history.proofs.Untouched.{Untouched, other-seats-untouched, accepted-takes-effect, refused-leaves-the-desk, writing-leaves-the-desk, wiring-leaves-the-desk}
 
 -- ---- calls that leave a seat as it is
 
@@ -38,25 +38,26 @@ unfoldable pub NoneAt : (Call → Bool) → Desk → ℕ → List Call → Type 
 NoneAt these d s [] = Unit {0}
 NoneAt these d s (c ∷ calls) = (isOneAt these d s c ≡ false) × NoneAt these (step d c .desk) s calls
 
--- What every accepted call at its own seat but one of these keeps, stays where none of these comes.
-module _ {A : Type 0} (part : Seat → A) (a : A) (these : Call → Bool)
-    (keeps : (d : Desk) (c : Call) → part (seatOf d (seatIn c)) ≡ a → accepted (step d c .verdict) ≡ true → these c ≡ false
-    → part (seatOf (step d c .desk) (seatIn c)) ≡ a) where
-  stays-here : (d : Desk) (c : Call) (b : Bool) → accepted (step d c .verdict) ≡ b → part (seatOf d (seatIn c)) ≡ a → both b (these c) ≡ false
-      → part (seatOf (step d c .desk) (seatIn c)) ≡ a
+-- What a seat that is untouched has, and every accepted call at its own seat but one of these keeps, stays where none of these comes.
+module _ {A : Type 0} (part : Desk → ℕ → A) (a : A) (these : Call → Bool)
+    (alike : (d e : Desk) (s : ℕ) → Untouched d e s → part e s ≡ part d s)
+    (keeps : (d : Desk) (c : Call) → part d (seatIn c) ≡ a → accepted (step d c .verdict) ≡ true → these c ≡ false
+    → part (step d c .desk) (seatIn c) ≡ a) where
+  stays-here : (d : Desk) (c : Call) (b : Bool) → accepted (step d c .verdict) ≡ b → part d (seatIn c) ≡ a → both b (these c) ≡ false
+      → part (step d c .desk) (seatIn c) ≡ a
   unfolding both
   stays-here d c true z p n = keeps d c p z n
-  stays-here d c false z p n = ap (λ (x : Desk). part (seatOf x (seatIn c))) (refused-leaves-the-desk d c z) ∙ p
+  stays-here d c false z p n = ap (λ (x : Desk). part x (seatIn c)) (refused-leaves-the-desk d c z) ∙ p
 
-  stays-by : (d : Desk) (c : Call) (s : ℕ) (b : Bool) → eqb s (seatIn c) ≡ b → part (seatOf d s) ≡ a
-      → both b (both (accepted (step d c .verdict)) (these c)) ≡ false → part (seatOf (step d c .desk) s) ≡ a
+  stays-by : (d : Desk) (c : Call) (s : ℕ) (b : Bool) → eqb s (seatIn c) ≡ b → part d s ≡ a
+      → both b (both (accepted (step d c .verdict)) (these c)) ≡ false → part (step d c .desk) s ≡ a
   unfolding both
   stays-by d c s true h p n =
       let e : s ≡ seatIn c = eqb-true s (seatIn c) h in
       rw e (stays-here d c (accepted (step d c .verdict)) refl (rw e at p) n)
-  stays-by d c s false h p n = ap part (other-seats-untouched d c s (eqb-false s (seatIn c) h) .seat) ∙ p
+  stays-by d c s false h p n = alike d (step d c .desk) s (other-seats-untouched d c s (eqb-false s (seatIn c) h)) ∙ p
 
-  pub stays : (calls : List Call) (d : Desk) (s : ℕ) → part (seatOf d s) ≡ a → NoneAt these d s calls → part (seatOf (after d calls) s) ≡ a
+  pub stays : (calls : List Call) (d : Desk) (s : ℕ) → part d s ≡ a → NoneAt these d s calls → part (after d calls) s ≡ a
   unfolding NoneAt after
   stays [] d s p n = p
   stays (c ∷ calls) d s p n = stays calls (step d c .desk) s (stays-by d c s (eqb s (seatIn c)) refl p (n .0)) (n .1)
@@ -85,17 +86,17 @@ isClosing (redoing t) = false
 isClosing (writing t room) = false
 isClosing (wiring t room) = false
 
--- An edit, undo, redo or closing.
-abbrev pub isChange : Call → Bool
-isChange (opening t job map) = false
-isChange (closing t) = true
-isChange (placing t p at) = true
-isChange (moving t p at) = true
-isChange (removing t p) = true
-isChange (undoing t) = true
-isChange (redoing t) = true
-isChange (writing t room) = false
-isChange (wiring t room) = false
+-- An edit (placing, moving, removing) or closing.
+abbrev pub isEditOrClosing : Call → Bool
+isEditOrClosing (opening t job map) = false
+isEditOrClosing (closing t) = true
+isEditOrClosing (placing t p at) = true
+isEditOrClosing (moving t p at) = true
+isEditOrClosing (removing t p) = true
+isEditOrClosing (undoing t) = false
+isEditOrClosing (redoing t) = false
+isEditOrClosing (writing t room) = false
+isEditOrClosing (wiring t room) = false
 
 -- An open seat is not opened again.
 not-again : {A : Type 0} (d : Desk) (t job : ℕ) (map : List ℕ) → seatOf d t .opened ≡ true → accepted (step d (opening t job map) .verdict) ≡ true → A
@@ -141,27 +142,40 @@ pub open-until-closing : (calls : List Call) (d : Desk) (s : ℕ) → seatOf d s
     → (seatOf (after d calls) s .opened ≡ true) × (seatOf (after d calls) s .job ≡ seatOf d s .job)
 open-until-closing calls d s o n =
     let e : openFor (seatOf (after d calls) s) ≡ (true, seatOf d s .job) =
-    stays openFor (true, seatOf d s .job) isClosing (keeps-open (seatOf d s .job)) calls d s (λ i. (o i, seatOf d s .job)) n in
+    stays (λ (x : Desk) (t : ℕ). openFor (seatOf x t)) (true, seatOf d s .job) isClosing (λ x y t u. ap openFor (u .seat)) (keeps-open (seatOf d s .job))
+    calls d s (λ i. (o i, seatOf d s .job)) n in
     (ap (λ (x : Bool × ℕ). x .0) e, ap (λ (x : Bool × ℕ). x .1) e)
 
--- ---- as it was until a change
+-- ---- as it was opened until an edit
 
-keeps-all : (q : Seat) → q .opened ≡ true → (d : Desk) (c : Call) → seatOf d (seatIn c) ≡ q → accepted (step d c .verdict) ≡ true → isChange c ≡ false
-    → seatOf (step d c .desk) (seatIn c) ≡ q
-keeps-all q o d (opening t job map) p z n = not-again d t job map (ap (λ (x : Seat). x .opened) p ∙ o) z
-keeps-all q o d (closing t) p z n = absurd (true≢false n)
-keeps-all q o d (placing t i at) p z n = absurd (true≢false n)
-keeps-all q o d (moving t i at) p z n = absurd (true≢false n)
-keeps-all q o d (removing t i) p z n = absurd (true≢false n)
-keeps-all q o d (undoing t) p z n = absurd (true≢false n)
-keeps-all q o d (redoing t) p z n = absurd (true≢false n)
-keeps-all q o d (writing t room) p z n = ap (λ (x : Desk). seatOf x t) (writing-leaves-the-desk d t room) ∙ p
-keeps-all q o d (wiring t room) p z n = ap (λ (x : Desk). seatOf x t) (wiring-leaves-the-desk d t room) ∙ p
+-- A seat, and its edits.
+abbrev whole : Desk → ℕ → Seat × List Edit
+whole d s = (seatOf d s, editsOf d s)
 
--- A seat that is open stays as it is until an accepted edit, undo, redo or closing.
-pub same-until-change : (calls : List Call) (d : Desk) (s : ℕ) → seatOf d s .opened ≡ true → NoneAt isChange d s calls
-    → seatOf (after d calls) s ≡ seatOf d s
-same-until-change calls d s o n = stays (λ (q : Seat). q) (seatOf d s) isChange (keeps-all (seatOf d s) o) calls d s refl n
+module _ (q : Seat) (o : q .opened ≡ true) (none : q .standing ≡ 0) where
+  -- Undo and redo are refused at a seat without edits (10 and 11), and opening at an open one.
+  keeps-whole : (d : Desk) (c : Call) → whole d (seatIn c) ≡ (q, []) → accepted (step d c .verdict) ≡ true → isEditOrClosing c ≡ false
+      → whole (step d c .desk) (seatIn c) ≡ (q, [])
+  unfolding step answerOf verdictOf
+  keeps-whole d (opening t job map) p z n = not-again d t job map (ap (λ (x : Seat × List Edit). x .0 .opened) p ∙ o) z
+  keeps-whole d (closing t) p z n = absurd (true≢false n)
+  keeps-whole d (placing t i at) p z n = absurd (true≢false n)
+  keeps-whole d (moving t i at) p z n = absurd (true≢false n)
+  keeps-whole d (removing t i) p z n = absurd (true≢false n)
+  keeps-whole d (undoing t) p z n = absurd (undoes (lookAt d t) z .1 (ap (λ (x : Seat × List Edit). x .0 .standing) p ∙ none))
+  keeps-whole d (redoing t) p z n =
+      let e : length (editsOf d t) ≡ 0 = ap (λ (x : Seat × List Edit). length (x .1)) p in
+      absurd (redoes (lookAt d t) z .1 (omega (arith, e)))
+  keeps-whole d (writing t room) p z n = ap (λ (x : Desk). whole x t) (writing-leaves-the-desk d t room) ∙ p
+  keeps-whole d (wiring t room) p z n = ap (λ (x : Desk). whole x t) (wiring-leaves-the-desk d t room) ∙ p
+
+-- A seat that is open, without edits, stays as it is until an accepted edit or closing.
+pub same-until-edit : (calls : List Call) (d : Desk) (s : ℕ) → seatOf d s .opened ≡ true → seatOf d s .standing ≡ 0 → editsOf d s ≡ []
+    → NoneAt isEditOrClosing d s calls → seatOf (after d calls) s ≡ seatOf d s
+same-until-edit calls d s o m e n =
+    ap (λ (x : Seat × List Edit). x .0)
+    (stays whole (seatOf d s, []) isEditOrClosing (λ x y t u i. (u .seat i, u .edits i)) (keeps-whole (seatOf d s) o m)
+    calls d s (λ i. (seatOf d s, e i)) n)
 
 -- ---- closed until an opening
 
@@ -181,7 +195,8 @@ keeps-closed d (wiring t room) p z n = absurd (true≢false (sym (wires (lookAt 
 -- A seat that is closed stays closed until an accepted opening.
 pub closed-until-opening : (calls : List Call) (d : Desk) (s : ℕ) → seatOf d s .opened ≡ false → NoneAt isOpening d s calls
     → seatOf (after d calls) s .opened ≡ false
-closed-until-opening calls d s o n = stays (λ (q : Seat). q .opened) false isOpening keeps-closed calls d s o n
+closed-until-opening calls d s o n =
+    stays (λ (x : Desk) (t : ℕ). seatOf x t .opened) false isOpening (λ x y t u. ap (λ (q : Seat). q .opened) (u .seat)) keeps-closed calls d s o n
 
 -- ---- opening and closing
 
@@ -205,13 +220,17 @@ module _ (d : Desk) (s job : ℕ) (map : List ℕ) (z : accepted (step d (openin
       let k : s < length (d .seats) = omega (arith, eight-seats d h, opens-here .low) in
       here-is d (opening s job map) z ∙ getD-set-same (d .seats) s (openSeat job (readMap map job .pins)) noSeat k
 
-  -- it begins a new history: no edit stands, and none is taken back.
-  pub opened-anew : (standingOf (step d (opening s job map) .desk) s ≡ []) × (takenBackOf (step d (opening s job map) .desk) s ≡ [])
+  -- it begins a new history: the seat has no edits,
+  pub opened-without-edits : editsOf (step d (opening s job map) .desk) s ≡ []
   unfolding effect
-  opened-anew =
-      let e : editsOf (step d (opening s job map) .desk) s ≡ [] =
+  opened-without-edits =
       ap (λ (x : Desk). editsOf x s) (accepted-takes-effect d (opening s job map) z)
-      ∙ nil-of (editsOf d s) (closed-owns-none d (not-false _ (opens-here .unbroken)) s (opens-here .low) (opens-here .shown)) in
+      ∙ nil-of (editsOf d s) (closed-owns-none d (not-false _ (opens-here .unbroken)) s (opens-here .low) (opens-here .shown))
+
+  -- none stands, and none is taken back.
+  pub opened-anew : (standingOf (step d (opening s job map) .desk) s ≡ []) × (takenBackOf (step d (opening s job map) .desk) s ≡ [])
+  opened-anew =
+      let e = opened-without-edits in
       let n : seatOf (step d (opening s job map) .desk) s .standing ≡ 0 = ap (λ (x : Seat). x .standing) opened-seat in
       (λ i. reverse (take (n i) (e i)), λ i. drop (n i) (e i))
 
