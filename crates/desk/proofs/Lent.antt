@@ -3,7 +3,7 @@ use mathlib.Core.Path.{_≡_, refl, ap, _∙_}
 use mathlib.Core.Bool.{Bool, true, false, not}
 use mathlib.Core.List.{List}
 use Prim.Native.Nat.{ℕ, _≤_, zero-le}
-use borrow.Author.Tests.{leb-false}
+use borrow.Author.Tests.{leb-false, not-false}
 use lib.Dec.{leb}
 use lib.ListN.{length}
 use Rattle.refusal.specs.Tests.{choose}
@@ -25,7 +25,6 @@ use Rattle.desk.specs.declared.WiredSeat.{WiredSeat}
 use Rattle.desk.specs.Refusals.{turnedClosing}
 use Rattle.desk.specs.Desk.{seatOf, lookAt, sound, wiredOf, wiredSeatOf, lentOf}
 use Rattle.desk.proofs.Sound.{pins-lawful}
-use Rattle.desk.proofs.Steps.{turned-off}
 
 -- Where 28, 1 and 2 pass, the seat's feed has 32 spots.
 feed-whole : (d : Desk) (s : ℕ) → accepted (turnedClosing (lookAt d s)) ≡ true → length (feedOf (seatOf d s .pins)) ≡ 32
@@ -34,7 +33,7 @@ feed-whole d s e =
     let p = passed (not (sound d)) DeskBroken _ refl e in
     let q = passed (leb seats s) SeatAbove _ refl (p .1) in
     let r = passed (not (seatOf d s .opened)) NotOpen _ refl (q .1) in
-    feed-long _ (pins-lawful d (turned-off (p .0)) s (leb-false seats s (q .0)) (turned-off (r .0)))
+    feed-long _ (pins-lawful d (not-false _ (p .0)) s (leb-false seats s (q .0)) (not-false _ (r .0)))
 
 -- Legs that fit where a seat is wired fit where it may be turned away, which has none.
 fits-either : (t : Bool) (w : Laid) (v : Verdict) (room : ℕ) → (t ≡ true → (w .wiring .legs ≤ 62) × (w .wiring .legs ≤ room))

@@ -1,33 +1,22 @@
 -- What a sound desk says of its parts: each test that `sound` joins, as a fact. Assumes nothing.
-use mathlib.Core.Path.{_≡_, refl, ap, _∙_}
-use mathlib.Core.Bool.{Bool, true, false}
+use mathlib.Core.Path.{_≡_, ap, sym, _∙_}
+use mathlib.Core.Bool.{true, false}
 use mathlib.Core.List.{_∷_, reverse, reverse-append}
-use Prim.Native.Nat.{ℕ, zero, suc, _-_, _<_, _≤_}
+use Prim.Native.Nat.{ℕ, suc, _-_, _<_, _≤_}
 use native.Mathlib.Omega.{arith}
 use borrow.Author.Tests.{eqb-true, eqb-false, leb-true, not-true}
-use lib.Dec.{eqb}
 use lib.ListN.{length, take, drop, getD}
 use lib.Seq.{take-suc, drop-cons, length-take-le}
-use Rattle.refusal.specs.Tests.{choose}
-use Rattle.refusal.proofs.Tests.{both-left, both-right}
+use Rattle.refusal.proofs.Tests.{both-left, both-right, choose-yes, choose-no}
 use Rattle.drawing.specs.Pins.{pins, lawful}
 use Rattle.drawing.specs.Edits.{pinOf, makeable, made, takeable, unmade}
 use Rattle.drawing.proofs.Making.{makeable-number, takeable-number}
 use Rattle.journal.proofs.Own.{own-length}
 use Rattle.journal.proofs.Turns.{turn-first}
 use Rattle.journal.specs.Journal.{seats, records, noEdit, seated, replayable, takeableAll}
+use Rattle.seats.proofs.Tests.{seat-among}
 use Rattle.desk.specs.declared.Desk.{Desk}
-use Rattle.desk.specs.Desk.{seatOf, live, editsOf, standingOf, takenBackOf, jobsOf, jobsApart, soundOpen, soundClosed, soundSeat, soundTo, sound}
-
--- Of n sound seats each is sound.
-pub seat-among : (d : Desk) (n s : ℕ) → soundTo n d ≡ true → s < n → soundSeat d s ≡ true
-unfolding soundTo
-seat-among d zero s e h = absurd (omega arith)
-seat-among d (suc n) s e h = last d n s (both-left _ _ e) (both-right _ _ e) (eqb s n) refl h (seat-among d n s (both-left _ _ e))
-  where
-    last : (d : Desk) (n s : ℕ) → soundTo n d ≡ true → soundSeat d n ≡ true → (t : Bool) → eqb s n ≡ t → s < suc n → (s < n → soundSeat d s ≡ true) → soundSeat d s ≡ true
-    last d n s p q true e h k = rw (eqb-true s n e) q
-    last d n s p q false e h k = k (omega (arith, eqb-false s n e))
+use Rattle.desk.specs.Desk.{seatOf, live, editsOf, standingOf, takenBackOf, jobsOf, jobsApart, soundOpen, soundClosed, soundSeat, sound}
 
 module _ (d : Desk) (h : sound d ≡ true) where
   pub eight-seats : length (d .seats) ≡ seats
@@ -50,9 +39,9 @@ module _ (d : Desk) (h : sound d ≡ true) where
   unfolding sound
   jobs-apart = both-left _ _ (both-right _ _ (both-right _ _ (both-right _ _ (both-right _ _ h))))
 
-  pub seat-sound : (s : ℕ) → s < seats → soundSeat d s ≡ true
+  pub seat-sound : (s : ℕ) → s < seats → soundSeat (seatOf d s) (editsOf d s) ≡ true
   unfolding sound
-  seat-sound s k = seat-among d seats s (both-right _ _ (both-right _ _ (both-right _ _ (both-right _ _ (both-right _ _ h))))) k
+  seat-sound s k = seat-among (d .seats) (live d) seats s (both-right _ _ (both-right _ _ (both-right _ _ (both-right _ _ (both-right _ _ h))))) k
 
   pub live-length : length (live d) ≡ d .used
   live-length =
@@ -65,13 +54,13 @@ module _ (d : Desk) (h : sound d ≡ true) where
 
   -- A closed seat owns none.
   pub closed-owns-none : (s : ℕ) → s < seats → seatOf d s .opened ≡ false → length (editsOf d s) ≡ 0
-  unfolding soundSeat soundClosed choose
-  closed-owns-none s k o = eqb-true _ _ (rw o at (seat-sound s k))
+  unfolding soundSeat soundClosed
+  closed-owns-none s k o = eqb-true _ _ (sym (choose-no _ _ o) ∙ seat-sound s k)
 
   module _ (s : ℕ) (k : s < seats) (o : seatOf d s .opened ≡ true) where
-    opened : soundOpen d s ≡ true
-    unfolding soundSeat choose
-    opened = rw o at (seat-sound s k)
+    opened : soundOpen (seatOf d s) (editsOf d s) ≡ true
+    unfolding soundSeat
+    opened = sym (choose-yes _ _ o) ∙ seat-sound s k
 
     pub job-not-zero : seatOf d s .job ≡ 0 → ⊥
     unfolding soundOpen

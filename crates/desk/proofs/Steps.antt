@@ -1,40 +1,39 @@
--- What the code of each call hands back is the step of that call, for each way that an accepted call or a recorded edit goes. From the answers; assumes nothing.
+-- What the code of each call hands back is the step of that call, once its answer is known. Assumes nothing.
 use mathlib.Core.Path.{_≡_, refl, ap, sym, _∙_}
-use mathlib.Core.Bool.{Bool, true, false, not}
+use mathlib.Core.Bool.{Bool, true, false}
 use mathlib.Core.List.{List}
 use Prim.Native.Nat.{ℕ, _+_, _-_, _<_, _≤_}
 use native.Mathlib.Omega.{arith}
 use borrow.Author.Tests.{le-leb, lt-leb}
-use lib.ListN.{length, getD, set}
+use lib.ListN.{length, set}
 use Rattle.refusal.specs.Tests.{choose}
 use Rattle.refusal.specs.Refusals.{accepted, turn}
+use Rattle.refusal.specs.declared.Verdict.{Verdict}
 use Rattle.refusal.specs.declared.Verdict.the-variants.{Accepted, JournalFull}
-use Rattle.drawing.specs.declared.Pin.{Pin}
 use Rattle.drawing.specs.declared.Edit.{Edit}
-use Rattle.drawing.specs.Edits.{made, unmade}
-use Rattle.pinmap.specs.declared.Reading.{Reading}
-use Rattle.pinmap.specs.Map.{readMap}
 use Rattle.journal.specs.declared.Record.{Record}
 use Rattle.journal.specs.declared.Compacted.{Compacted}
-use Rattle.journal.specs.Journal.{seats, records, noEdit, recorded, kept, compacted}
+use Rattle.journal.specs.Journal.{records, recorded, kept, compacted}
 use Rattle.journal.proofs.Own.{kept-length, added-length}
 use Rattle.journal.proofs.Filled.{filled-set}
-use Rattle.desk.specs.declared.Seat.{Seat}
+use Rattle.seats.specs.declared.Seat.{Seat}
+use Rattle.seats.specs.Seats.{editedSeat}
 use Rattle.desk.specs.declared.Desk.{Desk}
 use Rattle.desk.specs.declared.Answered.{Answered}
-use Rattle.desk.specs.Calls.{opening, closing, undoing, redoing}
-use Rattle.desk.specs.Desk.{closedSeat, seatOf, live, editsOf, sound, withSeat, freed, openSeat, withPins, edited, entered, effect, step}
+use Rattle.desk.specs.Calls.{Call}
+use Rattle.desk.specs.Refusals.{full}
+use Rattle.desk.specs.Desk.{seatOf, live, editsOf, lookAt, sound, freed, edited, entered, effect, answerOf, step}
 use Rattle.desk.proofs.Sound.{live-length}
-use Rattle.desk.proofs.Answers.{step-accepted, close-accepted, undo-accepted, redo-accepted}
 
--- A test that was turned round.
-pub turned-on : {b : Bool} → not b ≡ true → b ≡ false
-turned-on {b = true} e = sym e
-turned-on {b = false} e = refl
+-- A step whose answer is known: refused, the desk as it was; accepted, what the call makes of it.
+module _ (d : Desk) (c : Call) {v : Verdict} (e : answerOf d c ≡ v) where
+  pub step-refused : accepted v ≡ false → _≡_ {A = Answered} (record { desk = d; verdict = v }) (step d c)
+  unfolding step choose
+  step-refused f = rw (e, f)
 
-pub turned-off : {b : Bool} → not b ≡ false → b ≡ true
-turned-off {b = true} e = refl
-turned-off {b = false} e = sym e
+  pub step-accepted : {t : Desk} → accepted v ≡ true → t ≡ effect d c → _≡_ {A = Answered} (record { desk = t; verdict = v }) (step d c)
+  unfolding step choose
+  step-accepted f g = rw (e, f, g)
 
 -- The desk with what the journal crate leaves of the records.
 pub freed-by : (d : Desk) (s k : ℕ) {x : Compacted} → x ≡ compacted (kept s k (live d))
@@ -55,16 +54,11 @@ module _ (d : Desk) (k : sound d ≡ true) (s : ℕ) (e : Edit) {x : Desk} (f : 
       let y : records ≤ d .used - (length (editsOf d s) - seatOf d s .standing) = rw count-left at h in
       rw (le-leb records (d .used - (length (editsOf d s) - seatOf d s .standing)) y)
 
-  pub entered-done : {j : List Record} {q : List Pin} → x .used < records → j ≡ set (x .journal) (x .used) (recorded s e)
-      → q ≡ made (seatOf d s .pins) e
+  pub entered-done : {j : List Record} {t : Seat} → x .used < records → j ≡ set (x .journal) (x .used) (recorded s e)
+      → t ≡ editedSeat (seatOf d s) e
       → _≡_ {A = Answered}
       (record {
-        desk =
-            record {
-              seats = set (x .seats) s (withPins (seatOf d s) q (seatOf d s .standing + 1));
-              journal = j;
-              used = x .used + 1;
-            };
+        desk = record { seats = set (x .seats) s t; journal = j; used = x .used + 1 };
         verdict = Accepted;
       })
       (entered d s e)
@@ -81,33 +75,15 @@ module _ (d : Desk) (k : sound d ≡ true) (s : ℕ) (e : Edit) {x : Desk} (f : 
         added-length s (seatOf d s .standing) e (live d),
       )
 
--- Opening puts the drawing of the map there.
-pub open-effect : (d : Desk) (s job : ℕ) (map : List ℕ) {r : Reading} → r ≡ readMap map job
-    → withSeat d s (openSeat job (r .pins)) ≡ effect d (opening s job map)
-unfolding effect
-open-effect d s job map e = rw e
+-- An edit that no refusal before 12 meets is a step of the call that makes it.
+module _ (d : Desk) (c : Call) (s : ℕ) (e : Edit) (a : answerOf d c ≡ turn (full (lookAt d s)) JournalFull Accepted)
+    (g : effect d c ≡ edited d s e) where
+  by-room : (t : Bool) → full (lookAt d s) ≡ t
+      → _≡_ {A = Answered} (record { desk = choose t d (edited d s e); verdict = turn t JournalFull Accepted }) (step d c)
+  unfolding choose turn accepted
+  by-room true f = step-refused d c (rw f at a) refl
+  by-room false f = step-accepted d c (rw f at a) refl (sym g)
 
-module _ (d : Desk) (k : sound d ≡ true) (s : ℕ) (h : s < seats) (o : seatOf d s .opened ≡ true) where
-  -- Closing frees the seat's records.
-  pub close-done : {t : Seat} {x : Desk} → t ≡ closedSeat → x ≡ freed d s 0
-      → _≡_ {A = Answered} (record { desk = withSeat x s t; verdict = Accepted }) (step d (closing s))
-  unfolding effect accepted
-  close-done a b = step-accepted d (closing s) (close-accepted d k s h o) refl (rw (a, b))
-
-  -- Undo takes back the latest standing edit.
-  pub undo-done : {e : Edit} {q : List Pin} → (seatOf d s .standing ≡ 0 → ⊥)
-      → e ≡ getD (editsOf d s) (seatOf d s .standing - 1) noEdit → q ≡ unmade (seatOf d s .pins) e
-      → _≡_ {A = Answered}
-      (record { desk = withSeat d s (withPins (seatOf d s) q (seatOf d s .standing - 1)); verdict = Accepted })
-      (step d (undoing s))
-  unfolding effect accepted
-  undo-done z a b = step-accepted d (undoing s) (undo-accepted d k s h o z) refl (rw (b, a))
-
-  -- Redo makes the first of the taken-back edits again.
-  pub redo-done : {n : ℕ} {e : Edit} {q : List Pin} → n ≡ length (editsOf d s) → seatOf d s .standing < n
-      → e ≡ getD (editsOf d s) (seatOf d s .standing) noEdit → q ≡ made (seatOf d s .pins) e
-      → _≡_ {A = Answered}
-      (record { desk = withSeat d s (withPins (seatOf d s) q (seatOf d s .standing + 1)); verdict = Accepted })
-      (step d (redoing s))
-  unfolding effect accepted
-  redo-done f i a b = step-accepted d (redoing s) (redo-accepted d k s h o (λ z. omega (arith, f))) refl (rw (b, a))
+  pub step-entered : entered d s e ≡ step d c
+  unfolding entered
+  step-entered = by-room (full (lookAt d s)) refl

@@ -1,58 +1,136 @@
--- What writing a map hands back, for each way that it goes: the answer, the number of bytes, and the buffer. Assumes nothing.
-use mathlib.Core.Path.{_≡_, refl, _∙_}
-use mathlib.Core.Bool.{Bool, true, false}
-use mathlib.Core.List.{List}
-use Prim.Native.Nat.{ℕ, _<_}
-use borrow.Author.Tests.{lt-leb}
+-- What writing a map and wiring a seat hand back: the answer, the number of bytes and the buffer, and the legs. From what is found; assumes nothing.
+use mathlib.Core.Path.{_≡_, refl, ap, sym, _∙_}
+use mathlib.Core.Bool.{Bool, true, false, not, false≢true}
+use mathlib.Core.List.{List, []}
+use Prim.Native.Nat.{ℕ}
+use borrow.Author.Tests.{leb-false, not-false}
+use lib.Dec.{leb}
 use lib.ListN.{length}
 use Rattle.refusal.specs.Tests.{choose}
 use Rattle.refusal.specs.Refusals.{accepted, turn}
 use Rattle.refusal.specs.declared.Verdict.{Verdict}
 use Rattle.refusal.specs.declared.Verdict.the-variants.{Accepted, RoomTooSmall}
+use Rattle.refusal.proofs.Rows.{firstOf}
+use Rattle.drawing.specs.Pins.{lawful, feedOf}
 use Rattle.pinmap.specs.declared.Writing.{Writing}
-use Rattle.pinmap.specs.Map.{noRoom, writeMap, bufferAfter}
+use Rattle.pinmap.specs.Map.{mapOf, written, noRoom, writeMap, bufferAfter}
+use Rattle.wiring.specs.declared.Laid.{Laid}
+use Rattle.wiring.specs.Answer.{wiringOf, turnedAway}
 use Rattle.journal.specs.Journal.{seats}
+use Rattle.seats.specs.declared.Seat.{Seat}
+use Rattle.rows.specs.declared.Found.{Found}
+use Rattle.rows.specs.Found.{lookIn, writingIn, bufferIn, laidIn}
+use Rattle.rows.proofs.Rows.{joined, firstRows, first-refusing}
 use Rattle.desk.specs.declared.Desk.{Desk}
 use Rattle.desk.specs.declared.Written.{Written}
-use Rattle.desk.specs.Calls.{writing}
-use Rattle.desk.specs.Refusals.{turnedWriting, verdictOf}
-use Rattle.desk.specs.Desk.{seatOf, sound, answerOf, writtenOf, bufferOf}
+use Rattle.desk.specs.declared.Wired.{Wired}
+use Rattle.desk.specs.Calls.{closing, writing}
+use Rattle.desk.specs.Refusals.{turnedClosing, turnedWriting, verdictOf}
+use Rattle.desk.specs.Desk.{closedSeat, seatOf, lookAt, sound, answerOf, writtenOf, bufferOf, wiredOf}
+use Rattle.desk.proofs.Sound.{pins-lawful}
+use Rattle.desk.proofs.Found.{foundAt, close-answer, close-there, same-there}
 
--- Refused: no bytes, and the buffer as it was.
-module _ (d : Desk) (s : ℕ) (b : List ℕ) {v : Verdict} (e : answerOf d (writing s (length b)) ≡ v) (f : accepted v ≡ false) where
-  pub write-refused : (_≡_ {A = Written} (record { desk = d; verdict = v; bytes = 0 }) (writtenOf d s b)) × (b ≡ bufferOf d s b)
-  unfolding writtenOf bufferOf choose
-  write-refused = (rw (e, f), rw (e, f))
+-- Outcomes that are the same where a test holds.
+same-where : {A : Type 0} (t : Bool) {a b : A} (c : A) → (t ≡ true → a ≡ b) → choose t a c ≡ choose t b c
+unfolding choose
+same-where true c h = h refl
+same-where false c h = refl
 
--- At an open seat: 19, or accepted.
-module _ (d : Desk) (k : sound d ≡ true) (s : ℕ) (h : s < seats) (o : seatOf d s .opened ≡ true) (b : List ℕ) where
-  pub write-answer : answerOf d (writing s (length b)) ≡ turn (noRoom (seatOf d s .pins) (seatOf d s .job) b) RoomTooSmall Accepted
-  unfolding answerOf verdictOf turnedWriting noRoom turn choose
-  write-answer = rw (k, lt-leb seats s h, o)
+room-refused : accepted RoomTooSmall ≡ false
+unfolding accepted
+room-refused = refl
 
-  answer-by : (t : Bool) → noRoom (seatOf d s .pins) (seatOf d s .job) b ≡ t
-      → answerOf d (writing s (length b)) ≡ turn t RoomTooSmall Accepted
-  answer-by t e = rw e at write-answer
+all-accepted : accepted Accepted ≡ true
+unfolding accepted
+all-accepted = refl
 
-  told-by : (t : Bool) → noRoom (seatOf d s .pins) (seatOf d s .job) b ≡ t
-      → _≡_ {A = Written}
-      (record {
-        desk = d;
-        verdict = writeMap (seatOf d s .pins) (seatOf d s .job) b .verdict;
-        bytes = writeMap (seatOf d s .pins) (seatOf d s .job) b .bytes;
-      })
-      (writtenOf d s b)
-  unfolding writeMap writtenOf accepted turn choose
-  told-by true e = rw (answer-by true e, e)
-  told-by false e = rw (answer-by false e, e)
+module _ (d : Desk) (s : ℕ) {f : Found} (g : f ≡ foundAt d s) where
+  -- Where 28, 1 and 2 pass what is found, the seat found is the desk's.
+  abbrev before : Verdict
+  before = turnedClosing (lookIn f [] 0)
 
-  buffer-by : (t : Bool) → noRoom (seatOf d s .pins) (seatOf d s .job) b ≡ t
-      → bufferAfter (seatOf d s .pins) (seatOf d s .job) b ≡ bufferOf d s b
-  unfolding bufferAfter bufferOf accepted turn choose
-  buffer-by true e = rw (answer-by true e, e)
-  buffer-by false e = rw (answer-by false e, e)
+  abbrev answer : Verdict
+  answer = turnedClosing (lookAt d s)
 
-  pub write-done : {w : Writing} {x : List ℕ} → w ≡ writeMap (seatOf d s .pins) (seatOf d s .job) b
-      → x ≡ bufferAfter (seatOf d s .pins) (seatOf d s .job) b
-      → (_≡_ {A = Written} (record { desk = d; verdict = w .verdict; bytes = w .bytes }) (writtenOf d s b)) × (x ≡ bufferOf d s b)
-  write-done p q = (rw p (told-by _ refl), q ∙ buffer-by _ refl)
+  as-closing : answerOf d (closing s) ≡ answer
+  unfolding answerOf verdictOf
+  as-closing = refl
+
+  same-answer : before ≡ answer
+  same-answer = sym (close-answer d s g refl) ∙ as-closing
+
+  same-seat : accepted answer ≡ true → f .seat ≡ seatOf d s
+  same-seat y = same-there d s g (close-there d s g refl (ap accepted same-answer ∙ y))
+
+  -- Wiring: the answer with its legs.
+  pub wire-laid : (room : ℕ) {w : Laid} → w ≡ laidIn f room → _≡_ {A = Wired} (record { desk = d; laid = w }) (wiredOf d s room)
+  unfolding laidIn wiredOf
+  wire-laid room e =
+      let p : choose (accepted before) (wiringOf (feedOf (f .seat .pins)) room) (turnedAway before)
+      ≡ choose (accepted answer) (wiringOf (feedOf (f .seat .pins)) room) (turnedAway answer) =
+      ap (λ (v : Verdict). choose (accepted v) (wiringOf (feedOf (f .seat .pins)) room) (turnedAway v)) same-answer in
+      let q : choose (accepted answer) (wiringOf (feedOf (f .seat .pins)) room) (turnedAway answer)
+      ≡ choose (accepted answer) (wiringOf (feedOf (seatOf d s .pins)) room) (turnedAway answer) =
+      same-where (accepted answer) _ (λ y. ap (λ (t : Seat). wiringOf (feedOf (t .pins)) room) (same-seat y)) in
+      λ i. record { desk = d; laid = (e ∙ p ∙ q) i }
+
+  module _ (b : List ℕ) where
+    -- Writing: 28, 1 and 2, then 19, or accepted.
+    write-answer : answerOf d (writing s (length b)) ≡ choose (accepted answer) (turn (noRoom (seatOf d s .pins) (seatOf d s .job) b) RoomTooSmall Accepted) answer
+    unfolding answerOf verdictOf turnedClosing turnedWriting noRoom firstOf accepted
+    write-answer =
+        sym (joined (firstRows (lookAt d s)) Accepted (turn (noRoom (seatOf d s .pins) (seatOf d s .job) b) RoomTooSmall Accepted) (first-refusing (lookAt d s)) refl)
+
+    -- Turned away by them, by 19, or written.
+    abbrev outcome : Verdict → Bool → Bool → ℕ → Writing
+    outcome a t n count =
+        choose t (choose n (record { verdict = RoomTooSmall; bytes = 0 }) (record { verdict = Accepted; bytes = count })) (record { verdict = a; bytes = 0 })
+
+    told-by : (a : Verdict) (t n : Bool) (count : ℕ) → accepted a ≡ t
+        → _≡_ {A = Written}
+        (record { desk = d; verdict = outcome a t n count .verdict; bytes = outcome a t n count .bytes })
+        (record {
+          desk = d;
+          verdict = choose t (turn n RoomTooSmall Accepted) a;
+          bytes = choose (accepted (choose t (turn n RoomTooSmall Accepted) a)) count 0;
+        })
+    unfolding turn choose
+    told-by a true true count p = rw room-refused
+    told-by a true false count p = rw all-accepted
+    told-by a false n count p = rw p
+
+    held-by : (a : Verdict) (t n : Bool) (x y : List ℕ) → accepted a ≡ t
+        → choose t (choose n x y) x ≡ choose (accepted (choose t (turn n RoomTooSmall Accepted) a)) y x
+    unfolding turn choose
+    held-by a true true x y p = rw room-refused
+    held-by a true false x y p = rw all-accepted
+    held-by a false n x y p = rw p
+
+    pub write-done : {w : Writing} {x : List ℕ} → w ≡ writingIn f b → x ≡ bufferIn f b
+        → (_≡_ {A = Written} (record { desk = d; verdict = w .verdict; bytes = w .bytes }) (writtenOf d s b)) × (x ≡ bufferOf d s b)
+    unfolding writingIn bufferIn writtenOf bufferOf writeMap bufferAfter
+    write-done p q =
+        let n : Bool = noRoom (seatOf d s .pins) (seatOf d s .job) b in
+        let l : List ℕ = mapOf (seatOf d s .job) (seatOf d s .pins) in
+        let u : writingIn f b ≡ choose (accepted answer) (writeMap (seatOf d s .pins) (seatOf d s .job) b) (record { verdict = answer; bytes = 0 }) =
+        ap (λ (v : Verdict). choose (accepted v) (writeMap (f .seat .pins) (f .seat .job) b) (record { verdict = v; bytes = 0 })) same-answer
+        ∙ same-where (accepted answer) _ (λ y. ap (λ (t : Seat). writeMap (t .pins) (t .job) b) (same-seat y)) in
+        let h : bufferIn f b ≡ choose (accepted answer) (bufferAfter (seatOf d s .pins) (seatOf d s .job) b) b =
+        ap (λ (v : Verdict). choose (accepted v) (bufferAfter (f .seat .pins) (f .seat .job) b) b) same-answer
+        ∙ same-where (accepted answer) _ (λ y. ap (λ (t : Seat). bufferAfter (t .pins) (t .job) b) (same-seat y)) in (
+          ap (λ (w : Writing). record { desk = d; verdict = w .verdict; bytes = w .bytes }) (p ∙ u)
+              ∙ told-by answer (accepted answer) n (length l) refl
+              ∙ (λ i. record { desk = d; verdict = sym write-answer i; bytes = choose (accepted (sym write-answer i)) (length l) 0 }),
+          q ∙ h ∙ held-by answer (accepted answer) n b (written l b) refl ∙ ap (λ (v : Verdict). choose (accepted v) (written l b) b) (sym write-answer),
+        )
+
+-- What is found at an open seat of a desk that is not broken keeps the rules.
+lawful-by : (d : Desk) (s : ℕ) (t : Bool) → leb seats s ≡ t → not (sound d) ≡ false → choose t closedSeat (seatOf d s) .opened ≡ true
+    → lawful (choose t closedSeat (seatOf d s) .pins) ≡ true
+unfolding choose
+lawful-by d s true e k o = absurd (false≢true o)
+lawful-by d s false e k o = pins-lawful d (not-false _ k) s (leb-false seats s e) o
+
+pub found-lawful : (d : Desk) (s : ℕ) {f : Found} → f ≡ foundAt d s → f .broken ≡ false → f .seat .opened ≡ true → lawful (f .seat .pins) ≡ true
+unfolding sound
+found-lawful d s g k o = rw g (lawful-by d s _ refl (rw g at k) (rw g at o))

@@ -1,36 +1,24 @@
 // The desk: its seats and its journal, whether it is broken, and the calls that take it as it stands and hand back the desk that follows.
 use copper::Leg;
 use drawing::Edit;
-use drawing::PINS;
-use drawing::Pin;
 use grid::Place;
 use journal::RECORDS;
 use journal::Record;
 use journal::SEATS;
 use refusal::Verdict;
+use rows::Found;
+use seats::Seat;
 use wiring::Laid;
 use wiring::Wiring;
 ghost use mathlib.Core.Path.{_≡_};
 ghost use mathlib.Core.Bool.{true};
-ghost use mathlib.Core.List.{map};
 ghost use Prim.Native.Nat.{_<_, _≤_};
-ghost use lib.Dec.{eqb, leb};
-ghost use lib.ListN.{length, take, drop};
-ghost use Rattle.refusal.specs.Tests.{both};
 ghost use Rattle.drawing.specs.Pins.{pins};
 ghost use Rattle.drawing.specs.Edits.{pinOf};
-ghost use Rattle.journal.specs.Journal.{seats, records, seated};
+ghost use Rattle.journal.specs.Journal.{seats, records};
+ghost use Rattle.rows.specs.Found.{foundIn};
 ghost use Rattle.desk.specs.Calls.{opening, closing, placing, moving, removing, undoing, redoing};
-ghost use Rattle.desk.specs.Refusals.{sameJob, jobAmong};
-ghost use Rattle.desk.specs.Desk.{closedSeat, emptyDesk, seatOf, jobOf, jobsApart, soundOpen, soundClosed, soundSeat, soundTo, sound, freed, entered, step, writtenOf, bufferOf, wiredOf, wiredSeatOf, lentOf};
-
-// A seat: whether it is open, and if so its drawing's job and pins, and how many of its edits stand.
-pub struct Seat {
-    pub opened: bool,
-    pub job: u16,
-    pub pins: [Pin; PINS],
-    pub standing: usize,
-}
+ghost use Rattle.desk.specs.Desk.{emptyDesk, seatOf, sound, withSeat, freed, entered, step, writtenOf, bufferOf, wiredOf, wiredSeatOf, lentOf};
 
 // A desk: its seats, and the journal that they share, of which the first `used` records are in use.
 pub struct Desk {
@@ -64,102 +52,12 @@ pub struct WiredSeat {
     pub wiring: Wiring,
 }
 
-// A closed seat, as calls leave it.
-fn closed_seat() -> Seat
-    ensures { λ r. ⌜ r ≡ closedSeat ⌝ }
-{
-    let blank = drawing::absent_pin();
-    let pins = [blank; PINS];
-    Seat {
-        opened: false,
-        job: 0,
-        pins,
-        standing: 0,
-    }
-}
-
-// The job of an open seat, 0 for a closed one.
-fn job_of(seat: Seat) -> u16
-    ensures { λ r. ⌜ r ≡ jobOf seat ⌝ }
-{
-    if seat.opened { seat.job } else { 0 }
-}
-
-// The jobs of the seats.
-fn jobs_of(seats: [Seat; SEATS]) -> [u16; SEATS]
-    ensures { λ r. ⌜ r ≡ map jobOf seats ⌝ }
-{
-    let mut jobs = [0u16; SEATS];
-    let mut i: usize = 0;
-    while i < SEATS {
-        let s = seats[i];
-        jobs[i] = job_of(s);
-        i = i + 1;
-    }
-    jobs
-}
-
-// Whether two seats are open for one job.
-fn same_job(a: u16, b: u16) -> bool
-    ensures { λ r. ⌜ r ≡ sameJob a b ⌝ }
-{
-    if a == 0 { false } else { a == b }
-}
-
-// Whether a job is open at one of the seats numbered `from` and above.
-fn job_among(job: u16, jobs: [u16; SEATS], from: usize) -> bool
-    requires { ⌜ from ≤ seats ⌝ }
-    ensures { λ r. ⌜ r ≡ jobAmong job (drop from jobs) ⌝ }
-{
-    let mut i: usize = from;
-    while i < SEATS {
-        if same_job(job, jobs[i]) {
-            return true;
-        }
-        i = i + 1;
-    }
-    false
-}
-
-// Whether no job is repeated.
-fn jobs_apart(jobs: [u16; SEATS]) -> bool
-    ensures { λ r. ⌜ r ≡ jobsApart jobs ⌝ }
-{
-    let mut i: usize = 0;
-    while i < SEATS {
-        let job = jobs[i];
-        i = i + 1;
-        if job_among(job, jobs, i) {
-            return false;
-        }
-    }
-    true
-}
-
-// Whether the used count is in its range, and each used record's seat too.
-fn journal_is_sound(journal: [Record; RECORDS], used: usize) -> bool
-    ensures { λ r. ⌜ r ≡ both (eqb (length journal) records) (both (leb used records) (seated (take used journal))) ⌝ }
-{
-    if RECORDS < used {
-        return false;
-    }
-    journal::all_seated(journal, used)
-}
-
-// Whether no job of these seats is repeated.
-fn jobs_are_sound(seats: [Seat; SEATS]) -> bool
-    ensures { λ r. ⌜ r ≡ both (eqb (length seats) 8) (jobsApart (map jobOf seats)) ⌝ }
-{
-    let jobs = jobs_of(seats);
-    jobs_apart(jobs)
-}
-
 impl Desk {
     // The empty desk: every seat closed, no record in use.
     pub fn empty() -> Desk
         ensures { λ r. ⌜ r ≡ emptyDesk ⌝ }
     {
-        let seat = closed_seat();
+        let seat = seats::closed_seat();
         let record = journal::blank_record();
         let seats = [seat; SEATS];
         let records = [record; RECORDS];
@@ -170,184 +68,47 @@ impl Desk {
         }
     }
 
-    // Whether an open seat is sound.
-    fn open_is_sound(self, seat: usize) -> bool
-        requires { ⌜ (seat < seats) × (self .used ≤ records) ⌝ }
-        ensures { λ r. ⌜ r ≡ soundOpen self seat ⌝ }
-    {
-        let d = self;
-        let s = d.seats[seat];
-        if s.job == 0 {
-            return false;
-        }
-        let records = d.journal;
-        let used = d.used;
-        let standing = s.standing;
-        let owned = journal::count_of(records, used, seat);
-        if owned < standing {
-            return false;
-        }
-        let pins = s.pins;
-        if drawing::keep_rules(pins) {
-            if journal::can_take_back_all(pins, records, used, seat, owned, standing) {
-                journal::can_redo_all(pins, records, used, seat, standing)
-            } else {
-                false
-            }
-        } else {
-            false
-        }
-    }
-
-    // Whether a closed seat is sound: it owns no records.
-    fn closed_is_sound(self, seat: usize) -> bool
-        requires { ⌜ self .used ≤ records ⌝ }
-        ensures { λ r. ⌜ r ≡ soundClosed self seat ⌝ }
-    {
-        let d = self;
-        let records = d.journal;
-        let used = d.used;
-        journal::count_of(records, used, seat) == 0
-    }
-
-    // Whether a seat is sound.
-    fn seat_is_sound(self, seat: usize) -> bool
-        requires { ⌜ (seat < seats) × (self .used ≤ records) ⌝ }
-        ensures { λ r. ⌜ r ≡ soundSeat self seat ⌝ }
-    {
-        let d = self;
-        let s = d.seats[seat];
-        if s.opened {
-            d.open_is_sound(seat)
-        } else {
-            d.closed_is_sound(seat)
-        }
-    }
-
-    // Whether every seat is sound.
-    fn seats_are_sound(self) -> bool
-        requires { ⌜ self .used ≤ records ⌝ }
-        ensures { λ r. ⌜ r ≡ soundTo seats self ⌝ }
-    {
-        let d = self;
-        let mut i: usize = 0;
-        while i < SEATS {
-            if d.seat_is_sound(i) {
-                i = i + 1;
-            } else {
-                return false;
-            }
-        }
-        true
-    }
-
     // Whether the desk is not broken.
     pub fn is_sound(self) -> bool
         ensures { λ r. ⌜ r ≡ sound self ⌝ }
     {
-        let d = self;
-        let used = d.used;
-        let records = d.journal;
-        let seats = d.seats;
-        if journal_is_sound(records, used) {
-            if jobs_are_sound(seats) {
-                d.seats_are_sound()
-            } else {
-                false
-            }
-        } else {
-            false
-        }
+        let seats = self.seats;
+        let records = self.journal;
+        seats::are_sound(seats, records, self.used)
     }
-}
 
-impl Desk {
-    // Opens a sound desk's seat for a job with the drawing of a pin map, or says why not.
-    fn opened(self, seat: usize, job: u16, map: &[u8]) -> Answered
-        requires { ⌜ sound self ≡ true ⌝ }
-        ensures { λ r. ⌜ r ≡ step self (opening seat job (now (map .entry))) ⌝ }
+    // What a call finds at the seat that it names.
+    fn find(self, seat: usize) -> Found
+        ensures { λ r. ⌜ r ≡ foundIn (self .seats) (self .journal) (self .used) seat ⌝ }
+    {
+        let seats = self.seats;
+        let records = self.journal;
+        rows::find(seats, records, self.used, seat)
+    }
+
+    // The desk with one seat changed.
+    fn with_seat(self, seat: usize, following: Seat) -> Desk
+        requires { ⌜ seat < seats ⌝ }
+        ensures { λ r. ⌜ r ≡ withSeat self seat following ⌝ }
     {
         let mut d = self;
-        if SEATS <= seat {
-            return Answered {
-                desk: d,
-                verdict: Verdict::SeatAbove,
-            };
-        }
-        let s = d.seats[seat];
-        if s.opened {
-            return Answered {
-                desk: d,
-                verdict: Verdict::OpenAlready,
-            };
-        }
-        if job == 0 {
-            return Answered {
-                desk: d,
-                verdict: Verdict::JobZero,
-            };
-        }
-        let seats = d.seats;
-        let jobs = jobs_of(seats);
-        if job_among(job, jobs, 0) {
-            return Answered {
-                desk: d,
-                verdict: Verdict::JobElsewhere,
-            };
-        }
-        let reading = pinmap::read_map(map, job);
-        let verdict = reading.verdict;
-        if refusal::is_accepted(verdict) {
-            let pins = reading.pins;
-            d.seats[seat] = Seat {
-                opened: true,
-                job,
-                pins,
-                standing: 0,
-            };
-        }
-        Answered { desk: d, verdict }
+        d.seats[seat] = following;
+        d
     }
 
-    // Frees a seat's records beyond its first `keep`.
+    // The desk with a seat's records beyond its first `keep` freed.
     fn freed(self, seat: usize, keep: usize) -> Desk
         requires { ⌜ self .used ≤ records ⌝ }
         ensures { λ r. ⌜ r ≡ freed self seat keep ⌝ }
     {
-        let mut d = self;
-        let records = d.journal;
-        let used = d.used;
-        let left = journal::compact(records, used, seat, keep);
+        let records = self.journal;
+        let left = journal::compact(records, self.used, seat, keep);
+        let seats = self.seats;
         let remaining = left.journal;
-        d.journal = remaining;
-        d.used = left.used;
-        d
-    }
-
-    // Closes a sound desk's seat, or says why not.
-    fn closed(self, seat: usize) -> Answered
-        requires { ⌜ sound self ≡ true ⌝ }
-        ensures { λ r. ⌜ r ≡ step self (closing seat) ⌝ }
-    {
-        let d = self;
-        if SEATS <= seat {
-            return Answered {
-                desk: d,
-                verdict: Verdict::SeatAbove,
-            };
-        }
-        let s = d.seats[seat];
-        if !s.opened {
-            return Answered {
-                desk: d,
-                verdict: Verdict::NotOpen,
-            };
-        }
-        let mut without = d.freed(seat, 0);
-        without.seats[seat] = closed_seat();
-        Answered {
-            desk: without,
-            verdict: Verdict::Accepted,
+        Desk {
+            seats,
+            journal: remaining,
+            used: left.used,
         }
     }
 
@@ -356,308 +117,24 @@ impl Desk {
         requires { ⌜ (sound self ≡ true) × (seat < seats) × (seatOf self seat .opened ≡ true) × (pinOf edit < pins) ⌝ }
         ensures { λ r. ⌜ r ≡ entered self seat edit ⌝ }
     {
-        let given = self;
-        let mut s = given.seats[seat];
-        let standing = s.standing;
-        let mut next = given.freed(seat, standing);
+        let s = self.seats[seat];
+        let mut next = self.freed(seat, s.standing);
         let count = next.used;
         if RECORDS <= count {
             return Answered {
-                desk: given,
+                desk: self,
                 verdict: Verdict::JournalFull,
             };
         }
         let records = next.journal;
         let following = journal::append(records, count, Record { seat, edit });
-        let pins = s.pins;
-        let changed = drawing::make(pins, edit);
-        s.pins = changed;
-        s.standing = standing + 1;
-        next.seats[seat] = s;
         next.journal = following;
         next.used = count + 1;
+        next.seats[seat] = seats::edited(s, edit);
         Answered {
             desk: next,
             verdict: Verdict::Accepted,
         }
-    }
-
-    // Places a pin of a sound desk's drawing, or says why not.
-    fn placed(self, seat: usize, pin: usize, at: Place) -> Answered
-        requires { ⌜ sound self ≡ true ⌝ }
-        ensures { λ r. ⌜ r ≡ step self (placing seat pin at) ⌝ }
-    {
-        let d = self;
-        if SEATS <= seat {
-            return Answered {
-                desk: d,
-                verdict: Verdict::SeatAbove,
-            };
-        }
-        let s = d.seats[seat];
-        if !s.opened {
-            return Answered {
-                desk: d,
-                verdict: Verdict::NotOpen,
-            };
-        }
-        if PINS <= pin {
-            return Answered {
-                desk: d,
-                verdict: Verdict::NoSuchPin,
-            };
-        }
-        let pins = s.pins;
-        let q = pins[pin];
-        if drawing::is_there(q) {
-            return Answered {
-                desk: d,
-                verdict: Verdict::PinThere,
-            };
-        }
-        if !grid::is_inside(at) {
-            return Answered {
-                desk: d,
-                verdict: Verdict::Outside,
-            };
-        }
-        if drawing::is_crowded(pins, pin, at) {
-            return Answered {
-                desk: d,
-                verdict: Verdict::PlaceTaken,
-            };
-        }
-        let edit = drawing::edit_placing(pin, at);
-        d.entered(seat, edit)
-    }
-
-    // Moves a pin of a sound desk's drawing, or says why not.
-    fn shifted(self, seat: usize, pin: usize, to: Place) -> Answered
-        requires { ⌜ sound self ≡ true ⌝ }
-        ensures { λ r. ⌜ r ≡ step self (moving seat pin to) ⌝ }
-    {
-        let d = self;
-        if SEATS <= seat {
-            return Answered {
-                desk: d,
-                verdict: Verdict::SeatAbove,
-            };
-        }
-        let s = d.seats[seat];
-        if !s.opened {
-            return Answered {
-                desk: d,
-                verdict: Verdict::NotOpen,
-            };
-        }
-        if PINS <= pin {
-            return Answered {
-                desk: d,
-                verdict: Verdict::NoSuchPin,
-            };
-        }
-        let pins = s.pins;
-        let q = pins[pin];
-        if !drawing::is_there(q) {
-            return Answered {
-                desk: d,
-                verdict: Verdict::NoSuchPin,
-            };
-        }
-        if !grid::is_inside(to) {
-            return Answered {
-                desk: d,
-                verdict: Verdict::Outside,
-            };
-        }
-        if drawing::stands_at(q, to) {
-            return Answered {
-                desk: d,
-                verdict: Verdict::PlaceTaken,
-            };
-        }
-        if drawing::is_crowded(pins, pin, to) {
-            return Answered {
-                desk: d,
-                verdict: Verdict::PlaceTaken,
-            };
-        }
-        let edit = drawing::edit_moving(pins, pin, to);
-        d.entered(seat, edit)
-    }
-
-    // Removes a pin of a sound desk's drawing, or says why not.
-    fn removed(self, seat: usize, pin: usize) -> Answered
-        requires { ⌜ sound self ≡ true ⌝ }
-        ensures { λ r. ⌜ r ≡ step self (removing seat pin) ⌝ }
-    {
-        let d = self;
-        if SEATS <= seat {
-            return Answered {
-                desk: d,
-                verdict: Verdict::SeatAbove,
-            };
-        }
-        let s = d.seats[seat];
-        if !s.opened {
-            return Answered {
-                desk: d,
-                verdict: Verdict::NotOpen,
-            };
-        }
-        if PINS <= pin {
-            return Answered {
-                desk: d,
-                verdict: Verdict::NoSuchPin,
-            };
-        }
-        let pins = s.pins;
-        let q = pins[pin];
-        if !drawing::is_there(q) {
-            return Answered {
-                desk: d,
-                verdict: Verdict::NoSuchPin,
-            };
-        }
-        let edit = drawing::edit_removing(pins, pin);
-        d.entered(seat, edit)
-    }
-
-    // Takes back the latest standing edit of a sound desk's drawing, or says why not.
-    fn undone(self, seat: usize) -> Answered
-        requires { ⌜ sound self ≡ true ⌝ }
-        ensures { λ r. ⌜ r ≡ step self (undoing seat) ⌝ }
-    {
-        let d = self;
-        if SEATS <= seat {
-            return Answered {
-                desk: d,
-                verdict: Verdict::SeatAbove,
-            };
-        }
-        let mut s = d.seats[seat];
-        if !s.opened {
-            return Answered {
-                desk: d,
-                verdict: Verdict::NotOpen,
-            };
-        }
-        let standing = s.standing;
-        if standing == 0 {
-            return Answered {
-                desk: d,
-                verdict: Verdict::NothingStands,
-            };
-        }
-        let records = d.journal;
-        let used = d.used;
-        let latest = standing - 1;
-        let edit = journal::edit_of(records, used, seat, latest);
-        let pins = s.pins;
-        let former = drawing::take_back(pins, edit);
-        s.pins = former;
-        s.standing = latest;
-        let mut earlier = d;
-        earlier.seats[seat] = s;
-        Answered {
-            desk: earlier,
-            verdict: Verdict::Accepted,
-        }
-    }
-
-    // Makes the most recently taken-back edit of a sound desk's drawing again, or says why not.
-    fn redone(self, seat: usize) -> Answered
-        requires { ⌜ sound self ≡ true ⌝ }
-        ensures { λ r. ⌜ r ≡ step self (redoing seat) ⌝ }
-    {
-        let d = self;
-        if SEATS <= seat {
-            return Answered {
-                desk: d,
-                verdict: Verdict::SeatAbove,
-            };
-        }
-        let mut s = d.seats[seat];
-        if !s.opened {
-            return Answered {
-                desk: d,
-                verdict: Verdict::NotOpen,
-            };
-        }
-        let standing = s.standing;
-        let records = d.journal;
-        let used = d.used;
-        let owned = journal::count_of(records, used, seat);
-        if owned <= standing {
-            return Answered {
-                desk: d,
-                verdict: Verdict::NothingTakenBack,
-            };
-        }
-        let edit = journal::edit_of(records, used, seat, standing);
-        let pins = s.pins;
-        let remade = drawing::make(pins, edit);
-        s.pins = remade;
-        s.standing = standing + 1;
-        let mut later = d;
-        later.seats[seat] = s;
-        Answered {
-            desk: later,
-            verdict: Verdict::Accepted,
-        }
-    }
-
-    // Writes the map of a sound desk's drawing into a lent buffer, or says why not.
-    fn written(self, seat: usize, buffer: &mut [u8]) -> Written
-        requires { ⌜ sound self ≡ true ⌝ }
-        ensures { λ r. ⌜ r ≡ writtenOf self seat (now (buffer .entry)) ⌝ }
-        ensures { λ _. ⌜ now (buffer .exit) ≡ bufferOf self seat (now (buffer .entry)) ⌝ }
-    {
-        let d = self;
-        if SEATS <= seat {
-            return Written {
-                desk: d,
-                verdict: Verdict::SeatAbove,
-                bytes: 0,
-            };
-        }
-        let s = d.seats[seat];
-        if !s.opened {
-            return Written {
-                desk: d,
-                verdict: Verdict::NotOpen,
-                bytes: 0,
-            };
-        }
-        let pins = s.pins;
-        let writing = pinmap::write_map(pins, s.job, buffer);
-        let verdict = writing.verdict;
-        Written {
-            desk: d,
-            verdict,
-            bytes: writing.bytes,
-        }
-    }
-
-    // Wires the drawing of a sound desk's seat with room for so many legs, or says why not.
-    fn wired(self, seat: usize, room: usize) -> Wired
-        requires { ⌜ sound self ≡ true ⌝ }
-        ensures { λ r. ⌜ r ≡ wiredOf self seat room ⌝ }
-    {
-        let d = self;
-        if SEATS <= seat {
-            let laid = wiring::refused(Verdict::SeatAbove);
-            return Wired { desk: d, laid };
-        }
-        let s = d.seats[seat];
-        if !s.opened {
-            let laid = wiring::refused(Verdict::NotOpen);
-            return Wired { desk: d, laid };
-        }
-        let pins = s.pins;
-        let feed = drawing::feed(pins);
-        let laid = wiring::wire_feed(feed, room);
-        Wired { desk: d, laid }
     }
 }
 
@@ -667,13 +144,22 @@ impl Desk {
     pub fn open(self, seat: usize, job: u16, map: &[u8]) -> Answered
         ensures { λ r. ⌜ r ≡ step self (opening seat job (now (map .entry))) ⌝ }
     {
-        let d = self;
-        if d.is_sound() {
-            d.opened(seat, job, map)
+        let found = self.find(seat);
+        let seats = self.seats;
+        let reading = rows::opening(found, seats, job, map);
+        let verdict = reading.verdict;
+        if refusal::is_accepted(verdict) {
+            let pins = reading.pins;
+            let opened = seats::open_seat(job, pins);
+            let next = self.with_seat(seat, opened);
+            Answered {
+                desk: next,
+                verdict,
+            }
         } else {
             Answered {
-                desk: d,
-                verdict: Verdict::DeskBroken,
+                desk: self,
+                verdict,
             }
         }
     }
@@ -682,13 +168,20 @@ impl Desk {
     pub fn close(self, seat: usize) -> Answered
         ensures { λ r. ⌜ r ≡ step self (closing seat) ⌝ }
     {
-        let d = self;
-        if d.is_sound() {
-            d.closed(seat)
+        let found = self.find(seat);
+        let verdict = rows::turned_closing(found);
+        if refusal::is_accepted(verdict) {
+            let without = self.freed(seat, 0);
+            let closed = seats::closed_seat();
+            let next = without.with_seat(seat, closed);
+            Answered {
+                desk: next,
+                verdict,
+            }
         } else {
             Answered {
-                desk: d,
-                verdict: Verdict::DeskBroken,
+                desk: self,
+                verdict,
             }
         }
     }
@@ -697,13 +190,15 @@ impl Desk {
     pub fn place(self, seat: usize, pin: usize, at: Place) -> Answered
         ensures { λ r. ⌜ r ≡ step self (placing seat pin at) ⌝ }
     {
-        let d = self;
-        if d.is_sound() {
-            d.placed(seat, pin, at)
+        let found = self.find(seat);
+        let verdict = rows::turned_placing(found, pin, at);
+        if refusal::is_accepted(verdict) {
+            let edit = drawing::edit_placing(pin, at);
+            self.entered(seat, edit)
         } else {
             Answered {
-                desk: d,
-                verdict: Verdict::DeskBroken,
+                desk: self,
+                verdict,
             }
         }
     }
@@ -712,13 +207,17 @@ impl Desk {
     pub fn shift(self, seat: usize, pin: usize, to: Place) -> Answered
         ensures { λ r. ⌜ r ≡ step self (moving seat pin to) ⌝ }
     {
-        let d = self;
-        if d.is_sound() {
-            d.shifted(seat, pin, to)
+        let found = self.find(seat);
+        let verdict = rows::turned_moving(found, pin, to);
+        if refusal::is_accepted(verdict) {
+            let s = found.seat;
+            let pins = s.pins;
+            let edit = drawing::edit_moving(pins, pin, to);
+            self.entered(seat, edit)
         } else {
             Answered {
-                desk: d,
-                verdict: Verdict::DeskBroken,
+                desk: self,
+                verdict,
             }
         }
     }
@@ -727,13 +226,17 @@ impl Desk {
     pub fn remove(self, seat: usize, pin: usize) -> Answered
         ensures { λ r. ⌜ r ≡ step self (removing seat pin) ⌝ }
     {
-        let d = self;
-        if d.is_sound() {
-            d.removed(seat, pin)
+        let found = self.find(seat);
+        let verdict = rows::turned_removing(found, pin);
+        if refusal::is_accepted(verdict) {
+            let s = found.seat;
+            let pins = s.pins;
+            let edit = drawing::edit_removing(pins, pin);
+            self.entered(seat, edit)
         } else {
             Answered {
-                desk: d,
-                verdict: Verdict::DeskBroken,
+                desk: self,
+                verdict,
             }
         }
     }
@@ -742,13 +245,21 @@ impl Desk {
     pub fn undo(self, seat: usize) -> Answered
         ensures { λ r. ⌜ r ≡ step self (undoing seat) ⌝ }
     {
-        let d = self;
-        if d.is_sound() {
-            d.undone(seat)
+        let found = self.find(seat);
+        let verdict = rows::turned_undoing(found);
+        if refusal::is_accepted(verdict) {
+            let s = found.seat;
+            let records = self.journal;
+            let earlier = seats::undone(s, records, self.used, seat);
+            let next = self.with_seat(seat, earlier);
+            Answered {
+                desk: next,
+                verdict,
+            }
         } else {
             Answered {
-                desk: d,
-                verdict: Verdict::DeskBroken,
+                desk: self,
+                verdict,
             }
         }
     }
@@ -757,13 +268,21 @@ impl Desk {
     pub fn redo(self, seat: usize) -> Answered
         ensures { λ r. ⌜ r ≡ step self (redoing seat) ⌝ }
     {
-        let d = self;
-        if d.is_sound() {
-            d.redone(seat)
+        let found = self.find(seat);
+        let records = self.journal;
+        let verdict = rows::turned_redoing(found, records, self.used);
+        if refusal::is_accepted(verdict) {
+            let s = found.seat;
+            let later = seats::redone(s, records, self.used, seat);
+            let next = self.with_seat(seat, later);
+            Answered {
+                desk: next,
+                verdict,
+            }
         } else {
             Answered {
-                desk: d,
-                verdict: Verdict::DeskBroken,
+                desk: self,
+                verdict,
             }
         }
     }
@@ -773,15 +292,13 @@ impl Desk {
         ensures { λ r. ⌜ r ≡ writtenOf self seat (now (buffer .entry)) ⌝ }
         ensures { λ _. ⌜ now (buffer .exit) ≡ bufferOf self seat (now (buffer .entry)) ⌝ }
     {
-        let d = self;
-        if d.is_sound() {
-            d.written(seat, buffer)
-        } else {
-            Written {
-                desk: d,
-                verdict: Verdict::DeskBroken,
-                bytes: 0,
-            }
+        let found = self.find(seat);
+        let writing = rows::writing(found, buffer);
+        let verdict = writing.verdict;
+        Written {
+            desk: self,
+            verdict,
+            bytes: writing.bytes,
         }
     }
 
@@ -789,13 +306,9 @@ impl Desk {
     pub fn wire(self, seat: usize, room: usize) -> Wired
         ensures { λ r. ⌜ r ≡ wiredOf self seat room ⌝ }
     {
-        let d = self;
-        if d.is_sound() {
-            d.wired(seat, room)
-        } else {
-            let laid = wiring::refused(Verdict::DeskBroken);
-            Wired { desk: d, laid }
-        }
+        let found = self.find(seat);
+        let laid = rows::wiring(found, room);
+        Wired { desk: self, laid }
     }
 
     // Wires the drawing at `seat` and fills a lent list with its legs, or says why not. Entries after the legs keep what they held.

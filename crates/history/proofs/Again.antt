@@ -17,7 +17,7 @@ use Rattle.drawing.specs.Edits.{made, unmade, makeable, takeable}
 use Rattle.drawing.proofs.Making.{made-unmade, unmade-made}
 use Rattle.journal.specs.Journal.{seats, noEdit}
 use Rattle.journal.proofs.Turns.{turn-first}
-use Rattle.desk.specs.declared.Seat.{Seat}
+use Rattle.seats.specs.declared.Seat.{Seat}
 use Rattle.desk.specs.declared.Desk.{Desk}
 use Rattle.desk.specs.Calls.{Call, undoing, redoing}
 use Rattle.desk.specs.Refusals.{Look, turnedUndoing, turnedRedoing, verdictOf}

@@ -18,7 +18,7 @@ use Rattle.pinmap.specs.Map.{readAs, readMap, mapOf, written}
 use Rattle.pinmap.proofs.Records.{Bytes}
 use Rattle.pinmap.proofs.RoundTrip.{map-opens, same-bytes}
 use Rattle.journal.specs.Journal.{seats}
-use Rattle.desk.specs.declared.Seat.{Seat}
+use Rattle.seats.specs.declared.Seat.{Seat}
 use Rattle.desk.specs.declared.Desk.{Desk}
 use Rattle.desk.specs.declared.Answered.{Answered}
 use Rattle.desk.specs.Calls.{Call, opening}

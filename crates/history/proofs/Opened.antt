@@ -17,7 +17,7 @@ use Rattle.pinmap.specs.Map.{readMap}
 use Rattle.journal.specs.Journal.{seats, own, kept}
 use Rattle.journal.proofs.Own.{own-kept}
 use Rattle.journal.proofs.Filled.{take-filled}
-use Rattle.desk.specs.declared.Seat.{Seat}
+use Rattle.seats.specs.declared.Seat.{Seat}
 use Rattle.desk.specs.declared.Desk.{Desk}
 use Rattle.desk.specs.Calls.{Call, seatIn, opening, closing, placing, moving, removing, undoing, redoing, writing, wiring}
 use Rattle.desk.specs.Refusals.{verdictOf}

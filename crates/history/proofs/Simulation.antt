@@ -16,7 +16,7 @@ use Rattle.drawing.specs.declared.Edit.{Edit}
 use Rattle.journal.specs.declared.Record.{Record}
 use Rattle.journal.specs.Journal.{seats, records, noEdit, own, seated}
 use Rattle.journal.proofs.Filled.{take-filled, filled-length}
-use Rattle.desk.specs.declared.Seat.{Seat}
+use Rattle.seats.specs.declared.Seat.{Seat}
 use Rattle.desk.specs.declared.Desk.{Desk}
 use Rattle.desk.specs.Desk.{noSeat, live, jobOf, jobsOf, withSeat, withRecords}
 use Rattle.history.specs.History.{Told, shut, opened, pinsBy, isOpen, jobIn, pinsIn, standingIn, takenBackIn, editsIn, sum, toldOf, usedIn}

@@ -21,7 +21,7 @@ use Rattle.pinmap.specs.Map.{readMap}
 use Rattle.journal.specs.Journal.{seats, records, noEdit, kept, added}
 use Rattle.journal.proofs.Own.{own-kept, own-other, own-added, other-added, added-length, kept-length}
 use Rattle.journal.proofs.Seated.{seated-kept, seated-added}
-use Rattle.desk.specs.declared.Seat.{Seat}
+use Rattle.seats.specs.declared.Seat.{Seat}
 use Rattle.desk.specs.declared.Desk.{Desk}
 use Rattle.desk.specs.Calls.{Call, seatIn, opening, closing, placing, moving, removing, undoing, redoing, writing, wiring}
 use Rattle.desk.specs.Refusals.{Look, full, turnedOpening, turnedClosing, turnedPlacing, turnedMoving, turnedRemoving, turnedUndoing, turnedRedoing, turnedWriting, turnedWiring, verdictOf}
@@ -113,7 +113,7 @@ module _ (d : Desk) (h : List Told) (g : Agrees d h) (f : Sane h) where
     here : At (seatOf d s) (editsOf d s) (toldOf h s)
     here = g .holds .at s k
 
-  seat-by : (s : ℕ) (t : Told) → At (seatOf d s) (editsOf d s) t → sane t → soundSeat d s ≡ true
+  seat-by : (s : ℕ) (t : Told) → At (seatOf d s) (editsOf d s) t → sane t → soundSeat (seatOf d s) (editsOf d s) ≡ true
   unfolding soundSeat soundOpen soundClosed sane choose
   seat-by s shut a e =
       rw (shown-open (seatOf d s) (editsOf d s) shut a) (eq-eqb _ _ (shown-length (seatOf d s) (editsOf d s) shut a))
@@ -133,7 +133,7 @@ module _ (d : Desk) (h : List Told) (g : Agrees d h) (f : Sane h) where
       (both-of (stood-lawful first standing (e .start) (e .stands))
       (both-of (stood-takeable first standing (e .start) (e .stands)) (e .redoes)))))
 
-  seats-sound : (n : ℕ) → n ≤ seats → soundTo n d ≡ true
+  seats-sound : (n : ℕ) → n ≤ seats → soundTo n (d .seats) (live d) ≡ true
   unfolding soundTo
   seats-sound zero k = refl
   seats-sound (suc n) k = both-of (seats-sound n (omega arith)) (seat-by n (toldOf h n) (here n k) (f .each n))

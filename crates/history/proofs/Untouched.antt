@@ -12,7 +12,7 @@ use Rattle.journal.specs.declared.Record.{Record}
 use Rattle.journal.specs.Journal.{own}
 use Rattle.journal.proofs.Own.{own-other, other-added}
 use Rattle.journal.proofs.Filled.{take-filled}
-use Rattle.desk.specs.declared.Seat.{Seat}
+use Rattle.seats.specs.declared.Seat.{Seat}
 use Rattle.desk.specs.declared.Desk.{Desk}
 use Rattle.desk.specs.Calls.{Call, seatIn, opening, closing, placing, moving, removing, undoing, redoing, writing, wiring}
 use Rattle.desk.specs.Desk.{noSeat, seatOf, live, editsOf, standingOf, takenBackOf, withSeat, withRecords, edited, effect, answerOf, step, writtenOf, bufferOf, wiredOf}

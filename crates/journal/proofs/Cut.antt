@@ -1,15 +1,16 @@
 -- A seat's edits cut into those that stand, the latest first, and those taken back: the cut one edit further on, and after a new edit. Assumes nothing.
-use mathlib.Core.Path.{_≡_, _∙_}
+use mathlib.Core.Path.{_≡_, refl, ap, sym, _∙_}
 use mathlib.Core.List.{List, [], _∷_, reverse, reverse-append}
-use Prim.Native.Nat.{ℕ, _+_, _<_, _≤_}
+use Prim.Native.Nat.{ℕ, _+_, _-_, _<_, _≤_}
 use native.Mathlib.Numerals.{add-one}
 use native.Mathlib.Omega.{arith}
-use lib.ListN.{length, take, drop, getD, length-append, drop-of-length-le}
+use lib.ListN.{length, take, drop, getD, length-append, length-reverse, drop-of-length-le}
 use lib.Seq.{take-suc, drop-cons, take-all, length-take-le}
 use Rattle.drawing.specs.declared.Edit.{Edit}
 use Rattle.journal.specs.declared.Record.{Record}
 use Rattle.journal.specs.Journal.{own, added}
 use Rattle.journal.proofs.Own.{own-added}
+use Rattle.journal.proofs.Passing.{turned}
 
 -- One edit more stands than the first n: the edit of number n, counted from 0, is the latest.
 pub stands-more : {A : Type 0} (l : List A) (n : ℕ) (d : A) → n < length l → reverse (take (n + 1) l) ≡ getD l n d ∷ reverse (take n l)
@@ -18,6 +19,12 @@ stands-more l n d h = rw (add-one, take-suc l n d h) (reverse-append (take n l) 
 -- The edit of number n is the next to redo where the first n stand.
 pub back-less : {A : Type 0} (l : List A) (n : ℕ) (d : A) → n < length l → drop n l ≡ getD l n d ∷ drop (n + 1) l
 back-less l n d h = rw add-one (drop-cons l n d h)
+
+-- The edit of number n is the one that has all but the first n + 1 after it.
+pub counted-back : {A : Type 0} (l : List A) (n : ℕ) (d : A) → n < length l → getD (reverse l) (length l - (n + 1)) d ≡ getD l n d
+counted-back {A = A} l n d h =
+    let k : length l - (n + 1) < length (reverse l) = omega (arith, length-reverse l) in
+    ap (λ (m : List A). getD m 0 d) (sym (drop-cons (reverse l) (length l - (n + 1)) d k) ∙ turned l (length l) (n + 1) refl ∙ stands-more l n d h)
 
 -- After a new edit of a seat of whose edits the first k stood, it stands on those, and none is taken back.
 module _ (s k : ℕ) (e : Edit) (l : List Record) (h : k ≤ length (own s l)) where

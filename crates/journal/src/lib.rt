@@ -65,16 +65,16 @@ pub fn count_of(journal: [Record; RECORDS], used: usize, seat: usize) -> usize
     count
 }
 
-// The seat's edit of that number, counted from 0.
-pub fn edit_of(journal: [Record; RECORDS], used: usize, seat: usize, number: usize) -> Edit
+// The seat's edit that has `later` of its edits after it: with none, the newest of that seat.
+pub fn edit_of(journal: [Record; RECORDS], used: usize, seat: usize, later: usize) -> Edit
     requires { ⌜ used ≤ records ⌝ }
-    ensures { λ r. ⌜ r ≡ getD (own seat (take used journal)) number noEdit ⌝ }
+    ensures { λ r. ⌜ r ≡ getD (reverse (own seat (take used journal))) later noEdit ⌝ }
 {
-    let mut left: usize = number;
-    let mut i: usize = 0;
-    while i < used {
+    let mut left: usize = later;
+    let mut i: usize = used;
+    while 0 < i {
+        i = i - 1;
         let sought = journal[i];
-        i = i + 1;
         if sought.seat == seat {
             if left == 0 {
                 let e = sought.edit;

@@ -1,2 +1,3 @@
 -- The table of worked cases.
+pub mod Cases
 pub mod Table

@@ -1,32 +1,29 @@
 -- W1 to W8 and D1 to D3 of document 01, as one statement over a table: the boards by the definition of bare wiring, the desks by the
 -- definition of a call from the empty desk. Assumes nothing.
 use mathlib.Core.Path.{_≡_, refl}
-use mathlib.Core.Bool.{true}
 use mathlib.Core.List.{List, [], _∷_, _++_, map}
 use Prim.Native.Nat.{ℕ}
-use lib.IntN.{ℤ, pos, negsuc}
-use lib.ListN.{replicate, take}
+use lib.IntN.{pos, negsuc}
 use Rattle.refusal.specs.Tests.{both, either, choose}
 use Rattle.refusal.specs.Refusals.{accepted, turn}
 use Rattle.refusal.specs.declared.Verdict.{Verdict}
-use Rattle.refusal.specs.declared.Verdict.the-variants.{Accepted, PlaceTaken, NothingStands, NothingTakenBack, DeskBroken}
-use Rattle.grid.specs.declared.Place.{Place}
+use Rattle.refusal.specs.declared.Verdict.the-variants.{Accepted, NothingStands, NothingTakenBack}
 use Rattle.grid.specs.Number.{first, second, third, fourth}
 use Rattle.grid.specs.Place.{onBoard, inside, difference, closer, tooNear, sameNumber, samePlace}
 use Rattle.drawing.specs.declared.Pin.{Pin}
-use Rattle.drawing.specs.Pins.{pins, absent, there, holding, isThere, sameHeld, samePin, samePins, meets, meetsAny, crowded, within, settled, allWithin, allApart, lawful}
-use Rattle.drawing.specs.Edits.{movedPin, made, unmade, standsAt, fits, placeable, movable, makeable, takeable, heldBy, placed}
+use Rattle.drawing.specs.Pins.{pins, isThere, sameHeld, samePin, samePins, meets, meetsAny, crowded, within, settled, allWithin, allApart, lawful}
+use Rattle.drawing.specs.Edits.{movedPin, made, unmade, standsAt, fits, placeable, movable, makeable, takeable, heldBy}
 use Rattle.pinmap.specs.Record.{recordBytes, pinBytes}
-use Rattle.pinmap.specs.Map.{noPins, readFrom, wrongLength, readMap, mapFrom, mapOf, written}
-use Rattle.journal.specs.Journal.{recorded, own, kept, filled, seated, inTurn}
-use Rattle.desk.specs.declared.Desk.{Desk}
+use Rattle.pinmap.specs.Map.{noPins, readFrom, wrongLength, readMap, mapFrom, mapOf}
+use Rattle.journal.specs.Journal.{own, kept, filled, seated, inTurn}
 use Rattle.desk.specs.Calls.{Call, opening, placing, moving, undoing, redoing}
 use Rattle.desk.specs.Refusals.{sameJob, jobAmong, turnedOpening, turnedClosing, turnedPlacing, turnedMoving, turnedRemoving, turnedUndoing, turnedRedoing, turnedWriting, verdictOf}
-use Rattle.desk.specs.Desk.{closedSeat, seatOf, jobOf, jobsApart, soundOpen, soundClosed, soundSeat, soundTo, sound, edited, effect, answerOf, step, emptyDesk, writtenOf, bufferOf}
+use Rattle.desk.specs.Desk.{seatOf, jobOf, jobsApart, soundOpen, soundClosed, soundSeat, soundTo, sound, edited, effect, answerOf, step, emptyDesk}
 use Rattle.wiring.specs.declared.Wiring.{Wiring}
 use Rattle.bare.specs.Bare.{bareOf}
 use Rattle.bare.proofs.Worked as boards
 use Rattle.history.specs.History.{after, answers}
+use Rattle.worked.proofs.Cases.{at, pinAt, drawn}
 
 -- A case: boards with their answers; calls from the empty desk with what they are answered and the pins that they leave at seats 0 and 1;
 -- or calls and the map of seat 0 that they leave.
@@ -46,16 +43,6 @@ Holds (mapped calls bytes) = mapOf (seatOf (after emptyDesk calls) 0 .job) (seat
 unfoldable pub AllHold : List Case → Type 0
 AllHold [] = Unit {0}
 AllHold (c ∷ table) = Holds c × AllHold table
-
-abbrev at : ℤ → ℤ → Place
-at a b = record { x = a; y = b }
-
-abbrev pinAt : ℤ → ℤ → Pin
-pinAt a b = there (holding (at a b))
-
--- A drawing of these pins and no others.
-abbrev drawn : List Pin → List Pin
-drawn l = take pins (l ++ replicate pins absent)
 
 -- D1, up to the first undo: both seats opened empty, a pin placed at each, seat 0 undone.
 abbrev D1 : List Call

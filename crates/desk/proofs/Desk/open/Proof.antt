@@ -1,22 +1,43 @@
--- `desk::Desk::open` meets its contract: 28 on a broken desk, else as `opened` says. Assumes nothing.
+-- `desk::Desk::open` meets its contract, by what is found. Assumes nothing.
 use mathlib.Core.Path.{sym, _∙_}
 use borrow.Author.Needs.{needs}
 use Rattle.desk.specs.Calls.{opening}
-use Rattle.desk.proofs.Answers.{step-broken}
+use Rattle.desk.specs.Desk.{effect}
+use Rattle.desk.proofs.Found.{open-answer, open-read, open-seat}
+use Rattle.desk.proofs.Steps.{step-refused, step-accepted}
 use Rattle.desk.proofs.Desk.open.Statement.{statement}
 use Rattle.desk.proofs.Desk.open.Tie as tie
 
-is-sound-requires : tie.Need-is-sound-requires
-is-sound-requires c κs = search needs
+find-requires : tie.Need-find-requires
+find-requires c κs = search needs
 
-opened-requires : tie.Need-opened-requires
-opened-requires c κs = sym (c .before .is-sound .ensures) ∙ c .if1 .taken
+opening-requires : tie.Need-opening-requires
+opening-requires c κs = search needs
+
+is-accepted-requires : tie.Need-is-accepted-requires
+is-accepted-requires c κs = search needs
+
+open-seat-requires : tie.Need-open-seat-requires
+open-seat-requires c κs = search needs
+
+with-seat-requires : tie.Need-with-seat-requires
+with-seat-requires c κs = open-seat (c .before .before .before .before .before .before .before .before .args .self) (c .before .before .before .before .before .before .before .before .args .seat) (c .before .before .before .before .before .before .before .before .args .job) (c .before .before .before .before .before .before .before .before .args .map .now) (c .before .before .before .before .before .before .find .ensures) (c .before .before .before .before .opening .ensures) (sym (c .before .before .before .is-accepted .ensures) ∙ c .before .before .if1 .taken)
 
 returns : tie.Need-returns
-returns c = c .opened .ensures
+unfolding effect
+returns c = step-accepted (c .before .before .before .before .before .before .before .before .before .args .self) (opening (c .before .before .before .before .before .before .before .before .before .args .seat) (c .before .before .before .before .before .before .before .before .before .args .job) (c .before .before .before .before .before .before .before .before .before .args .map .now)) (open-answer (c .before .before .before .before .before .before .before .before .before .args .self) (c .before .before .before .before .before .before .before .before .before .args .seat) (c .before .before .before .before .before .before .before .before .before .args .job) (c .before .before .before .before .before .before .before .before .before .args .map .now) (c .before .before .before .before .before .before .before .find .ensures) (c .before .before .before .before .before .opening .ensures)) (sym (c .before .before .before .before .is-accepted .ensures) ∙ c .before .before .before .if1 .taken) (c .with-seat .ensures ∙ rw (c .before .open-seat .ensures, open-read (c .before .before .before .before .before .before .before .before .before .args .self) (c .before .before .before .before .before .before .before .before .before .args .seat) (c .before .before .before .before .before .before .before .before .before .args .job) (c .before .before .before .before .before .before .before .before .before .args .map .now) (c .before .before .before .before .before .before .before .find .ensures) (c .before .before .before .before .before .opening .ensures) (sym (c .before .before .before .before .is-accepted .ensures) ∙ c .before .before .before .if1 .taken)))
 
 returns-2 : tie.Need-returns-2
-returns-2 c = step-broken (c .before .before .before .args .self) (sym (c .before .is-sound .ensures) ∙ c .if1 .left) (opening (c .before .before .before .args .seat) (c .before .before .before .args .job) (c .before .before .before .args .map .now))
+returns-2 c = step-refused (c .before .before .before .before .before .before .args .self) (opening (c .before .before .before .before .before .before .args .seat) (c .before .before .before .before .before .before .args .job) (c .before .before .before .before .before .before .args .map .now)) (open-answer (c .before .before .before .before .before .before .args .self) (c .before .before .before .before .before .before .args .seat) (c .before .before .before .before .before .before .args .job) (c .before .before .before .before .before .before .args .map .now) (c .before .before .before .before .find .ensures) (c .before .before .opening .ensures)) (sym (c .before .is-accepted .ensures) ∙ c .if1 .left)
 
 pub open-spec : {M : Type 1} → statement M
-open-spec = tie.close (tie.spec is-sound-requires opened-requires returns returns-2)
+open-spec =
+    tie.close
+    (tie.spec
+    find-requires
+    opening-requires
+    is-accepted-requires
+    open-seat-requires
+    with-seat-requires
+    returns
+    returns-2)

@@ -1,22 +1,43 @@
--- `desk::Desk::remove` meets its contract: 28 on a broken desk, else as `removed` says. Assumes nothing.
-use mathlib.Core.Path.{sym, _∙_}
+-- `desk::Desk::remove` meets its contract, by what is found. Assumes nothing.
+use mathlib.Core.Path.{refl, sym, _∙_}
 use borrow.Author.Needs.{needs}
 use Rattle.desk.specs.Calls.{removing}
-use Rattle.desk.proofs.Answers.{step-broken}
+use Rattle.desk.specs.Desk.{effect}
+use Rattle.desk.proofs.Found.{remove-refused, remove-room, remove-there, remove-number, sound-there, seat-there, same-there, open-there}
+use Rattle.desk.proofs.Steps.{step-refused, step-entered}
 use Rattle.desk.proofs.Desk.remove.Statement.{statement}
 use Rattle.desk.proofs.Desk.remove.Tie as tie
 
-is-sound-requires : tie.Need-is-sound-requires
-is-sound-requires c κs = search needs
+find-requires : tie.Need-find-requires
+find-requires c κs = search needs
 
-removed-requires : tie.Need-removed-requires
-removed-requires c κs = sym (c .before .is-sound .ensures) ∙ c .if1 .taken
+turned-removing-requires : tie.Need-turned-removing-requires
+turned-removing-requires c κs = search needs
+
+is-accepted-requires : tie.Need-is-accepted-requires
+is-accepted-requires c κs = search needs
+
+edit-removing-requires : tie.Need-edit-removing-requires
+edit-removing-requires c κs = remove-number (c .before .before .before .before .before .before .args .self) (c .before .before .before .before .before .before .args .seat) (c .before .before .before .before .before .find .ensures) (c .before .before .before .before .before .before .args .pin) (c .before .before .before .before .turned-removing .ensures) (sym (c .before .before .before .is-accepted .ensures) ∙ c .before .before .if1 .taken)
+
+entered-requires : tie.Need-entered-requires
+entered-requires c κs = (sound-there (c .before .before .before .before .before .before .before .args .self) (c .before .before .before .before .before .before .before .args .seat) (c .before .before .before .before .before .before .find .ensures) (remove-there (c .before .before .before .before .before .before .before .args .self) (c .before .before .before .before .before .before .before .args .seat) (c .before .before .before .before .before .before .find .ensures) (c .before .before .before .before .before .before .before .args .pin) (c .before .before .before .before .before .turned-removing .ensures) (sym (c .before .before .before .before .is-accepted .ensures) ∙ c .before .before .before .if1 .taken)), seat-there (c .before .before .before .before .before .before .before .args .self) (c .before .before .before .before .before .before .before .args .seat) (c .before .before .before .before .before .before .find .ensures) (remove-there (c .before .before .before .before .before .before .before .args .self) (c .before .before .before .before .before .before .before .args .seat) (c .before .before .before .before .before .before .find .ensures) (c .before .before .before .before .before .before .before .args .pin) (c .before .before .before .before .before .turned-removing .ensures) (sym (c .before .before .before .before .is-accepted .ensures) ∙ c .before .before .before .if1 .taken)), open-there (c .before .before .before .before .before .before .before .args .self) (c .before .before .before .before .before .before .before .args .seat) (c .before .before .before .before .before .before .find .ensures) (remove-there (c .before .before .before .before .before .before .before .args .self) (c .before .before .before .before .before .before .before .args .seat) (c .before .before .before .before .before .before .find .ensures) (c .before .before .before .before .before .before .before .args .pin) (c .before .before .before .before .before .turned-removing .ensures) (sym (c .before .before .before .before .is-accepted .ensures) ∙ c .before .before .before .if1 .taken)), rw (c .edit-removing .ensures) (remove-number (c .before .before .before .before .before .before .before .args .self) (c .before .before .before .before .before .before .before .args .seat) (c .before .before .before .before .before .before .find .ensures) (c .before .before .before .before .before .before .before .args .pin) (c .before .before .before .before .before .turned-removing .ensures) (sym (c .before .before .before .before .is-accepted .ensures) ∙ c .before .before .before .if1 .taken)))
 
 returns : tie.Need-returns
-returns c = c .removed .ensures
+unfolding effect
+returns c = c .entered .ensures ∙ rw (c .before .edit-removing .ensures, same-there (c .before .before .before .before .before .before .before .before .args .self) (c .before .before .before .before .before .before .before .before .args .seat) (c .before .before .before .before .before .before .before .find .ensures) (remove-there (c .before .before .before .before .before .before .before .before .args .self) (c .before .before .before .before .before .before .before .before .args .seat) (c .before .before .before .before .before .before .before .find .ensures) (c .before .before .before .before .before .before .before .before .args .pin) (c .before .before .before .before .before .before .turned-removing .ensures) (sym (c .before .before .before .before .before .is-accepted .ensures) ∙ c .before .before .before .before .if1 .taken))) (step-entered (c .before .before .before .before .before .before .before .before .args .self) (removing (c .before .before .before .before .before .before .before .before .args .seat) (c .before .before .before .before .before .before .before .before .args .pin)) (c .before .before .before .before .before .before .before .before .args .seat) _ (remove-room (c .before .before .before .before .before .before .before .before .args .self) (c .before .before .before .before .before .before .before .before .args .seat) (c .before .before .before .before .before .before .before .find .ensures) (c .before .before .before .before .before .before .before .before .args .pin) (c .before .before .before .before .before .before .turned-removing .ensures) (sym (c .before .before .before .before .before .is-accepted .ensures) ∙ c .before .before .before .before .if1 .taken)) refl)
 
 returns-2 : tie.Need-returns-2
-returns-2 c = step-broken (c .before .before .args .self) (sym (c .before .is-sound .ensures) ∙ c .if1 .left) (removing (c .before .before .args .seat) (c .before .before .args .pin))
+returns-2 c = step-refused (c .before .before .before .before .args .self) (removing (c .before .before .before .before .args .seat) (c .before .before .before .before .args .pin)) (remove-refused (c .before .before .before .before .args .self) (c .before .before .before .before .args .seat) (c .before .before .before .find .ensures) (c .before .before .before .before .args .pin) (c .before .before .turned-removing .ensures) (sym (c .before .is-accepted .ensures) ∙ c .if1 .left)) (sym (c .before .is-accepted .ensures) ∙ c .if1 .left)
 
 pub remove-spec : {M : Type 1} → statement M
-remove-spec = tie.close (tie.spec is-sound-requires removed-requires returns returns-2)
+remove-spec =
+    tie.close
+    (tie.spec
+    find-requires
+    turned-removing-requires
+    is-accepted-requires
+    edit-removing-requires
+    entered-requires
+    returns
+    returns-2)

@@ -1,22 +1,43 @@
--- `desk::Desk::shift` meets its contract: 28 on a broken desk, else as `shifted` says. Assumes nothing.
-use mathlib.Core.Path.{sym, _∙_}
+-- `desk::Desk::shift` meets its contract, by what is found. Assumes nothing.
+use mathlib.Core.Path.{refl, sym, _∙_}
 use borrow.Author.Needs.{needs}
 use Rattle.desk.specs.Calls.{moving}
-use Rattle.desk.proofs.Answers.{step-broken}
+use Rattle.desk.specs.Desk.{effect}
+use Rattle.desk.proofs.Found.{move-refused, move-room, move-there, move-number, sound-there, seat-there, same-there, open-there}
+use Rattle.desk.proofs.Steps.{step-refused, step-entered}
 use Rattle.desk.proofs.Desk.shift.Statement.{statement}
 use Rattle.desk.proofs.Desk.shift.Tie as tie
 
-is-sound-requires : tie.Need-is-sound-requires
-is-sound-requires c κs = search needs
+find-requires : tie.Need-find-requires
+find-requires c κs = search needs
 
-shifted-requires : tie.Need-shifted-requires
-shifted-requires c κs = sym (c .before .is-sound .ensures) ∙ c .if1 .taken
+turned-moving-requires : tie.Need-turned-moving-requires
+turned-moving-requires c κs = search needs
+
+is-accepted-requires : tie.Need-is-accepted-requires
+is-accepted-requires c κs = search needs
+
+edit-moving-requires : tie.Need-edit-moving-requires
+edit-moving-requires c κs = move-number (c .before .before .before .before .before .before .args .self) (c .before .before .before .before .before .before .args .seat) (c .before .before .before .before .before .find .ensures) (c .before .before .before .before .before .before .args .pin) (c .before .before .before .before .before .before .args .to) (c .before .before .before .before .turned-moving .ensures) (sym (c .before .before .before .is-accepted .ensures) ∙ c .before .before .if1 .taken)
+
+entered-requires : tie.Need-entered-requires
+entered-requires c κs = (sound-there (c .before .before .before .before .before .before .before .args .self) (c .before .before .before .before .before .before .before .args .seat) (c .before .before .before .before .before .before .find .ensures) (move-there (c .before .before .before .before .before .before .before .args .self) (c .before .before .before .before .before .before .before .args .seat) (c .before .before .before .before .before .before .find .ensures) (c .before .before .before .before .before .before .before .args .pin) (c .before .before .before .before .before .before .before .args .to) (c .before .before .before .before .before .turned-moving .ensures) (sym (c .before .before .before .before .is-accepted .ensures) ∙ c .before .before .before .if1 .taken)), seat-there (c .before .before .before .before .before .before .before .args .self) (c .before .before .before .before .before .before .before .args .seat) (c .before .before .before .before .before .before .find .ensures) (move-there (c .before .before .before .before .before .before .before .args .self) (c .before .before .before .before .before .before .before .args .seat) (c .before .before .before .before .before .before .find .ensures) (c .before .before .before .before .before .before .before .args .pin) (c .before .before .before .before .before .before .before .args .to) (c .before .before .before .before .before .turned-moving .ensures) (sym (c .before .before .before .before .is-accepted .ensures) ∙ c .before .before .before .if1 .taken)), open-there (c .before .before .before .before .before .before .before .args .self) (c .before .before .before .before .before .before .before .args .seat) (c .before .before .before .before .before .before .find .ensures) (move-there (c .before .before .before .before .before .before .before .args .self) (c .before .before .before .before .before .before .before .args .seat) (c .before .before .before .before .before .before .find .ensures) (c .before .before .before .before .before .before .before .args .pin) (c .before .before .before .before .before .before .before .args .to) (c .before .before .before .before .before .turned-moving .ensures) (sym (c .before .before .before .before .is-accepted .ensures) ∙ c .before .before .before .if1 .taken)), rw (c .edit-moving .ensures) (move-number (c .before .before .before .before .before .before .before .args .self) (c .before .before .before .before .before .before .before .args .seat) (c .before .before .before .before .before .before .find .ensures) (c .before .before .before .before .before .before .before .args .pin) (c .before .before .before .before .before .before .before .args .to) (c .before .before .before .before .before .turned-moving .ensures) (sym (c .before .before .before .before .is-accepted .ensures) ∙ c .before .before .before .if1 .taken)))
 
 returns : tie.Need-returns
-returns c = c .shifted .ensures
+unfolding effect
+returns c = c .entered .ensures ∙ rw (c .before .edit-moving .ensures, same-there (c .before .before .before .before .before .before .before .before .args .self) (c .before .before .before .before .before .before .before .before .args .seat) (c .before .before .before .before .before .before .before .find .ensures) (move-there (c .before .before .before .before .before .before .before .before .args .self) (c .before .before .before .before .before .before .before .before .args .seat) (c .before .before .before .before .before .before .before .find .ensures) (c .before .before .before .before .before .before .before .before .args .pin) (c .before .before .before .before .before .before .before .before .args .to) (c .before .before .before .before .before .before .turned-moving .ensures) (sym (c .before .before .before .before .before .is-accepted .ensures) ∙ c .before .before .before .before .if1 .taken))) (step-entered (c .before .before .before .before .before .before .before .before .args .self) (moving (c .before .before .before .before .before .before .before .before .args .seat) (c .before .before .before .before .before .before .before .before .args .pin) (c .before .before .before .before .before .before .before .before .args .to)) (c .before .before .before .before .before .before .before .before .args .seat) _ (move-room (c .before .before .before .before .before .before .before .before .args .self) (c .before .before .before .before .before .before .before .before .args .seat) (c .before .before .before .before .before .before .before .find .ensures) (c .before .before .before .before .before .before .before .before .args .pin) (c .before .before .before .before .before .before .before .before .args .to) (c .before .before .before .before .before .before .turned-moving .ensures) (sym (c .before .before .before .before .before .is-accepted .ensures) ∙ c .before .before .before .before .if1 .taken)) refl)
 
 returns-2 : tie.Need-returns-2
-returns-2 c = step-broken (c .before .before .args .self) (sym (c .before .is-sound .ensures) ∙ c .if1 .left) (moving (c .before .before .args .seat) (c .before .before .args .pin) (c .before .before .args .to))
+returns-2 c = step-refused (c .before .before .before .before .args .self) (moving (c .before .before .before .before .args .seat) (c .before .before .before .before .args .pin) (c .before .before .before .before .args .to)) (move-refused (c .before .before .before .before .args .self) (c .before .before .before .before .args .seat) (c .before .before .before .find .ensures) (c .before .before .before .before .args .pin) (c .before .before .before .before .args .to) (c .before .before .turned-moving .ensures) (sym (c .before .is-accepted .ensures) ∙ c .if1 .left)) (sym (c .before .is-accepted .ensures) ∙ c .if1 .left)
 
 pub shift-spec : {M : Type 1} → statement M
-shift-spec = tie.close (tie.spec is-sound-requires shifted-requires returns returns-2)
+shift-spec =
+    tie.close
+    (tie.spec
+    find-requires
+    turned-moving-requires
+    is-accepted-requires
+    edit-moving-requires
+    entered-requires
+    returns
+    returns-2)

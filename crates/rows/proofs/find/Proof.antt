@@ -1,0 +1,38 @@
+-- `rows::find` meets its contract. Assumes nothing.
+use borrow.Author.Needs.{needs}
+use borrow.Author.Tests.{le-leb, lt-leb}
+use Rattle.refusal.specs.Tests.{choose}
+use Rattle.journal.specs.Journal.{seats}
+use Rattle.rows.proofs.find.Statement.{statement}
+use Rattle.rows.proofs.find.Tie as tie
+
+are-sound-requires : tie.Need-are-sound-requires
+are-sound-requires c κs = search needs
+
+closed-seat-requires : tie.Need-closed-seat-requires
+closed-seat-requires c κs = search needs
+
+returns : tie.Need-returns
+unfolding choose
+returns c = rw (c .before .before .are-sound .ensures, c .closed-seat .ensures, le-leb seats (c .before .before .before .args .number) (c .before .if1 .taken))
+
+mul-seat : tie.Need-mul-seat
+mul-seat c = search needs
+
+array-copy-out-seat : tie.Need-array-copy-out-seat
+array-copy-out-seat c = search needs
+
+returns-2 : tie.Need-returns-2
+unfolding choose
+returns-2 c = rw (c .before .before .are-sound .ensures, lt-leb seats (c .before .before .before .args .number) (c .before .if1 .left))
+
+pub find-spec : {M : Type 1} → statement M
+find-spec =
+    tie.close
+    (tie.spec
+    are-sound-requires
+    closed-seat-requires
+    returns
+    mul-seat
+    array-copy-out-seat
+    returns-2)

@@ -1,0 +1,52 @@
+-- `rows::turned_opening` meets its contract. Assumes nothing.
+use borrow.Author.Needs.{needs}
+use mathlib.Core.Path.{ap, sym, _∙_}
+use borrow.Author.Tests.{eq-eqb, ne-eqb, le-leb, lt-leb}
+use Rattle.seats.specs.Seats.{jobAmong}
+use Rattle.rows.specs.Refusals.{turnedOpening}
+use Rattle.rows.proofs.Rows.{hit, miss, empty-read}
+use Rattle.rows.proofs.turned_opening.Statement.{statement}
+use Rattle.rows.proofs.turned_opening.Tie as tie
+
+returns : tie.Need-returns
+unfolding turnedOpening
+returns c = hit _ _ (c .if1 .taken)
+
+returns-2 : tie.Need-returns-2
+unfolding turnedOpening
+returns-2 c = miss _ (c .before .before .if1 .left) (hit _ _ (le-leb _ _ (c .if2 .taken)))
+
+returns-3 : tie.Need-returns-3
+unfolding turnedOpening
+returns-3 c = miss _ (c .before .before .before .before .if1 .left) (miss _ (lt-leb _ _ (c .before .before .if2 .left)) (hit _ _ (c .if3 .taken)))
+
+returns-4 : tie.Need-returns-4
+unfolding turnedOpening
+returns-4 c = miss _ (c .before .before .before .before .before .if1 .left) (miss _ (lt-leb _ _ (c .before .before .before .if2 .left)) (miss _ (c .before .if3 .left) (hit _ _ (eq-eqb _ _ (c .if4 .taken)))))
+
+jobs-of-requires : tie.Need-jobs-of-requires
+jobs-of-requires c κs = search needs
+
+job-among-requires : tie.Need-job-among-requires
+job-among-requires c κs = search needs
+
+returns-5 : tie.Need-returns-5
+unfolding turnedOpening
+returns-5 c = miss _ (c .before .before .before .before .before .before .before .before .if1 .left) (miss _ (lt-leb _ _ (c .before .before .before .before .before .before .if2 .left)) (miss _ (c .before .before .before .before .if3 .left) (miss _ (ne-eqb _ _ (c .before .before .before .if4 .left)) (hit _ _ (sym (c .before .job-among .ensures ∙ ap (jobAmong (c .before .before .before .before .before .before .before .before .before .args .job)) (c .before .before .jobs-of .ensures)) ∙ c .if5 .taken)))))
+
+returns-6 : tie.Need-returns-6
+unfolding turnedOpening
+returns-6 c = miss _ (c .before .before .before .before .before .before .before .before .if1 .left) (miss _ (lt-leb _ _ (c .before .before .before .before .before .before .if2 .left)) (miss _ (c .before .before .before .before .if3 .left) (miss _ (ne-eqb _ _ (c .before .before .before .if4 .left)) (miss _ (sym (c .before .job-among .ensures ∙ ap (jobAmong (c .before .before .before .before .before .before .before .before .before .args .job)) (c .before .before .jobs-of .ensures)) ∙ c .if5 .left) (empty-read (c .before .before .before .before .before .before .before .before .before .args .job))))))
+
+pub turned-opening-spec : {M : Type 1} → statement M
+turned-opening-spec =
+    tie.close
+    (tie.spec
+    returns
+    returns-2
+    returns-3
+    returns-4
+    jobs-of-requires
+    job-among-requires
+    returns-5
+    returns-6)

@@ -1,0 +1,3 @@
+-- What the rows of refusals mean.
+pub mod Refusals
+pub mod Found

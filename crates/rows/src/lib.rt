@@ -1,0 +1,242 @@
+// Rows of refusals: what a call finds at the seat that it names, for each call its row in document 01's order over that, and what opening reads, writing writes and wiring answers.
+use drawing::PINS;
+use grid::Place;
+use journal::RECORDS;
+use journal::Record;
+use journal::SEATS;
+use pinmap::Reading;
+use pinmap::Writing;
+use refusal::Verdict;
+use seats::Seat;
+use wiring::Laid;
+ghost use mathlib.Core.Path.{_≡_};
+ghost use mathlib.Core.Bool.{true, false};
+ghost use mathlib.Core.List.{[]};
+ghost use Prim.Native.Nat.{_-_, _≤_};
+ghost use lib.ListN.{length, take};
+ghost use Rattle.drawing.specs.Pins.{lawful};
+ghost use Rattle.journal.specs.Journal.{records, own};
+ghost use Rattle.seats.specs.Seats.{jobsIn};
+ghost use Rattle.rows.specs.Refusals.{turnedOpening, turnedClosing, turnedPlacing, turnedMoving, turnedRemoving, turnedUndoing, turnedRedoing};
+ghost use Rattle.rows.specs.Found.{foundIn, lookIn, readingIn, writingIn, bufferIn, laidIn};
+
+// What a call finds: whether the desk is broken, the number of the seat that it names, and that seat, a closed one where none has that number.
+pub struct Found {
+    pub broken: bool,
+    pub number: usize,
+    pub seat: Seat,
+}
+
+// What a call that names a seat finds.
+pub fn find(seats: [Seat; SEATS], journal: [Record; RECORDS], used: usize, number: usize) -> Found
+    ensures { λ r. ⌜ r ≡ foundIn seats journal used number ⌝ }
+{
+    let sound = seats::are_sound(seats, journal, used);
+    if SEATS <= number {
+        let seat = seats::closed_seat();
+        return Found {
+            broken: !sound,
+            number,
+            seat,
+        };
+    }
+    let seat = seats[number];
+    Found {
+        broken: !sound,
+        number,
+        seat,
+    }
+}
+
+// Closing, and what all calls but opening are turned away by first: 28, 1, 2.
+pub fn turned_closing(found: Found) -> Verdict
+    ensures { λ r. ⌜ r ≡ turnedClosing (lookIn found [] 0) ⌝ }
+{
+    if found.broken {
+        return Verdict::DeskBroken;
+    }
+    if SEATS <= found.number {
+        return Verdict::SeatAbove;
+    }
+    let seat = found.seat;
+    if seat.opened {
+        Verdict::Accepted
+    } else {
+        Verdict::NotOpen
+    }
+}
+
+// Placing, where the journal has room: 28, 1, 2, 6, 7, 8, 9.
+pub fn turned_placing(found: Found, pin: usize, at: Place) -> Verdict
+    ensures { λ r. ⌜ r ≡ turnedPlacing (lookIn found [] 0) pin at ⌝ }
+{
+    let verdict = turned_closing(found);
+    if !refusal::is_accepted(verdict) {
+        return verdict;
+    }
+    if PINS <= pin {
+        return Verdict::NoSuchPin;
+    }
+    let seat = found.seat;
+    let pins = seat.pins;
+    let there = pins[pin];
+    if drawing::is_there(there) {
+        return Verdict::PinThere;
+    }
+    if !grid::is_inside(at) {
+        return Verdict::Outside;
+    }
+    if drawing::is_crowded(pins, pin, at) {
+        Verdict::PlaceTaken
+    } else {
+        Verdict::Accepted
+    }
+}
+
+// Removing, where the journal has room, and what moving is turned away by first: 28, 1, 2, 6.
+pub fn turned_removing(found: Found, pin: usize) -> Verdict
+    ensures { λ r. ⌜ r ≡ turnedRemoving (lookIn found [] 0) pin ⌝ }
+{
+    let verdict = turned_closing(found);
+    if !refusal::is_accepted(verdict) {
+        return verdict;
+    }
+    if PINS <= pin {
+        return Verdict::NoSuchPin;
+    }
+    let seat = found.seat;
+    let pins = seat.pins;
+    let there = pins[pin];
+    if drawing::is_there(there) {
+        Verdict::Accepted
+    } else {
+        Verdict::NoSuchPin
+    }
+}
+
+// Moving, where the journal has room: 28, 1, 2, 6, 8, 9.
+pub fn turned_moving(found: Found, pin: usize, to: Place) -> Verdict
+    ensures { λ r. ⌜ r ≡ turnedMoving (lookIn found [] 0) pin to ⌝ }
+{
+    let verdict = turned_removing(found, pin);
+    if !refusal::is_accepted(verdict) {
+        return verdict;
+    }
+    if !grid::is_inside(to) {
+        return Verdict::Outside;
+    }
+    let seat = found.seat;
+    let pins = seat.pins;
+    let there = pins[pin];
+    if drawing::stands_at(there, to) {
+        return Verdict::PlaceTaken;
+    }
+    if drawing::is_crowded(pins, pin, to) {
+        Verdict::PlaceTaken
+    } else {
+        Verdict::Accepted
+    }
+}
+
+// Undo: 28, 1, 2, 10.
+pub fn turned_undoing(found: Found) -> Verdict
+    ensures { λ r. ⌜ r ≡ turnedUndoing (lookIn found [] 0) ⌝ }
+{
+    let verdict = turned_closing(found);
+    if !refusal::is_accepted(verdict) {
+        return verdict;
+    }
+    let seat = found.seat;
+    if seat.standing == 0 {
+        Verdict::NothingStands
+    } else {
+        Verdict::Accepted
+    }
+}
+
+// Redo: 28, 1, 2, 11.
+pub fn turned_redoing(found: Found, journal: [Record; RECORDS], used: usize) -> Verdict
+    requires { ⌜ (found .broken ≡ false → used ≤ records) ⌝ }
+    ensures { λ r. ⌜ r ≡ turnedRedoing (lookIn found [] (length (own (found .number) (take used journal)) - found .seat .standing)) ⌝ }
+{
+    let verdict = turned_closing(found);
+    if !refusal::is_accepted(verdict) {
+        return verdict;
+    }
+    let seat = found.seat;
+    let owned = journal::count_of(journal, used, found.number);
+    if owned <= seat.standing {
+        Verdict::NothingTakenBack
+    } else {
+        Verdict::Accepted
+    }
+}
+
+// Opening, up to the map: 28, 1, 3, 4, 5.
+fn turned_opening(found: Found, seats: [Seat; SEATS], job: u16) -> Verdict
+    ensures { λ r. ⌜ r ≡ turnedOpening (lookIn found (jobsIn seats) 0) job [] ⌝ }
+{
+    if found.broken {
+        return Verdict::DeskBroken;
+    }
+    if SEATS <= found.number {
+        return Verdict::SeatAbove;
+    }
+    let seat = found.seat;
+    if seat.opened {
+        return Verdict::OpenAlready;
+    }
+    if job == 0 {
+        return Verdict::JobZero;
+    }
+    let jobs = seats::jobs_of(seats);
+    if seats::job_among(job, jobs, 0) {
+        Verdict::JobElsewhere
+    } else {
+        Verdict::Accepted
+    }
+}
+
+// Opening: 28, 1, 3, 4, 5, then what reading the map says, 13, 14 or 15; and the pins, where none applies.
+pub fn opening(found: Found, seats: [Seat; SEATS], job: u16, map: &[u8]) -> Reading
+    ensures { λ r. ⌜ r ≡ readingIn found (jobsIn seats) job (now (map .entry)) ⌝ }
+{
+    let verdict = turned_opening(found, seats, job);
+    if refusal::is_accepted(verdict) {
+        pinmap::read_map(map, job)
+    } else {
+        let pins = pinmap::no_pins();
+        Reading { verdict, pins }
+    }
+}
+
+// Writing: 28, 1, 2, 19; the map into the lent buffer, and the number of bytes, where none applies.
+pub fn writing(found: Found, buffer: &mut [u8]) -> Writing
+    ensures { λ r. ⌜ r ≡ writingIn found (now (buffer .entry)) ⌝ }
+    ensures { λ _. ⌜ now (buffer .exit) ≡ bufferIn found (now (buffer .entry)) ⌝ }
+{
+    let verdict = turned_closing(found);
+    if refusal::is_accepted(verdict) {
+        let seat = found.seat;
+        let pins = seat.pins;
+        pinmap::write_map(pins, seat.job, buffer)
+    } else {
+        Writing { verdict, bytes: 0 }
+    }
+}
+
+// Wiring a seat, with room for so many legs: 28, 1, 2, then what wiring the drawing's feed answers, 17, 18 or 19 among it.
+pub fn wiring(found: Found, room: usize) -> Laid
+    requires { ⌜ (found .broken ≡ false → found .seat .opened ≡ true → lawful (found .seat .pins) ≡ true) ⌝ }
+    ensures { λ r. ⌜ r ≡ laidIn found room ⌝ }
+{
+    let verdict = turned_closing(found);
+    if refusal::is_accepted(verdict) {
+        let seat = found.seat;
+        let pins = seat.pins;
+        let feed = drawing::feed(pins);
+        wiring::wire_feed(feed, room)
+    } else {
+        wiring::refused(verdict)
+    }
+}

@@ -1,0 +1,3 @@
+-- What the seats' words mean.
+pub mod Seats
+pub mod Sound

@@ -1,0 +1,63 @@
+-- Seats: what one is as calls leave it, and the jobs that are open.
+use mathlib.Core.Bool.{Bool, true, false, not}
+use mathlib.Core.List.{List, [], _∷_, map}
+use Prim.Native.Nat.{ℕ, _+_, _-_}
+use lib.Dec.{eqb}
+use lib.ListN.{replicate, getD}
+use Rattle.refusal.specs.Tests.{both, either, choose}
+use Rattle.drawing.specs.declared.Pin.{Pin}
+use Rattle.drawing.specs.declared.Edit.{Edit}
+use Rattle.drawing.specs.Pins.{pins, absent}
+use Rattle.drawing.specs.Edits.{made, unmade}
+use Rattle.journal.specs.Journal.{noEdit}
+use Rattle.seats.specs.declared.Seat.{Seat}
+
+-- A closed seat, as calls leave it.
+abbrev pub closedSeat : Seat
+closedSeat = record { opened = false; job = 0; pins = replicate pins absent; standing = 0 }
+
+-- What a list of seats has past its end.
+abbrev pub noSeat : Seat
+noSeat = record { opened = false; job = 0; pins = []; standing = 0 }
+
+-- A seat that is open for a job with these pins and no edits.
+abbrev pub openSeat : ℕ → List Pin → Seat
+openSeat job l = record { opened = true; job = job; pins = l; standing = 0 }
+
+-- A seat with other pins and another number of standing edits.
+abbrev pub withPins : Seat → List Pin → ℕ → Seat
+withPins t l n = record { opened = t .opened; job = t .job; pins = l; standing = n }
+
+-- A seat after a new edit, which stands.
+abbrev pub editedSeat : Seat → Edit → Seat
+editedSeat t e = withPins t (made (t .pins) e) (t .standing + 1)
+
+-- A seat with these edits after undo: the latest standing one is taken back.
+abbrev pub undoneSeat : Seat → List Edit → Seat
+undoneSeat t edits = withPins t (unmade (t .pins) (getD edits (t .standing - 1) noEdit)) (t .standing - 1)
+
+-- A seat with these edits after redo: the most recently taken-back one is made again.
+abbrev pub redoneSeat : Seat → List Edit → Seat
+redoneSeat t edits = withPins t (made (t .pins) (getD edits (t .standing) noEdit)) (t .standing + 1)
+
+-- The job of an open seat, 0 for a closed one.
+unfoldable pub jobOf : Seat → ℕ
+jobOf t = choose (t .opened) (t .job) 0
+
+-- The jobs of these seats.
+abbrev pub jobsIn : List Seat → List ℕ
+jobsIn l = map jobOf l
+
+-- Two seats are open for one job.
+unfoldable pub sameJob : ℕ → ℕ → Bool
+sameJob i j = both (not (eqb i 0)) (eqb i j)
+
+-- A job is open at one of these seats.
+unfoldable pub jobAmong : ℕ → List ℕ → Bool
+jobAmong j [] = false
+jobAmong j (i ∷ l) = either (sameJob j i) (jobAmong j l)
+
+-- No job is repeated.
+unfoldable pub jobsApart : List ℕ → Bool
+jobsApart [] = true
+jobsApart (j ∷ l) = both (not (jobAmong j l)) (jobsApart l)

@@ -1,0 +1,52 @@
+-- When seats and the journal that they share are sound, in the words of document 01's list of what breaks a desk.
+use mathlib.Core.Bool.{Bool, true, not}
+use mathlib.Core.List.{List, reverse}
+use Prim.Native.Nat.{ℕ, zero, suc}
+use lib.Dec.{eqb, leb}
+use lib.ListN.{length, take, drop, getD}
+use Rattle.refusal.specs.Tests.{both, choose}
+use Rattle.drawing.specs.declared.Edit.{Edit}
+use Rattle.drawing.specs.Pins.{lawful}
+use Rattle.journal.specs.declared.Record.{Record}
+use Rattle.journal.specs.Journal.{seats, records, own, seated, replayable, takeableAll}
+use Rattle.seats.specs.declared.Seat.{Seat}
+use Rattle.seats.specs.Seats.{noSeat, jobsIn, jobsApart}
+
+-- Of a seat's edits those that stand, the latest first.
+abbrev pub standingIn : Seat → List Edit → List Edit
+standingIn t edits = reverse (take (t .standing) edits)
+
+-- Of a seat's edits those taken back, the most recently taken back first.
+abbrev pub takenBackIn : Seat → List Edit → List Edit
+takenBackIn t edits = drop (t .standing) edits
+
+-- An open seat with these edits is sound: its job is not 0, it has no more standing edits than records, its pins keep the rules, and
+-- undoing its standing edits from those pins, or redoing its taken-back ones, meets none that could not have been made there.
+unfoldable pub soundOpen : Seat → List Edit → Bool
+soundOpen t edits =
+    both (not (eqb (t .job) 0))
+    (both (leb (t .standing) (length edits))
+    (both (lawful (t .pins))
+    (both (takeableAll (t .pins) (standingIn t edits)) (replayable (t .pins) (takenBackIn t edits)))))
+
+-- A closed seat is sound where it owns no records.
+unfoldable pub soundClosed : List Edit → Bool
+soundClosed edits = eqb (length edits) 0
+
+-- A seat is sound, as an open one or as a closed one.
+unfoldable pub soundSeat : Seat → List Edit → Bool
+soundSeat t edits = choose (t .opened) (soundOpen t edits) (soundClosed edits)
+
+-- The first n of these seats are sound, each with its own edits among the records in use.
+unfoldable pub soundTo : ℕ → List Seat → List Record → Bool
+soundTo zero l live = true
+soundTo (suc n) l live = both (soundTo n l live) (soundSeat (getD l n noSeat) (own n live))
+
+-- Seats and their journal are sound: eight seats, a journal of 256 records, the used count in its range, each used record's seat too,
+-- no job repeated, and each seat sound.
+unfoldable pub soundAll : List Seat → List Record → ℕ → Bool
+soundAll l journal used =
+    both (eqb (length l) seats)
+    (both (eqb (length journal) records)
+    (both (leb used records)
+    (both (seated (take used journal)) (both (jobsApart (jobsIn l)) (soundTo seats l (take used journal))))))

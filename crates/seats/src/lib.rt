@@ -1,0 +1,240 @@
+// Seats: the drawing at one and how many of its edits stand, the jobs that are open, whether seats and the journal that they share are sound, and what undo, redo and a new edit make of a seat.
+use drawing::Edit;
+use drawing::PINS;
+use drawing::Pin;
+use journal::RECORDS;
+use journal::Record;
+use journal::SEATS;
+ghost use mathlib.Core.Path.{_≡_};
+ghost use Prim.Native.Nat.{_-_, _<_, _≤_};
+ghost use lib.Dec.{leb};
+ghost use lib.ListN.{length, take, drop, getD};
+ghost use Rattle.refusal.specs.Tests.{both};
+ghost use Rattle.drawing.specs.Pins.{pins};
+ghost use Rattle.drawing.specs.Edits.{pinOf};
+ghost use Rattle.journal.specs.Journal.{records, noEdit, own, seated};
+ghost use Rattle.seats.specs.Seats.{closedSeat, openSeat, editedSeat, undoneSeat, redoneSeat, jobOf, jobsIn, sameJob, jobAmong, jobsApart};
+ghost use Rattle.seats.specs.Sound.{soundOpen, soundSeat, soundTo, soundAll};
+
+// A seat: whether it is open, and if so its drawing's job and pins, and how many of its edits stand.
+pub struct Seat {
+    pub opened: bool,
+    pub job: u16,
+    pub pins: [Pin; PINS],
+    pub standing: usize,
+}
+
+// A closed seat, as calls leave it.
+pub fn closed_seat() -> Seat
+    ensures { λ r. ⌜ r ≡ closedSeat ⌝ }
+{
+    let blank = drawing::absent_pin();
+    let pins = [blank; PINS];
+    Seat {
+        opened: false,
+        job: 0,
+        pins,
+        standing: 0,
+    }
+}
+
+// A seat that is open for a job with these pins and no edits.
+pub fn open_seat(job: u16, pins: [Pin; PINS]) -> Seat
+    ensures { λ r. ⌜ r ≡ openSeat job pins ⌝ }
+{
+    Seat {
+        opened: true,
+        job,
+        pins,
+        standing: 0,
+    }
+}
+
+// The job of an open seat, 0 for a closed one.
+fn job_of(seat: Seat) -> u16
+    ensures { λ r. ⌜ r ≡ jobOf seat ⌝ }
+{
+    if seat.opened { seat.job } else { 0 }
+}
+
+// The jobs of the seats.
+pub fn jobs_of(seats: [Seat; SEATS]) -> [u16; SEATS]
+    ensures { λ r. ⌜ r ≡ jobsIn seats ⌝ }
+{
+    let mut jobs = [0u16; SEATS];
+    let mut i: usize = 0;
+    while i < SEATS {
+        let s = seats[i];
+        jobs[i] = job_of(s);
+        i = i + 1;
+    }
+    jobs
+}
+
+// Whether two seats are open for one job.
+fn same_job(a: u16, b: u16) -> bool
+    ensures { λ r. ⌜ r ≡ sameJob a b ⌝ }
+{
+    if a == 0 { false } else { a == b }
+}
+
+// Whether a job is open at one of the seats numbered `from` and above.
+pub fn job_among(job: u16, jobs: [u16; SEATS], from: usize) -> bool
+    requires { ⌜ from ≤ 8 ⌝ }
+    ensures { λ r. ⌜ r ≡ jobAmong job (drop from jobs) ⌝ }
+{
+    let mut i: usize = from;
+    while i < SEATS {
+        if same_job(job, jobs[i]) {
+            return true;
+        }
+        i = i + 1;
+    }
+    false
+}
+
+// Whether no job is repeated.
+fn jobs_apart(jobs: [u16; SEATS]) -> bool
+    ensures { λ r. ⌜ r ≡ jobsApart jobs ⌝ }
+{
+    let mut i: usize = 0;
+    while i < SEATS {
+        let job = jobs[i];
+        i = i + 1;
+        if job_among(job, jobs, i) {
+            return false;
+        }
+    }
+    true
+}
+
+// Whether the used count is in its range, and each used record's seat too.
+fn journal_is_sound(journal: [Record; RECORDS], used: usize) -> bool
+    ensures { λ r. ⌜ r ≡ both (leb used records) (seated (take used journal)) ⌝ }
+{
+    if RECORDS < used {
+        return false;
+    }
+    journal::all_seated(journal, used)
+}
+
+// Whether an open seat, of that number, is sound.
+fn open_is_sound(s: Seat, journal: [Record; RECORDS], used: usize, seat: usize) -> bool
+    requires { ⌜ used ≤ records ⌝ }
+    ensures { λ r. ⌜ r ≡ soundOpen s (own seat (take used journal)) ⌝ }
+{
+    if s.job == 0 {
+        return false;
+    }
+    let standing = s.standing;
+    let owned = journal::count_of(journal, used, seat);
+    if owned < standing {
+        return false;
+    }
+    let pins = s.pins;
+    if drawing::keep_rules(pins) {
+        if journal::can_take_back_all(pins, journal, used, seat, owned, standing) {
+            journal::can_redo_all(pins, journal, used, seat, standing)
+        } else {
+            false
+        }
+    } else {
+        false
+    }
+}
+
+// Whether a seat, of that number, is sound: as an open one, or as a closed one, which owns no records.
+fn seat_is_sound(s: Seat, journal: [Record; RECORDS], used: usize, seat: usize) -> bool
+    requires { ⌜ used ≤ records ⌝ }
+    ensures { λ r. ⌜ r ≡ soundSeat s (own seat (take used journal)) ⌝ }
+{
+    if s.opened {
+        open_is_sound(s, journal, used, seat)
+    } else {
+        journal::count_of(journal, used, seat) == 0
+    }
+}
+
+// Whether every seat is sound.
+fn each_is_sound(seats: [Seat; SEATS], journal: [Record; RECORDS], used: usize) -> bool
+    requires { ⌜ used ≤ records ⌝ }
+    ensures { λ r. ⌜ r ≡ soundTo 8 seats (take used journal) ⌝ }
+{
+    let mut i: usize = 0;
+    while i < SEATS {
+        let s = seats[i];
+        if seat_is_sound(s, journal, used, i) {
+            i = i + 1;
+        } else {
+            return false;
+        }
+    }
+    true
+}
+
+// Whether seats and the journal that they share are sound.
+pub fn are_sound(seats: [Seat; SEATS], journal: [Record; RECORDS], used: usize) -> bool
+    ensures { λ r. ⌜ r ≡ soundAll seats journal used ⌝ }
+{
+    if journal_is_sound(journal, used) {
+        let jobs = jobs_of(seats);
+        if jobs_apart(jobs) {
+            each_is_sound(seats, journal, used)
+        } else {
+            false
+        }
+    } else {
+        false
+    }
+}
+
+// A seat after a new edit, which stands: its pins with the edit made.
+pub fn edited(seat: Seat, edit: Edit) -> Seat
+    requires { ⌜ (pinOf edit < pins) × (seat .standing ≤ records) ⌝ }
+    ensures { λ r. ⌜ r ≡ editedSeat seat edit ⌝ }
+{
+    let pins = seat.pins;
+    let changed = drawing::make(pins, edit);
+    Seat {
+        opened: seat.opened,
+        job: seat.job,
+        pins: changed,
+        standing: seat.standing + 1,
+    }
+}
+
+// A seat after undo: its latest standing edit taken back.
+pub fn undone(s: Seat, journal: [Record; RECORDS], used: usize, seat: usize) -> Seat
+    requires { ⌜ (used ≤ records) × (0 < s .standing) × (s .standing ≤ length (own seat (take used journal))) × (pinOf (getD (own seat (take used journal)) (s .standing - 1) noEdit) < pins) ⌝ }
+    ensures { λ r. ⌜ r ≡ undoneSeat s (own seat (take used journal)) ⌝ }
+{
+    let standing = s.standing;
+    let owned = journal::count_of(journal, used, seat);
+    let edit = journal::edit_of(journal, used, seat, owned - standing);
+    let pins = s.pins;
+    let former = drawing::take_back(pins, edit);
+    Seat {
+        opened: s.opened,
+        job: s.job,
+        pins: former,
+        standing: standing - 1,
+    }
+}
+
+// A seat after redo: the most recently taken-back of its edits made again.
+pub fn redone(s: Seat, journal: [Record; RECORDS], used: usize, seat: usize) -> Seat
+    requires { ⌜ (used ≤ records) × (s .standing < length (own seat (take used journal))) × (pinOf (getD (own seat (take used journal)) (s .standing) noEdit) < pins) ⌝ }
+    ensures { λ r. ⌜ r ≡ redoneSeat s (own seat (take used journal)) ⌝ }
+{
+    let standing = s.standing;
+    let owned = journal::count_of(journal, used, seat);
+    let edit = journal::edit_of(journal, used, seat, owned - standing - 1);
+    let pins = s.pins;
+    let remade = drawing::make(pins, edit);
+    Seat {
+        opened: s.opened,
+        job: s.job,
+        pins: remade,
+        standing: standing + 1,
+    }
+}

@@ -1,0 +1,87 @@
+-- Further cases, each computed: a move to the place where the pin already stands, and desks broken in each way of document 01's list. Assumes nothing.
+use mathlib.Core.Path.{_≡_, refl}
+use mathlib.Core.Bool.{true}
+use mathlib.Core.List.{List, [], _∷_, _++_, map}
+use Prim.Native.Nat.{ℕ}
+use lib.IntN.{ℤ, pos}
+use lib.ListN.{replicate, take}
+use Rattle.refusal.specs.Tests.{both, either, choose}
+use Rattle.refusal.specs.Refusals.{accepted, turn}
+use Rattle.refusal.specs.declared.Verdict.{Verdict}
+use Rattle.refusal.specs.declared.Verdict.the-variants.{Accepted, PlaceTaken, DeskBroken}
+use Rattle.grid.specs.declared.Place.{Place}
+use Rattle.grid.specs.Place.{onBoard, inside, difference, closer, tooNear, sameNumber, samePlace}
+use Rattle.drawing.specs.declared.Pin.{Pin}
+use Rattle.drawing.specs.Pins.{pins, absent, there, holding, isThere, sameHeld, samePin, samePins, meets, meetsAny, crowded, within, settled, allWithin, allApart, lawful}
+use Rattle.drawing.specs.Edits.{movedPin, made, unmade, standsAt, fits, placeable, movable, makeable, takeable, heldBy, placed}
+use Rattle.pinmap.specs.Map.{noPins, readFrom, wrongLength, readMap}
+use Rattle.journal.specs.declared.Record.{Record}
+use Rattle.journal.specs.Journal.{recorded, own, kept, filled, seated, inTurn}
+use Rattle.seats.specs.declared.Seat.{Seat}
+use Rattle.desk.specs.declared.Desk.{Desk}
+use Rattle.desk.specs.Calls.{opening, placing, moving, undoing}
+use Rattle.desk.specs.Refusals.{sameJob, jobAmong, turnedOpening, turnedPlacing, turnedMoving, turnedUndoing, verdictOf}
+use Rattle.desk.specs.Desk.{closedSeat, jobOf, jobsApart, soundOpen, soundClosed, soundSeat, soundTo, sound, edited, effect, answerOf, step, emptyDesk}
+use Rattle.history.specs.History.{answers}
+
+abbrev pub at : ℤ → ℤ → Place
+at a b = record { x = a; y = b }
+
+abbrev pub pinAt : ℤ → ℤ → Pin
+pinAt a b = there (holding (at a b))
+
+-- A drawing of these pins and no others.
+abbrev pub drawn : List Pin → List Pin
+drawn l = take pins (l ++ replicate pins absent)
+
+-- Pin 0 is placed at (1,1), and a move to (1,1) is 9.
+pub own-place-refused : answers emptyDesk (opening 0 7 [] ∷ placing 0 0 (at (pos 1) (pos 1)) ∷ moving 0 0 (at (pos 1) (pos 1)) ∷ [])
+    ≡ Accepted ∷ Accepted ∷ PlaceTaken ∷ []
+unfolding answers both either choose accepted turn onBoard inside difference closer tooNear sameNumber samePlace isThere sameHeld samePin samePins meets meetsAny crowded within settled allWithin allApart lawful movedPin made unmade standsAt fits placeable movable makeable takeable heldBy noPins readFrom wrongLength readMap own kept filled seated inTurn sameJob jobAmong turnedOpening turnedPlacing turnedMoving verdictOf jobOf jobsApart soundOpen soundClosed soundSeat soundTo sound edited effect answerOf step emptyDesk
+own-place-refused = refl
+
+-- A seat open for a job, with these pins and so many standing edits.
+abbrev pub opened : ℕ → List Pin → ℕ → Seat
+opened job l n = record { opened = true; job = job; pins = drawn l; standing = n }
+
+-- A desk with these first seats, the others closed, and these records.
+abbrev pub deskOf : List Seat → List Record → ℕ → Desk
+deskOf l m n = record { seats = take 8 (l ++ replicate 8 closedSeat); journal = filled m; used = n }
+
+-- Pin 0 stands at (1,1), and a placing of pin 1 at (2,2) is taken back.
+abbrev pub here : Pin
+here = pinAt (pos 1) (pos 1)
+
+abbrev pub stands : Record
+stands = recorded 0 (placed 0 (at (pos 1) (pos 1)))
+
+abbrev pub takenBack : Record
+takenBack = recorded 0 (placed 1 (at (pos 2) (pos 2)))
+
+abbrev pub whole : Desk
+whole = deskOf (opened 7 (here ∷ []) 1 ∷ []) (stands ∷ takenBack ∷ []) 2
+
+-- It is sound, and each of these is broken: job 0; a repeated job; a closed seat with a record; a pin outside the board; two pins at one place;
+-- a standing edit that could not have been made; a taken-back one that could not be redone; 257 used records; a record of seat 8; more
+-- standing edits than records.
+abbrev pub broken : List Desk
+broken =
+    deskOf (opened 0 (here ∷ []) 1 ∷ []) (stands ∷ takenBack ∷ []) 2
+    ∷ deskOf (opened 7 (here ∷ []) 1 ∷ opened 7 [] 0 ∷ []) (stands ∷ takenBack ∷ []) 2
+    ∷ deskOf (opened 7 (here ∷ []) 1 ∷ []) (stands ∷ takenBack ∷ recorded 1 (placed 0 (at (pos 1) (pos 1))) ∷ []) 3
+    ∷ deskOf (opened 7 (here ∷ pinAt (pos 20001) (pos 0) ∷ []) 0 ∷ []) [] 0
+    ∷ deskOf (opened 7 (here ∷ here ∷ []) 0 ∷ []) [] 0
+    ∷ deskOf (opened 7 (here ∷ []) 1 ∷ []) (recorded 0 (placed 0 (at (pos 5) (pos 5))) ∷ takenBack ∷ []) 2
+    ∷ deskOf (opened 7 (here ∷ []) 1 ∷ []) (stands ∷ recorded 0 (placed 1 (at (pos 1) (pos 1))) ∷ []) 2
+    ∷ deskOf (opened 7 (here ∷ []) 1 ∷ []) (stands ∷ takenBack ∷ []) 257
+    ∷ deskOf (opened 7 (here ∷ []) 1 ∷ []) (stands ∷ takenBack ∷ recorded 8 (placed 0 (at (pos 1) (pos 1))) ∷ []) 3
+    ∷ deskOf (opened 7 (here ∷ []) 3 ∷ []) (stands ∷ takenBack ∷ []) 2
+    ∷ []
+
+-- What undo at seat 0 is answered.
+abbrev pub undo : Desk → Verdict
+undo d = answerOf d (undoing 0)
+
+pub broken-refused : (undo whole ≡ Accepted) × (map undo broken ≡ replicate 10 DeskBroken)
+unfolding both either choose turn onBoard inside difference closer tooNear sameNumber samePlace isThere sameHeld samePin samePins meets meetsAny crowded within settled allWithin allApart lawful movedPin made unmade standsAt fits placeable movable makeable takeable own kept filled seated inTurn sameJob jobAmong turnedUndoing verdictOf jobOf jobsApart soundOpen soundClosed soundSeat soundTo sound answerOf
+broken-refused = (refl, refl)
