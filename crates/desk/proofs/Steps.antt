@@ -11,7 +11,6 @@ use Rattle.refusal.specs.Refusals.{accepted, turn}
 use Rattle.refusal.specs.declared.Verdict.{Verdict}
 use Rattle.refusal.specs.declared.Verdict.the-variants.{Accepted, JournalFull}
 use Rattle.drawing.specs.declared.Edit.{Edit}
-use Rattle.journal.specs.declared.Record.{Record}
 use Rattle.journal.specs.declared.Compacted.{Compacted}
 use Rattle.journal.specs.Journal.{records, recorded, kept, compacted}
 use Rattle.journal.proofs.Own.{kept-length, added-length}
@@ -22,7 +21,7 @@ use Rattle.desk.specs.declared.Desk.{Desk}
 use Rattle.desk.specs.declared.Answered.{Answered}
 use Rattle.desk.specs.Calls.{Call}
 use Rattle.desk.specs.Refusals.{full}
-use Rattle.desk.specs.Desk.{seatOf, live, editsOf, lookAt, sound, freed, edited, entered, effect, answerOf, step}
+use Rattle.desk.specs.Desk.{seatOf, live, editsOf, lookAt, sound, withSeat, withRecord, freed, edited, entered, effect, answerOf, step}
 use Rattle.desk.proofs.Sound.{live-length}
 
 -- A step whose answer is known: refused, the desk as it was; accepted, what the call makes of it.
@@ -54,24 +53,19 @@ module _ (d : Desk) (k : sound d ≡ true) (s : ℕ) (e : Edit) {x : Desk} (f : 
       let y : records ≤ d .used - (length (editsOf d s) - seatOf d s .standing) = rw count-left at h in
       rw (le-leb records (d .used - (length (editsOf d s) - seatOf d s .standing)) y)
 
-  pub entered-done : {j : List Record} {t : Seat} → x .used < records → j ≡ set (x .journal) (x .used) (recorded s e)
-      → t ≡ editedSeat (seatOf d s) e
-      → _≡_ {A = Answered}
-      (record {
-        desk = record { seats = set (x .seats) s t; journal = j; used = x .used + 1 };
-        verdict = Accepted;
-      })
-      (entered d s e)
+  pub entered-done : {y z : Desk} {t : Seat} → x .used < records → y ≡ withRecord x (recorded s e) → t ≡ editedSeat (seatOf d s) e
+      → z ≡ withSeat y s t → _≡_ {A = Answered} (record { desk = z; verdict = Accepted }) (entered d s e)
   unfolding entered edited turn choose
-  entered-done h a b =
-      let y : d .used - (length (editsOf d s) - seatOf d s .standing) < records = rw count-left at h in
-      let z : length (kept s (seatOf d s .standing) (live d)) < records = rw f at h in
+  entered-done h a b g =
+      let n : d .used - (length (editsOf d s) - seatOf d s .standing) < records = rw count-left at h in
+      let m : length (kept s (seatOf d s .standing) (live d)) < records = rw f at h in
       rw (
-        lt-leb records (d .used - (length (editsOf d s) - seatOf d s .standing)) y,
+        lt-leb records (d .used - (length (editsOf d s) - seatOf d s .standing)) n,
+        g,
         a,
         b,
         f,
-        filled-set (kept s (seatOf d s .standing) (live d)) (recorded s e) z,
+        filled-set (kept s (seatOf d s .standing) (live d)) (recorded s e) m,
         added-length s (seatOf d s .standing) e (live d),
       )
 

@@ -1,7 +1,7 @@
 -- The desk: when it is broken, and what each call makes of it.
 use mathlib.Core.Bool.{Bool, not}
 use mathlib.Core.List.{List}
-use Prim.Native.Nat.{ℕ, _-_}
+use Prim.Native.Nat.{ℕ, _+_, _-_}
 use lib.ListN.{length, replicate, take, getD, set}
 use Rattle.refusal.specs.Tests.{choose}
 use Rattle.refusal.specs.Refusals.{accepted, turn}
@@ -74,9 +74,17 @@ lookAt d s =
       used = d .used;
     }
 
+-- What a refused call hands back: the desk as it is.
+abbrev pub refused : Desk → Verdict → Answered
+refused d v = record { desk = d; verdict = v }
+
 -- The desk with one seat changed.
 abbrev pub withSeat : Desk → ℕ → Seat → Desk
 withSeat d s t = record { seats = set (d .seats) s t; journal = d .journal; used = d .used }
+
+-- The desk with one more record in use, after all others.
+abbrev pub withRecord : Desk → Record → Desk
+withRecord d r = record { seats = d .seats; journal = set (d .journal) (d .used) r; used = d .used + 1 }
 
 -- The desk with one seat changed and other records in use, blanks after them.
 abbrev pub withRecords : Desk → ℕ → Seat → List Record → Desk

@@ -15,10 +15,10 @@ ghost use mathlib.Core.Bool.{true};
 ghost use Prim.Native.Nat.{_<_, _≤_};
 ghost use Rattle.drawing.specs.Pins.{pins};
 ghost use Rattle.drawing.specs.Edits.{pinOf};
-ghost use Rattle.journal.specs.Journal.{seats, records};
+ghost use Rattle.journal.specs.Journal.{seats, records, recorded};
 ghost use Rattle.rows.specs.Found.{foundIn};
 ghost use Rattle.desk.specs.Calls.{opening, closing, placing, moving, removing, undoing, redoing};
-ghost use Rattle.desk.specs.Desk.{emptyDesk, seatOf, sound, withSeat, freed, entered, step, writtenOf, bufferOf, wiredOf, wiredSeatOf, lentOf};
+ghost use Rattle.desk.specs.Desk.{emptyDesk, seatOf, sound, refused, withSeat, withRecord, freed, entered, step, writtenOf, bufferOf, wiredOf, wiredSeatOf, lentOf};
 
 // A desk: its seats, and the journal that they share, of which the first `used` records are in use.
 pub struct Desk {
@@ -86,6 +86,16 @@ impl Desk {
         rows::find(seats, records, self.used, seat)
     }
 
+    // What a refused call hands back: the desk as it is.
+    fn refused(self, verdict: Verdict) -> Answered
+        ensures { λ r. ⌜ r ≡ refused self verdict ⌝ }
+    {
+        Answered {
+            desk: self,
+            verdict,
+        }
+    }
+
     // The desk with one seat changed.
     fn with_seat(self, seat: usize, following: Seat) -> Desk
         requires { ⌜ seat < seats ⌝ }
@@ -112,27 +122,37 @@ impl Desk {
         }
     }
 
+    // The desk with an edit of a seat recorded after all others.
+    fn recorded(self, seat: usize, edit: Edit) -> Desk
+        requires { ⌜ self .used < records ⌝ }
+        ensures { λ r. ⌜ r ≡ withRecord self (recorded seat edit) ⌝ }
+    {
+        let records = self.journal;
+        let used = self.used;
+        let following = journal::append(records, used, Record { seat, edit });
+        let seats = self.seats;
+        Desk {
+            seats,
+            journal: following,
+            used: used + 1,
+        }
+    }
+
     // Makes and records an edit that no refusal before 12 meets, unless the journal is full.
     fn entered(self, seat: usize, edit: Edit) -> Answered
         requires { ⌜ (sound self ≡ true) × (seat < seats) × (seatOf self seat .opened ≡ true) × (pinOf edit < pins) ⌝ }
         ensures { λ r. ⌜ r ≡ entered self seat edit ⌝ }
     {
         let s = self.seats[seat];
-        let mut next = self.freed(seat, s.standing);
-        let count = next.used;
-        if RECORDS <= count {
-            return Answered {
-                desk: self,
-                verdict: Verdict::JournalFull,
-            };
+        let left = self.freed(seat, s.standing);
+        if RECORDS <= left.used {
+            return self.refused(Verdict::JournalFull);
         }
-        let records = next.journal;
-        let following = journal::append(records, count, Record { seat, edit });
-        next.journal = following;
-        next.used = count + 1;
-        next.seats[seat] = seats::edited(s, edit);
+        let following = left.recorded(seat, edit);
+        let t = seats::edited(s, edit);
+        let edited = following.with_seat(seat, t);
         Answered {
-            desk: next,
+            desk: edited,
             verdict: Verdict::Accepted,
         }
     }
@@ -150,17 +170,14 @@ impl Desk {
         let verdict = reading.verdict;
         if refusal::is_accepted(verdict) {
             let pins = reading.pins;
-            let opened = seats::open_seat(job, pins);
-            let next = self.with_seat(seat, opened);
+            let s = seats::open_seat(job, pins);
+            let opened = self.with_seat(seat, s);
             Answered {
-                desk: next,
+                desk: opened,
                 verdict,
             }
         } else {
-            Answered {
-                desk: self,
-                verdict,
-            }
+            self.refused(verdict)
         }
     }
 
@@ -172,17 +189,14 @@ impl Desk {
         let verdict = rows::turned_closing(found);
         if refusal::is_accepted(verdict) {
             let without = self.freed(seat, 0);
-            let closed = seats::closed_seat();
-            let next = without.with_seat(seat, closed);
+            let s = seats::closed_seat();
+            let closed = without.with_seat(seat, s);
             Answered {
-                desk: next,
+                desk: closed,
                 verdict,
             }
         } else {
-            Answered {
-                desk: self,
-                verdict,
-            }
+            self.refused(verdict)
         }
     }
 
@@ -196,10 +210,7 @@ impl Desk {
             let edit = drawing::edit_placing(pin, at);
             self.entered(seat, edit)
         } else {
-            Answered {
-                desk: self,
-                verdict,
-            }
+            self.refused(verdict)
         }
     }
 
@@ -215,10 +226,7 @@ impl Desk {
             let edit = drawing::edit_moving(pins, pin, to);
             self.entered(seat, edit)
         } else {
-            Answered {
-                desk: self,
-                verdict,
-            }
+            self.refused(verdict)
         }
     }
 
@@ -234,10 +242,7 @@ impl Desk {
             let edit = drawing::edit_removing(pins, pin);
             self.entered(seat, edit)
         } else {
-            Answered {
-                desk: self,
-                verdict,
-            }
+            self.refused(verdict)
         }
     }
 
@@ -250,17 +255,14 @@ impl Desk {
         if refusal::is_accepted(verdict) {
             let s = found.seat;
             let records = self.journal;
-            let earlier = seats::undone(s, records, self.used, seat);
-            let next = self.with_seat(seat, earlier);
+            let former = seats::undone(s, records, self.used, seat);
+            let earlier = self.with_seat(seat, former);
             Answered {
-                desk: next,
+                desk: earlier,
                 verdict,
             }
         } else {
-            Answered {
-                desk: self,
-                verdict,
-            }
+            self.refused(verdict)
         }
     }
 
@@ -273,17 +275,14 @@ impl Desk {
         let verdict = rows::turned_redoing(found, records, self.used);
         if refusal::is_accepted(verdict) {
             let s = found.seat;
-            let later = seats::redone(s, records, self.used, seat);
-            let next = self.with_seat(seat, later);
+            let remade = seats::redone(s, records, self.used, seat);
+            let later = self.with_seat(seat, remade);
             Answered {
-                desk: next,
+                desk: later,
                 verdict,
             }
         } else {
-            Answered {
-                desk: self,
-                verdict,
-            }
+            self.refused(verdict)
         }
     }
 

@@ -27,12 +27,15 @@ closed-seat-requires c κs = search needs
 with-seat-requires : tie.Need-with-seat-requires
 with-seat-requires c κs = seat-there (c .before .before .before .before .before .before .args .self) (c .before .before .before .before .before .before .args .seat) (c .before .before .before .before .before .find .ensures) (close-there (c .before .before .before .before .before .before .args .self) (c .before .before .before .before .before .before .args .seat) (c .before .before .before .before .before .find .ensures) (c .before .before .before .before .turned-closing .ensures) (sym (c .before .before .before .is-accepted .ensures) ∙ c .before .before .if1 .taken))
 
+refused-requires : tie.Need-refused-requires
+refused-requires c κs = search needs
+
 returns : tie.Need-returns
 unfolding effect
 returns c = step-accepted (c .before .before .before .before .before .before .before .args .self) (closing (c .before .before .before .before .before .before .before .args .seat)) (close-answer (c .before .before .before .before .before .before .before .args .self) (c .before .before .before .before .before .before .before .args .seat) (c .before .before .before .before .before .before .find .ensures) (c .before .before .before .before .before .turned-closing .ensures)) (sym (c .before .before .before .before .is-accepted .ensures) ∙ c .before .before .before .if1 .taken) (c .with-seat .ensures ∙ rw (c .before .before .freed .ensures, c .before .closed-seat .ensures))
 
 returns-2 : tie.Need-returns-2
-returns-2 c = step-refused (c .before .before .before .before .args .self) (closing (c .before .before .before .before .args .seat)) (close-answer (c .before .before .before .before .args .self) (c .before .before .before .before .args .seat) (c .before .before .before .find .ensures) (c .before .before .turned-closing .ensures)) (sym (c .before .is-accepted .ensures) ∙ c .if1 .left)
+returns-2 c = c .refused .ensures ∙ step-refused (c .before .before .before .before .before .args .self) (closing (c .before .before .before .before .before .args .seat)) (close-answer (c .before .before .before .before .before .args .self) (c .before .before .before .before .before .args .seat) (c .before .before .before .before .find .ensures) (c .before .before .before .turned-closing .ensures)) (sym (c .before .before .is-accepted .ensures) ∙ c .before .if1 .left)
 
 pub close-spec : {M : Type 1} → statement M
 close-spec =
@@ -44,5 +47,6 @@ close-spec =
     freed-requires
     closed-seat-requires
     with-seat-requires
+    refused-requires
     returns
     returns-2)

@@ -23,12 +23,15 @@ open-seat-requires c κs = search needs
 with-seat-requires : tie.Need-with-seat-requires
 with-seat-requires c κs = open-seat (c .before .before .before .before .before .before .before .before .args .self) (c .before .before .before .before .before .before .before .before .args .seat) (c .before .before .before .before .before .before .before .before .args .job) (c .before .before .before .before .before .before .before .before .args .map .now) (c .before .before .before .before .before .before .find .ensures) (c .before .before .before .before .opening .ensures) (sym (c .before .before .before .is-accepted .ensures) ∙ c .before .before .if1 .taken)
 
+refused-requires : tie.Need-refused-requires
+refused-requires c κs = search needs
+
 returns : tie.Need-returns
 unfolding effect
 returns c = step-accepted (c .before .before .before .before .before .before .before .before .before .args .self) (opening (c .before .before .before .before .before .before .before .before .before .args .seat) (c .before .before .before .before .before .before .before .before .before .args .job) (c .before .before .before .before .before .before .before .before .before .args .map .now)) (open-answer (c .before .before .before .before .before .before .before .before .before .args .self) (c .before .before .before .before .before .before .before .before .before .args .seat) (c .before .before .before .before .before .before .before .before .before .args .job) (c .before .before .before .before .before .before .before .before .before .args .map .now) (c .before .before .before .before .before .before .before .find .ensures) (c .before .before .before .before .before .opening .ensures)) (sym (c .before .before .before .before .is-accepted .ensures) ∙ c .before .before .before .if1 .taken) (c .with-seat .ensures ∙ rw (c .before .open-seat .ensures, open-read (c .before .before .before .before .before .before .before .before .before .args .self) (c .before .before .before .before .before .before .before .before .before .args .seat) (c .before .before .before .before .before .before .before .before .before .args .job) (c .before .before .before .before .before .before .before .before .before .args .map .now) (c .before .before .before .before .before .before .before .find .ensures) (c .before .before .before .before .before .opening .ensures) (sym (c .before .before .before .before .is-accepted .ensures) ∙ c .before .before .before .if1 .taken)))
 
 returns-2 : tie.Need-returns-2
-returns-2 c = step-refused (c .before .before .before .before .before .before .args .self) (opening (c .before .before .before .before .before .before .args .seat) (c .before .before .before .before .before .before .args .job) (c .before .before .before .before .before .before .args .map .now)) (open-answer (c .before .before .before .before .before .before .args .self) (c .before .before .before .before .before .before .args .seat) (c .before .before .before .before .before .before .args .job) (c .before .before .before .before .before .before .args .map .now) (c .before .before .before .before .find .ensures) (c .before .before .opening .ensures)) (sym (c .before .is-accepted .ensures) ∙ c .if1 .left)
+returns-2 c = c .refused .ensures ∙ step-refused (c .before .before .before .before .before .before .before .args .self) (opening (c .before .before .before .before .before .before .before .args .seat) (c .before .before .before .before .before .before .before .args .job) (c .before .before .before .before .before .before .before .args .map .now)) (open-answer (c .before .before .before .before .before .before .before .args .self) (c .before .before .before .before .before .before .before .args .seat) (c .before .before .before .before .before .before .before .args .job) (c .before .before .before .before .before .before .before .args .map .now) (c .before .before .before .before .before .find .ensures) (c .before .before .before .opening .ensures)) (sym (c .before .before .is-accepted .ensures) ∙ c .before .if1 .left)
 
 pub open-spec : {M : Type 1} → statement M
 open-spec =
@@ -39,5 +42,6 @@ open-spec =
     is-accepted-requires
     open-seat-requires
     with-seat-requires
+    refused-requires
     returns
     returns-2)

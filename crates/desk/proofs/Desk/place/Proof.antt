@@ -23,12 +23,15 @@ edit-placing-requires c κs = search needs
 entered-requires : tie.Need-entered-requires
 entered-requires c κs = (sound-there (c .before .before .before .before .before .args .self) (c .before .before .before .before .before .args .seat) (c .before .before .before .before .find .ensures) (place-there (c .before .before .before .before .before .args .self) (c .before .before .before .before .before .args .seat) (c .before .before .before .before .find .ensures) (c .before .before .before .before .before .args .pin) (c .before .before .before .before .before .args .at) (c .before .before .before .turned-placing .ensures) (sym (c .before .before .is-accepted .ensures) ∙ c .before .if1 .taken)), seat-there (c .before .before .before .before .before .args .self) (c .before .before .before .before .before .args .seat) (c .before .before .before .before .find .ensures) (place-there (c .before .before .before .before .before .args .self) (c .before .before .before .before .before .args .seat) (c .before .before .before .before .find .ensures) (c .before .before .before .before .before .args .pin) (c .before .before .before .before .before .args .at) (c .before .before .before .turned-placing .ensures) (sym (c .before .before .is-accepted .ensures) ∙ c .before .if1 .taken)), open-there (c .before .before .before .before .before .args .self) (c .before .before .before .before .before .args .seat) (c .before .before .before .before .find .ensures) (place-there (c .before .before .before .before .before .args .self) (c .before .before .before .before .before .args .seat) (c .before .before .before .before .find .ensures) (c .before .before .before .before .before .args .pin) (c .before .before .before .before .before .args .at) (c .before .before .before .turned-placing .ensures) (sym (c .before .before .is-accepted .ensures) ∙ c .before .if1 .taken)), rw (c .edit-placing .ensures) (place-number (c .before .before .before .before .before .args .self) (c .before .before .before .before .before .args .seat) (c .before .before .before .before .find .ensures) (c .before .before .before .before .before .args .pin) (c .before .before .before .before .before .args .at) (c .before .before .before .turned-placing .ensures) (sym (c .before .before .is-accepted .ensures) ∙ c .before .if1 .taken)))
 
+refused-requires : tie.Need-refused-requires
+refused-requires c κs = search needs
+
 returns : tie.Need-returns
 unfolding effect
 returns c = c .entered .ensures ∙ rw (c .before .edit-placing .ensures) (step-entered (c .before .before .before .before .before .before .args .self) (placing (c .before .before .before .before .before .before .args .seat) (c .before .before .before .before .before .before .args .pin) (c .before .before .before .before .before .before .args .at)) (c .before .before .before .before .before .before .args .seat) _ (place-room (c .before .before .before .before .before .before .args .self) (c .before .before .before .before .before .before .args .seat) (c .before .before .before .before .before .find .ensures) (c .before .before .before .before .before .before .args .pin) (c .before .before .before .before .before .before .args .at) (c .before .before .before .before .turned-placing .ensures) (sym (c .before .before .before .is-accepted .ensures) ∙ c .before .before .if1 .taken)) refl)
 
 returns-2 : tie.Need-returns-2
-returns-2 c = step-refused (c .before .before .before .before .args .self) (placing (c .before .before .before .before .args .seat) (c .before .before .before .before .args .pin) (c .before .before .before .before .args .at)) (place-refused (c .before .before .before .before .args .self) (c .before .before .before .before .args .seat) (c .before .before .before .find .ensures) (c .before .before .before .before .args .pin) (c .before .before .before .before .args .at) (c .before .before .turned-placing .ensures) (sym (c .before .is-accepted .ensures) ∙ c .if1 .left)) (sym (c .before .is-accepted .ensures) ∙ c .if1 .left)
+returns-2 c = c .refused .ensures ∙ step-refused (c .before .before .before .before .before .args .self) (placing (c .before .before .before .before .before .args .seat) (c .before .before .before .before .before .args .pin) (c .before .before .before .before .before .args .at)) (place-refused (c .before .before .before .before .before .args .self) (c .before .before .before .before .before .args .seat) (c .before .before .before .before .find .ensures) (c .before .before .before .before .before .args .pin) (c .before .before .before .before .before .args .at) (c .before .before .before .turned-placing .ensures) (sym (c .before .before .is-accepted .ensures) ∙ c .before .if1 .left)) (sym (c .before .before .is-accepted .ensures) ∙ c .before .if1 .left)
 
 pub place-spec : {M : Type 1} → statement M
 place-spec =
@@ -39,5 +42,6 @@ place-spec =
     is-accepted-requires
     edit-placing-requires
     entered-requires
+    refused-requires
     returns
     returns-2)

@@ -24,12 +24,15 @@ redone-requires c κs = redo-fits (c .before .before .before .before .before .be
 with-seat-requires : tie.Need-with-seat-requires
 with-seat-requires c κs = seat-there (c .before .before .before .before .before .before .before .args .self) (c .before .before .before .before .before .before .before .args .seat) (c .before .before .before .before .before .before .find .ensures) (redo-there (c .before .before .before .before .before .before .before .args .self) (c .before .before .before .before .before .before .before .args .seat) (c .before .before .before .before .before .before .find .ensures) (c .before .before .before .before .turned-redoing .ensures) (sym (c .before .before .before .is-accepted .ensures) ∙ c .before .before .if1 .taken))
 
+refused-requires : tie.Need-refused-requires
+refused-requires c κs = search needs
+
 returns : tie.Need-returns
 unfolding effect
 returns c = step-accepted (c .before .before .before .before .before .before .before .before .args .self) (redoing (c .before .before .before .before .before .before .before .before .args .seat)) (redo-answer (c .before .before .before .before .before .before .before .before .args .self) (c .before .before .before .before .before .before .before .before .args .seat) (c .before .before .before .before .before .before .before .find .ensures) (c .before .before .before .before .before .turned-redoing .ensures)) (sym (c .before .before .before .before .is-accepted .ensures) ∙ c .before .before .before .if1 .taken) (c .with-seat .ensures ∙ rw (c .before .redone .ensures, same-there (c .before .before .before .before .before .before .before .before .args .self) (c .before .before .before .before .before .before .before .before .args .seat) (c .before .before .before .before .before .before .before .find .ensures) (redo-there (c .before .before .before .before .before .before .before .before .args .self) (c .before .before .before .before .before .before .before .before .args .seat) (c .before .before .before .before .before .before .before .find .ensures) (c .before .before .before .before .before .turned-redoing .ensures) (sym (c .before .before .before .before .is-accepted .ensures) ∙ c .before .before .before .if1 .taken))))
 
 returns-2 : tie.Need-returns-2
-returns-2 c = step-refused (c .before .before .before .before .before .args .self) (redoing (c .before .before .before .before .before .args .seat)) (redo-answer (c .before .before .before .before .before .args .self) (c .before .before .before .before .before .args .seat) (c .before .before .before .before .find .ensures) (c .before .before .turned-redoing .ensures)) (sym (c .before .is-accepted .ensures) ∙ c .if1 .left)
+returns-2 c = c .refused .ensures ∙ step-refused (c .before .before .before .before .before .before .args .self) (redoing (c .before .before .before .before .before .before .args .seat)) (redo-answer (c .before .before .before .before .before .before .args .self) (c .before .before .before .before .before .before .args .seat) (c .before .before .before .before .before .find .ensures) (c .before .before .before .turned-redoing .ensures)) (sym (c .before .before .is-accepted .ensures) ∙ c .before .if1 .left)
 
 pub redo-spec : {M : Type 1} → statement M
 redo-spec =
@@ -40,5 +43,6 @@ redo-spec =
     is-accepted-requires
     redone-requires
     with-seat-requires
+    refused-requires
     returns
     returns-2)

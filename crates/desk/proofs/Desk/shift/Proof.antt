@@ -23,12 +23,15 @@ edit-moving-requires c κs = move-number (c .before .before .before .before .bef
 entered-requires : tie.Need-entered-requires
 entered-requires c κs = (sound-there (c .before .before .before .before .before .before .before .args .self) (c .before .before .before .before .before .before .before .args .seat) (c .before .before .before .before .before .before .find .ensures) (move-there (c .before .before .before .before .before .before .before .args .self) (c .before .before .before .before .before .before .before .args .seat) (c .before .before .before .before .before .before .find .ensures) (c .before .before .before .before .before .before .before .args .pin) (c .before .before .before .before .before .before .before .args .to) (c .before .before .before .before .before .turned-moving .ensures) (sym (c .before .before .before .before .is-accepted .ensures) ∙ c .before .before .before .if1 .taken)), seat-there (c .before .before .before .before .before .before .before .args .self) (c .before .before .before .before .before .before .before .args .seat) (c .before .before .before .before .before .before .find .ensures) (move-there (c .before .before .before .before .before .before .before .args .self) (c .before .before .before .before .before .before .before .args .seat) (c .before .before .before .before .before .before .find .ensures) (c .before .before .before .before .before .before .before .args .pin) (c .before .before .before .before .before .before .before .args .to) (c .before .before .before .before .before .turned-moving .ensures) (sym (c .before .before .before .before .is-accepted .ensures) ∙ c .before .before .before .if1 .taken)), open-there (c .before .before .before .before .before .before .before .args .self) (c .before .before .before .before .before .before .before .args .seat) (c .before .before .before .before .before .before .find .ensures) (move-there (c .before .before .before .before .before .before .before .args .self) (c .before .before .before .before .before .before .before .args .seat) (c .before .before .before .before .before .before .find .ensures) (c .before .before .before .before .before .before .before .args .pin) (c .before .before .before .before .before .before .before .args .to) (c .before .before .before .before .before .turned-moving .ensures) (sym (c .before .before .before .before .is-accepted .ensures) ∙ c .before .before .before .if1 .taken)), rw (c .edit-moving .ensures) (move-number (c .before .before .before .before .before .before .before .args .self) (c .before .before .before .before .before .before .before .args .seat) (c .before .before .before .before .before .before .find .ensures) (c .before .before .before .before .before .before .before .args .pin) (c .before .before .before .before .before .before .before .args .to) (c .before .before .before .before .before .turned-moving .ensures) (sym (c .before .before .before .before .is-accepted .ensures) ∙ c .before .before .before .if1 .taken)))
 
+refused-requires : tie.Need-refused-requires
+refused-requires c κs = search needs
+
 returns : tie.Need-returns
 unfolding effect
 returns c = c .entered .ensures ∙ rw (c .before .edit-moving .ensures, same-there (c .before .before .before .before .before .before .before .before .args .self) (c .before .before .before .before .before .before .before .before .args .seat) (c .before .before .before .before .before .before .before .find .ensures) (move-there (c .before .before .before .before .before .before .before .before .args .self) (c .before .before .before .before .before .before .before .before .args .seat) (c .before .before .before .before .before .before .before .find .ensures) (c .before .before .before .before .before .before .before .before .args .pin) (c .before .before .before .before .before .before .before .before .args .to) (c .before .before .before .before .before .before .turned-moving .ensures) (sym (c .before .before .before .before .before .is-accepted .ensures) ∙ c .before .before .before .before .if1 .taken))) (step-entered (c .before .before .before .before .before .before .before .before .args .self) (moving (c .before .before .before .before .before .before .before .before .args .seat) (c .before .before .before .before .before .before .before .before .args .pin) (c .before .before .before .before .before .before .before .before .args .to)) (c .before .before .before .before .before .before .before .before .args .seat) _ (move-room (c .before .before .before .before .before .before .before .before .args .self) (c .before .before .before .before .before .before .before .before .args .seat) (c .before .before .before .before .before .before .before .find .ensures) (c .before .before .before .before .before .before .before .before .args .pin) (c .before .before .before .before .before .before .before .before .args .to) (c .before .before .before .before .before .before .turned-moving .ensures) (sym (c .before .before .before .before .before .is-accepted .ensures) ∙ c .before .before .before .before .if1 .taken)) refl)
 
 returns-2 : tie.Need-returns-2
-returns-2 c = step-refused (c .before .before .before .before .args .self) (moving (c .before .before .before .before .args .seat) (c .before .before .before .before .args .pin) (c .before .before .before .before .args .to)) (move-refused (c .before .before .before .before .args .self) (c .before .before .before .before .args .seat) (c .before .before .before .find .ensures) (c .before .before .before .before .args .pin) (c .before .before .before .before .args .to) (c .before .before .turned-moving .ensures) (sym (c .before .is-accepted .ensures) ∙ c .if1 .left)) (sym (c .before .is-accepted .ensures) ∙ c .if1 .left)
+returns-2 c = c .refused .ensures ∙ step-refused (c .before .before .before .before .before .args .self) (moving (c .before .before .before .before .before .args .seat) (c .before .before .before .before .before .args .pin) (c .before .before .before .before .before .args .to)) (move-refused (c .before .before .before .before .before .args .self) (c .before .before .before .before .before .args .seat) (c .before .before .before .before .find .ensures) (c .before .before .before .before .before .args .pin) (c .before .before .before .before .before .args .to) (c .before .before .before .turned-moving .ensures) (sym (c .before .before .is-accepted .ensures) ∙ c .before .if1 .left)) (sym (c .before .before .is-accepted .ensures) ∙ c .before .if1 .left)
 
 pub shift-spec : {M : Type 1} → statement M
 shift-spec =
@@ -39,5 +42,6 @@ shift-spec =
     is-accepted-requires
     edit-moving-requires
     entered-requires
+    refused-requires
     returns
     returns-2)

@@ -24,12 +24,15 @@ undone-requires c κs = undo-fits (c .before .before .before .before .before .be
 with-seat-requires : tie.Need-with-seat-requires
 with-seat-requires c κs = seat-there (c .before .before .before .before .before .before .before .args .self) (c .before .before .before .before .before .before .before .args .seat) (c .before .before .before .before .before .before .find .ensures) (undo-there (c .before .before .before .before .before .before .before .args .self) (c .before .before .before .before .before .before .before .args .seat) (c .before .before .before .before .before .before .find .ensures) (c .before .before .before .before .before .turned-undoing .ensures) (sym (c .before .before .before .before .is-accepted .ensures) ∙ c .before .before .before .if1 .taken))
 
+refused-requires : tie.Need-refused-requires
+refused-requires c κs = search needs
+
 returns : tie.Need-returns
 unfolding effect
 returns c = step-accepted (c .before .before .before .before .before .before .before .before .args .self) (undoing (c .before .before .before .before .before .before .before .before .args .seat)) (undo-answer (c .before .before .before .before .before .before .before .before .args .self) (c .before .before .before .before .before .before .before .before .args .seat) (c .before .before .before .before .before .before .before .find .ensures) (c .before .before .before .before .before .before .turned-undoing .ensures)) (sym (c .before .before .before .before .before .is-accepted .ensures) ∙ c .before .before .before .before .if1 .taken) (c .with-seat .ensures ∙ rw (c .before .undone .ensures, same-there (c .before .before .before .before .before .before .before .before .args .self) (c .before .before .before .before .before .before .before .before .args .seat) (c .before .before .before .before .before .before .before .find .ensures) (undo-there (c .before .before .before .before .before .before .before .before .args .self) (c .before .before .before .before .before .before .before .before .args .seat) (c .before .before .before .before .before .before .before .find .ensures) (c .before .before .before .before .before .before .turned-undoing .ensures) (sym (c .before .before .before .before .before .is-accepted .ensures) ∙ c .before .before .before .before .if1 .taken))))
 
 returns-2 : tie.Need-returns-2
-returns-2 c = step-refused (c .before .before .before .before .args .self) (undoing (c .before .before .before .before .args .seat)) (undo-answer (c .before .before .before .before .args .self) (c .before .before .before .before .args .seat) (c .before .before .before .find .ensures) (c .before .before .turned-undoing .ensures)) (sym (c .before .is-accepted .ensures) ∙ c .if1 .left)
+returns-2 c = c .refused .ensures ∙ step-refused (c .before .before .before .before .before .args .self) (undoing (c .before .before .before .before .before .args .seat)) (undo-answer (c .before .before .before .before .before .args .self) (c .before .before .before .before .before .args .seat) (c .before .before .before .before .find .ensures) (c .before .before .before .turned-undoing .ensures)) (sym (c .before .before .is-accepted .ensures) ∙ c .before .if1 .left)
 
 pub undo-spec : {M : Type 1} → statement M
 undo-spec =
@@ -40,5 +43,6 @@ undo-spec =
     is-accepted-requires
     undone-requires
     with-seat-requires
+    refused-requires
     returns
     returns-2)
