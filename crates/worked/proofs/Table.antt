@@ -14,11 +14,11 @@ use Rattle.drawing.specs.declared.Pin.{Pin}
 use Rattle.drawing.specs.Pins.{pins, isThere, sameHeld, samePin, samePins, meets, meetsAny, crowded, within, settled, allWithin, allApart, lawful}
 use Rattle.drawing.specs.Edits.{movedPin, made, unmade, standsAt, fits, placeable, movable, makeable, takeable, heldBy}
 use Rattle.pinmap.specs.Record.{recordBytes, pinBytes}
-use Rattle.pinmap.specs.Map.{noPins, readFrom, wrongLength, readMap, mapFrom, mapOf}
+use Rattle.pinmap.specs.Map.{noPins, readFrom, wrongLength, readMap, mapFrom, mapOf, written}
 use Rattle.journal.specs.Journal.{own, kept, filled, seated, inTurn}
 use Rattle.desk.specs.Calls.{Call, opening, placing, moving, undoing, redoing}
 use Rattle.desk.specs.Refusals.{sameJob, jobAmong, turnedOpening, turnedClosing, turnedPlacing, turnedMoving, turnedRemoving, turnedUndoing, turnedRedoing, turnedWriting, verdictOf}
-use Rattle.desk.specs.Desk.{seatOf, jobOf, jobsApart, soundOpen, soundClosed, soundSeat, soundTo, sound, edited, effect, answerOf, step, emptyDesk}
+use Rattle.desk.specs.Desk.{seatOf, jobOf, jobsApart, soundOpen, soundClosed, soundSeat, soundTo, sound, edited, effect, answerOf, step, emptyDesk, writtenOf, bufferOf}
 use Rattle.wiring.specs.declared.Wiring.{Wiring}
 use Rattle.bare.specs.Bare.{bareOf}
 use Rattle.bare.proofs.Worked as boards
@@ -26,18 +26,21 @@ use Rattle.history.specs.History.{after, answers}
 use Rattle.worked.proofs.Cases.{at, pinAt, drawn}
 
 -- A case: boards with their answers; calls from the empty desk with what they are answered and the pins that they leave at seats 0 and 1;
--- or calls and the map of seat 0 that they leave.
+-- or calls, a buffer lent for writing seat 0 then, how many bytes are written, and what the buffer holds afterwards.
 pub data Case : Type 0 where
   wired : List boards.Board → List Wiring → Case
   session : List Call → List Verdict → List Pin → List Pin → Case
-  mapped : List Call → List ℕ → Case
+  writes : List Call → List ℕ → ℕ → List ℕ → Case
 
 -- What a case says.
 unfoldable pub Holds : Case → Type 0
 Holds (wired l w) = map (λ (b : boards.Board). bareOf (b .xs) (b .ys) 62 .wiring) l ≡ w
 Holds (session calls told first second) =
     (answers emptyDesk calls ≡ told) × (seatOf (after emptyDesk calls) 0 .pins ≡ first) × (seatOf (after emptyDesk calls) 1 .pins ≡ second)
-Holds (mapped calls bytes) = mapOf (seatOf (after emptyDesk calls) 0 .job) (seatOf (after emptyDesk calls) 0 .pins) ≡ bytes
+Holds (writes calls buffer bytes later) =
+    (writtenOf (after emptyDesk calls) 0 buffer .verdict ≡ Accepted)
+    × (writtenOf (after emptyDesk calls) 0 buffer .bytes ≡ bytes)
+    × (bufferOf (after emptyDesk calls) 0 buffer ≡ later)
 
 -- What a table of cases says.
 unfoldable pub AllHold : List Case → Type 0
@@ -52,7 +55,7 @@ D1 = opening 0 7 [] ∷ opening 1 9 [] ∷ placing 0 0 (at (pos 1) (pos 1)) ∷ 
 abbrev D2 : List Call
 D2 = opening 0 7 [] ∷ placing 0 0 (at (pos 1) (pos 1)) ∷ moving 0 0 (at (pos 4) (pos 4)) ∷ undoing 0 ∷ placing 0 1 (at (pos 2) (pos 2)) ∷ redoing 0 ∷ []
 
--- D3: job 7, pin 0 at (1,-1).
+-- D3: job 7, pin 0 at (1,-1). Written into 14 bytes that hold 9, the last two stay.
 abbrev D3 : List Call
 D3 = opening 0 7 [] ∷ placing 0 0 (at (pos 1) (negsuc 0)) ∷ []
 
@@ -62,10 +65,10 @@ table =
     ∷ session D1 (Accepted ∷ Accepted ∷ Accepted ∷ Accepted ∷ Accepted ∷ []) (drawn []) (drawn (pinAt (pos 2) (pos 2) ∷ []))
     ∷ session (D1 ++ (undoing 0 ∷ redoing 0 ∷ [])) (Accepted ∷ Accepted ∷ Accepted ∷ Accepted ∷ Accepted ∷ NothingStands ∷ Accepted ∷ []) (drawn (pinAt (pos 1) (pos 1) ∷ [])) (drawn (pinAt (pos 2) (pos 2) ∷ []))
     ∷ session D2 (Accepted ∷ Accepted ∷ Accepted ∷ Accepted ∷ Accepted ∷ NothingTakenBack ∷ []) (drawn (pinAt (pos 1) (pos 1) ∷ pinAt (pos 2) (pos 2) ∷ [])) (drawn [])
-    ∷ mapped D3 (0 ∷ 7 ∷ 0 ∷ 0 ∷ 0 ∷ 0 ∷ 0 ∷ 1 ∷ 255 ∷ 255 ∷ 255 ∷ 255 ∷ [])
+    ∷ writes D3 (replicate 14 9) 12 (0 ∷ 7 ∷ 0 ∷ 0 ∷ 0 ∷ 0 ∷ 0 ∷ 1 ∷ 255 ∷ 255 ∷ 255 ∷ 255 ∷ 9 ∷ 9 ∷ [])
     ∷ []
 
 -- W1 TO W8 AND D1 TO D3 HOLD.
 pub worked : AllHold table
-unfolding Holds AllHold after answers both either choose accepted turn onBoard inside difference closer tooNear sameNumber samePlace isThere sameHeld samePin samePins meets meetsAny crowded within settled allWithin allApart lawful movedPin made unmade standsAt fits placeable movable makeable takeable heldBy noPins readFrom wrongLength readMap own kept filled seated inTurn sameJob jobAmong turnedOpening turnedClosing turnedPlacing turnedMoving turnedRemoving turnedUndoing turnedRedoing verdictOf jobOf jobsApart soundOpen soundClosed soundSeat soundTo sound edited effect answerOf step emptyDesk mapFrom mapOf recordBytes pinBytes first second third fourth turnedWriting
-worked = (boards.worked, ((refl, refl, refl), ((refl, refl, refl), ((refl, refl, refl), (refl, tt)))))
+unfolding Holds AllHold after answers both either choose accepted turn onBoard inside difference closer tooNear sameNumber samePlace isThere sameHeld samePin samePins meets meetsAny crowded within settled allWithin allApart lawful movedPin made unmade standsAt fits placeable movable makeable takeable heldBy noPins readFrom wrongLength readMap own kept filled seated inTurn sameJob jobAmong turnedOpening turnedClosing turnedPlacing turnedMoving turnedRemoving turnedUndoing turnedRedoing verdictOf jobOf jobsApart soundOpen soundClosed soundSeat soundTo sound edited effect answerOf step emptyDesk mapFrom mapOf recordBytes pinBytes first second third fourth turnedWriting written writtenOf bufferOf
+worked = (boards.worked, ((refl, refl, refl), ((refl, refl, refl), ((refl, refl, refl), ((refl, refl, refl), tt)))))
