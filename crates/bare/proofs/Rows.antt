@@ -1,9 +1,10 @@
--- Bare wiring gives each refusal exactly under its condition and after those before it: 16, 17, 8, 9, 18, 19. Assumes nothing.
-use mathlib.Core.Path.{_≡_, refl, ap, _∙_}
-use mathlib.Core.Bool.{Bool, true, false, not}
+-- Bare wiring gives each refusal exactly under its condition and after those before it: 16, 17, 8, 9, 18, 19; and 18 never. Assumes nothing.
+use mathlib.Core.Path.{_≡_, refl, sym, ap, _∙_}
+use mathlib.Core.Bool.{Bool, true, false, not, true≢false}
 use mathlib.Core.List.{List, [], _∷_}
 use Prim.Native.Nat.{ℕ}
 use native.Mathlib.Omega.{arith}
+use borrow.Author.Tests.{not-false}
 use lib.IntN.{ℤ}
 use lib.Dec.{eqb, ltb}
 use lib.ListN.{length}
@@ -11,14 +12,16 @@ use Rattle.refusal.specs.Tests.{both, choose}
 use Rattle.refusal.specs.Refusals.{accepted, turn}
 use Rattle.refusal.specs.declared.Verdict.{Verdict}
 use Rattle.refusal.specs.declared.Verdict.the-variants.{Accepted, ListLengths, NoPins, Outside, PlaceTaken, BoxesMeet, RoomTooSmall}
-use Rattle.refusal.proofs.Rows.{Row, given, firstOf, Exactly, exactly, distinct, unlike}
+use Rattle.refusal.proofs.Rows.{Row, given, firstOf, Given, refusalAt, Exactly, exactly, distinct, unlike}
 use Rattle.tree.specs.Growth.{allInside, keptIf, pinsFrom, pinsOf, runsOf}
 use Rattle.tree.specs.Boxes.{boxesMeet}
 use Rattle.tree.specs.Trees.{none}
+use Rattle.tree.proofs.Apart.{never-meet}
 use Rattle.wiring.specs.Answer.{wiringOf}
 use Rattle.wiring.specs.Crowding.{crowded}
 use Rattle.wiring.proofs.Refusing.{legsNeeded, laid-behind, wiring-verdict}
 use Rattle.bare.specs.Bare.{spotsOf, feedOf, wrongLengths, bareVerdict, bareOf}
+use Rattle.bare.proofs.Feeds.{feed-many}
 use Rattle.bare.proofs.Verdicts.{lengths-right}
 
 -- Bare wiring: 16, 17, 8, 9, 18, 19.
@@ -74,3 +77,11 @@ module _ (xs ys : List ℤ) (room : ℕ) where
   pub bare-exactly : Exactly (bareRows xs ys room) Accepted (bareOf xs ys room .wiring .verdict)
   unfolding bareRows distinct unlike both accepted
   bare-exactly = rw answer-is (exactly (bareRows xs ys room) Accepted refl refl)
+
+  -- 18 NEVER COMES: where the rows before it pass, the pins are on the board, so that no boxes meet.
+  pub bare-never-18 : bareOf xs ys room .wiring .verdict ≡ BoxesMeet → ⊥
+  unfolding bareRows refusalAt Given
+  bare-never-18 e =
+      let g = bare-exactly .refused 4 (omega arith) .0 e in
+      let h = lengths-right xs ys (g .0) in
+      true≢false (sym (g .1 .1 .1 .1) ∙ never-meet (feedOf xs ys) (feed-many xs ys (h .0) (h .1)) (not-false _ (g .1 .1 .0)))

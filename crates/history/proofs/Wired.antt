@@ -1,16 +1,24 @@
--- What wiring a seat answers, on ANY desk: its verdict is the one that the call is answered; refused, the answer is empty and the lent list as it was.
--- From the rows of wiring and what a refused wiring of a feed is; assumes nothing.
-use mathlib.Core.Path.{_≡_, refl}
-use mathlib.Core.Bool.{false}
+-- What wiring a seat answers, on ANY desk: its verdict is the one that the call is answered, and never 18; refused, the answer is empty and the lent list
+-- as it was. From the rows of the calls, the tree's boxes and what a refused wiring of a feed is; assumes nothing.
+use mathlib.Core.Path.{_≡_, refl, sym, ap, _∙_}
+use mathlib.Core.Bool.{true, false, true≢false}
 use mathlib.Core.List.{List}
-use Prim.Native.Nat.{ℕ}
+use Prim.Native.Nat.{ℕ, zero, suc, _/_}
+use native.Mathlib.Omega.{arith}
+use borrow.Author.Tests.{not-false, leb-false}
 use lib.ListN.{length, replicate}
 use Rattle.refusal.specs.Tests.{both}
 use Rattle.refusal.specs.Refusals.{accepted}
 use Rattle.refusal.specs.declared.Verdict.{Verdict}
-use Rattle.refusal.specs.declared.Verdict.the-variants.{Accepted}
-use Rattle.refusal.proofs.Rows.{Exactly, firstOf, distinct, unlike}
-use Rattle.drawing.specs.Pins.{feedOf}
+use Rattle.refusal.specs.declared.Verdict.the-variants.{Accepted, BoxesMeet}
+use Rattle.refusal.proofs.Rows.{Row, firstOf, Given, refusalAt, numberOf, unlike, unlike-first, distinct, Exactly}
+use Rattle.drawing.specs.declared.Pin.{Pin}
+use Rattle.drawing.specs.Pins.{lawful, feedOf}
+use Rattle.drawing.proofs.Rules.{feed-long}
+use Rattle.pinmap.specs.Record.{recordSize}
+use Rattle.pinmap.specs.Map.{noPins}
+use Rattle.journal.specs.Journal.{seats}
+use Rattle.tree.proofs.Apart.{never-meet}
 use Rattle.copper.specs.declared.Shape.the-variants.{Straight}
 use Rattle.copper.specs.declared.Leg.{Leg}
 use Rattle.wiring.specs.declared.Wiring.{Wiring}
@@ -18,10 +26,13 @@ use Rattle.wiring.specs.Answer.{shaped, runEntries, turnedAway, wiringOf}
 use Rattle.wiring.proofs.Refusing.{laid-behind}
 use Rattle.lent.proofs.Untouched.{Alone, turned-by, wiring-turned, untouched}
 use Rattle.desk.specs.declared.Desk.{Desk}
-use Rattle.desk.specs.Calls.{wiring}
-use Rattle.desk.specs.Refusals.{turnedClosing, turnedWiring, verdictOf}
-use Rattle.desk.specs.Desk.{seatOf, lookAt, answerOf, wiredOf, wiredSeatOf, lentOf}
-use Rattle.history.proofs.Refused.{wiringRows, exactly-wiring, closingRows}
+use Rattle.desk.specs.Calls.{Call, opening, closing, placing, moving, removing, undoing, redoing, writing, wiring}
+use Rattle.desk.specs.Refusals.{turnedOpening, turnedClosing, turnedPlacing, turnedMoving, turnedRemoving, turnedUndoing, turnedRedoing, turnedWriting, turnedWiring, verdictOf}
+use Rattle.desk.specs.Desk.{seatOf, lookAt, answerOf, step, wiredOf, wiredSeatOf, lentOf}
+use Rattle.desk.proofs.Sound.{pins-lawful}
+use Rattle.rows.proofs.Feed.{feed-on-board}
+use Rattle.history.proofs.MapRows.{recordRows, map-first}
+use Rattle.history.proofs.Refused.{openingRows, closingRows, placingRows, movingRows, removingRows, undoingRows, redoingRows, writingRows, wiringRows, exactly-wiring, each-refusal-exactly}
 
 -- The verdict in the answer of wiring a seat is what the call is answered,
 pub wired-verdict : (d : Desk) (s room : ℕ) → wiredOf d s room .laid .wiring .verdict ≡ answerOf d (wiring s room)
@@ -37,6 +48,47 @@ lent-verdict d s lent = wired-verdict d s (length lent)
 pub wired-exactly : (d : Desk) (s room : ℕ) → Exactly (wiringRows (lookAt d s) room) Accepted (wiredOf d s room .laid .wiring .verdict)
 unfolding answerOf verdictOf
 wired-exactly d s room = rw (wired-verdict d s room) (exactly-wiring (lookAt d s) room)
+
+-- ---- 18 never comes
+
+-- The rows of a map's records have other refusals.
+records-unlike : (left : ℕ) (map : List ℕ) (job number next : ℕ) (earlier : List Pin) → unlike BoxesMeet (recordRows left map job number next earlier) ≡ true
+unfolding unlike recordRows both
+records-unlike zero map job number next earlier = refl
+records-unlike (suc left) map job number next earlier = records-unlike left _ job _ _ _
+
+-- Rows with other refusals do not give 18.
+other-rows : (rows : List Row) → unlike BoxesMeet rows ≡ true → firstOf rows Accepted ≡ BoxesMeet → ⊥
+other-rows rows u e = unlike-first BoxesMeet rows Accepted u (λ (f : BoxesMeet ≡ Accepted). omega (arith, ap numberOf f)) (sym e)
+
+-- The wiring of an open seat of a sound desk: its pins are on the board, so that no boxes meet.
+wiring-never-18 : (d : Desk) (s room : ℕ) → step d (wiring s room) .verdict ≡ BoxesMeet → ⊥
+unfolding refusalAt Given
+wiring-never-18 d s room e =
+    let g = each-refusal-exactly d (wiring s room) .refused 4 (omega arith) .0 e in
+    let l : lawful (seatOf d s .pins) ≡ true = pins-lawful d (not-false _ (g .0)) s (leb-false seats s (g .1 .0)) (not-false _ (g .1 .1 .0)) in
+    true≢false (sym (g .1 .1 .1 .1) ∙ never-meet (feedOf (seatOf d s .pins)) (feed-long _ l) (feed-on-board _ l))
+
+-- 18 NEVER COMES: no call on any desk is answered so,
+pub never-18 : (d : Desk) (c : Call) → step d c .verdict ≡ BoxesMeet → ⊥
+unfolding step answerOf verdictOf turnedOpening turnedClosing turnedPlacing turnedMoving turnedRemoving turnedUndoing turnedRedoing turnedWriting firstOf unlike both
+never-18 d (opening s job map) e =
+    other-rows (openingRows (lookAt d s) job map) (records-unlike (length map / recordSize) map job 0 0 noPins) (rw (← map-first map job) at e)
+never-18 d (closing s) e = other-rows (closingRows (lookAt d s)) refl e
+never-18 d (placing s p at) e = other-rows (placingRows (lookAt d s) p at) refl e
+never-18 d (moving s p at) e = other-rows (movingRows (lookAt d s) p at) refl e
+never-18 d (removing s p) e = other-rows (removingRows (lookAt d s) p) refl e
+never-18 d (undoing s) e = other-rows (undoingRows (lookAt d s)) refl e
+never-18 d (redoing s) e = other-rows (redoingRows (lookAt d s)) refl e
+never-18 d (writing s room) e = other-rows (writingRows (lookAt d s) room) refl e
+never-18 d (wiring s room) e = wiring-never-18 d s room e
+
+-- nor does the answer of wiring a seat carry it.
+pub wired-never-18 : (d : Desk) (s room : ℕ) → wiredOf d s room .laid .wiring .verdict ≡ BoxesMeet → ⊥
+unfolding step
+wired-never-18 d s room e = wiring-never-18 d s room (sym (wired-verdict d s room) ∙ e)
+
+-- ---- what a refused wiring leaves
 
 -- Length, runs, legs and choices zero, and every run entry 0, 0, straight.
 pub record Empty (w : Wiring) : Type 0 where

@@ -1,3 +1,3 @@
 -- The laws of the rows that other crates cite.
 pub mod Rows
-mod Feed
+pub mod Feed
