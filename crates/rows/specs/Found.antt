@@ -1,4 +1,4 @@
--- What a call finds at the seat that it names, and what opening reads, writing writes and wiring answers over that.
+-- What a call finds at the seat that it names, and what opening reads, writing writes and wiring answers over that. No entry point's promise rests on these.
 use mathlib.Core.Bool.{not}
 use mathlib.Core.List.{List, []}
 use Prim.Native.Nat.{ℕ}
@@ -25,7 +25,7 @@ abbrev pub foundIn : List Seat → List Record → ℕ → ℕ → Found
 foundIn l journal used s =
     record { broken = not (soundAll l journal used); number = s; seat = choose (leb seats s) closedSeat (getD l s noSeat) }
 
--- What a row looks at, given the jobs of the open seats and the number of taken-back edits, where the journal has room.
+-- What a row looks at where the journal has room: as if no record were used. The jobs matter to opening alone, the taken-back edits to redo alone.
 abbrev pub lookIn : Found → List ℕ → ℕ → Look
 lookIn f jobs takenBack =
     record {

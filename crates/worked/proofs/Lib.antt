@@ -1,3 +1,3 @@
--- The table of worked cases.
+-- The table of worked cases, and desks that are broken.
 pub mod Cases
 pub mod Table
