@@ -4,7 +4,7 @@ use mathlib.Core.Bool.{Bool, true, false}
 use mathlib.Core.List.{List}
 use Prim.Native.Nat.{ℕ, _+_, _-_, _<_, _≤_}
 use native.Mathlib.Omega.{arith}
-use borrow.Author.Tests.{le-leb, lt-leb}
+use borrow.Author.Tests.{eq-eqb, ne-eqb}
 use lib.ListN.{length, set}
 use Rattle.refusal.specs.Tests.{choose}
 use Rattle.refusal.specs.Refusals.{accepted, turn}
@@ -22,7 +22,7 @@ use Rattle.desk.specs.declared.Answered.{Answered}
 use Rattle.desk.specs.Calls.{Call}
 use Rattle.desk.specs.Refusals.{full}
 use Rattle.desk.specs.Desk.{seatOf, live, editsOf, lookAt, sound, withSeat, withRecord, freed, edited, entered, effect, answerOf, step}
-use Rattle.desk.proofs.Sound.{live-length}
+use Rattle.desk.proofs.Sound.{used-within, live-length}
 
 -- A step whose answer is known: refused, the desk as it was; accepted, what the call makes of it.
 module _ (d : Desk) (c : Call) {v : Verdict} (e : answerOf d c ≡ v) where
@@ -51,7 +51,7 @@ module _ (d : Desk) (k : sound d ≡ true) (s : ℕ) (e : Edit) {x : Desk} (f : 
   unfolding entered turn choose
   entered-full h =
       let y : records ≤ d .used - (length (editsOf d s) - seatOf d s .standing) = rw count-left at h in
-      rw (le-leb records (d .used - (length (editsOf d s) - seatOf d s .standing)) y)
+      rw (eq-eqb (d .used - (length (editsOf d s) - seatOf d s .standing)) records (omega (arith, y, used-within d k)))
 
   pub entered-done : {y z : Desk} {t : Seat} → x .used < records → y ≡ withRecord x (recorded s e) → t ≡ editedSeat (seatOf d s) e
       → z ≡ withSeat y s t → _≡_ {A = Answered} (record { desk = z; verdict = Accepted }) (entered d s e)
@@ -60,7 +60,7 @@ module _ (d : Desk) (k : sound d ≡ true) (s : ℕ) (e : Edit) {x : Desk} (f : 
       let n : d .used - (length (editsOf d s) - seatOf d s .standing) < records = rw count-left at h in
       let m : length (kept s (seatOf d s .standing) (live d)) < records = rw f at h in
       rw (
-        lt-leb records (d .used - (length (editsOf d s) - seatOf d s .standing)) n,
+        ne-eqb (d .used - (length (editsOf d s) - seatOf d s .standing)) records (λ (z : d .used - (length (editsOf d s) - seatOf d s .standing) ≡ records). omega (arith, n, z)),
         g,
         a,
         b,

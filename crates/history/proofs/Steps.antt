@@ -6,7 +6,7 @@ use mathlib.Core.List.{List, [], _∷_, _++_, map, reverseAux-eq}
 use mathlib.Core.Logic.{⊎-elim}
 use Prim.Native.Nat.{ℕ, zero, suc, _+_, _-_, _<_, _≤_}
 use native.Mathlib.Omega.{arith}
-use borrow.Author.Tests.{eq-eqb, ne-eqb, le-leb, leb-false}
+use borrow.Author.Tests.{eq-eqb, ne-eqb, eqb-false, le-leb}
 use lib.ListN.{length, getD, set, take, List·getD-eq-default}
 use lib.Seq.{set-getD}
 use Rattle.refusal.specs.Tests.{choose}
@@ -230,7 +230,8 @@ module _ (d : Desk) (h : List Told) (g : Agrees d h) (f : Sane h) where
     agrees-edited : (e : Edit) → isOpen (toldOf h s) ≡ true → full (lookIn h s) ≡ false → Agrees (edited d s e) (set h s (anew e (toldOf h s)))
     unfolding edited
     agrees-edited e o z =
-        let r : usedIn h - length (takenBackIn (toldOf h s)) < records = leb-false _ _ z in
+        let n : usedIn h - length (takenBackIn (toldOf h s)) ≡ records → ⊥ = eqb-false _ _ z in
+        let r : usedIn h - length (takenBackIn (toldOf h s)) < records = omega (arith, n, used-same d h g, g .room) in
         agrees-records d h s _ _ g k (added s (seatOf d s .standing) e (live d))
         (omega (arith, edited-length e o, r, g .holds .sized))
         (seated-added s (seatOf d s .standing) e (live d) k (g .holds .named))

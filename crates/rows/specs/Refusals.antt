@@ -45,7 +45,7 @@ notThere l p = either (leb pins p) (not (isThere (pinAt l p)))
 
 -- Used records, less this seat's taken-back ones, are 256 (a sound desk never has more).
 abbrev pub full : Look → Bool
-full l = leb records (l .used - l .takenBack)
+full l = eqb (l .used - l .takenBack) records
 
 -- Opening: 28, 1, 3, 4, 5, 13, then the first faulty record, 14 before 15.
 unfoldable pub turnedOpening : Look → ℕ → List ℕ → Verdict
