@@ -1,11 +1,10 @@
 -- What the code of each call hands back is the step of that call, once its answer is known. Assumes nothing.
 use mathlib.Core.Path.{_≡_, refl, ap, sym, _∙_}
 use mathlib.Core.Bool.{Bool, true, false}
-use mathlib.Core.List.{List}
-use Prim.Native.Nat.{ℕ, _+_, _-_, _<_, _≤_}
+use Prim.Native.Nat.{ℕ, _-_, _<_, _≤_}
 use native.Mathlib.Omega.{arith}
 use borrow.Author.Tests.{eq-eqb, ne-eqb}
-use lib.ListN.{length, set}
+use lib.ListN.{length}
 use Rattle.refusal.specs.Tests.{choose}
 use Rattle.refusal.specs.Refusals.{accepted, turn}
 use Rattle.refusal.specs.declared.Verdict.{Verdict}
@@ -40,7 +39,10 @@ pub freed-by : (d : Desk) (s k : ℕ) {x : Compacted} → x ≡ compacted (kept 
 freed-by d s k e = rw e
 
 -- An edit at a seat, once the seat's taken-back records are freed: 12, or the edit recorded and the pins with it made.
-module _ (d : Desk) (k : sound d ≡ true) (s : ℕ) (e : Edit) {x : Desk} (f : x ≡ freed d s (seatOf d s .standing)) where
+module _ (d : Desk) (k : sound d ≡ true) (s : ℕ) (e : Edit) {q : Seat} (i : q ≡ seatOf d s) {x : Desk} (g : x ≡ freed d s (q .standing)) where
+  f : x ≡ freed d s (seatOf d s .standing)
+  f = g ∙ ap (λ (t : Seat). freed d s (t .standing)) i
+
   -- What is left are the used records, less this seat's taken-back ones.
   count-left : x .used ≡ d .used - (length (editsOf d s) - seatOf d s .standing)
   count-left =
@@ -53,17 +55,18 @@ module _ (d : Desk) (k : sound d ≡ true) (s : ℕ) (e : Edit) {x : Desk} (f : 
       let y : records ≤ d .used - (length (editsOf d s) - seatOf d s .standing) = rw count-left at h in
       rw (eq-eqb (d .used - (length (editsOf d s) - seatOf d s .standing)) records (omega (arith, y, used-within d k)))
 
-  pub entered-done : {y z : Desk} {t : Seat} → x .used < records → y ≡ withRecord x (recorded s e) → t ≡ editedSeat (seatOf d s) e
+  pub entered-done : {y z : Desk} {t : Seat} → x .used < records → y ≡ withRecord x (recorded s e) → t ≡ editedSeat q e
       → z ≡ withSeat y s t → _≡_ {A = Answered} (record { desk = z; verdict = Accepted }) (entered d s e)
   unfolding entered edited turn choose
-  entered-done h a b g =
+  entered-done h a b z =
       let n : d .used - (length (editsOf d s) - seatOf d s .standing) < records = rw count-left at h in
       let m : length (kept s (seatOf d s .standing) (live d)) < records = rw f at h in
       rw (
-        ne-eqb (d .used - (length (editsOf d s) - seatOf d s .standing)) records (λ (z : d .used - (length (editsOf d s) - seatOf d s .standing) ≡ records). omega (arith, n, z)),
-        g,
+        ne-eqb (d .used - (length (editsOf d s) - seatOf d s .standing)) records (λ (u : d .used - (length (editsOf d s) - seatOf d s .standing) ≡ records). omega (arith, n, u)),
+        z,
         a,
         b,
+        i,
         f,
         filled-set (kept s (seatOf d s .standing) (live d)) (recorded s e) m,
         added-length s (seatOf d s .standing) e (live d),

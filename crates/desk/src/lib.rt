@@ -138,12 +138,11 @@ impl Desk {
         }
     }
 
-    // Makes and records an edit that no refusal before 12 meets, unless the journal is full.
-    fn entered(self, seat: usize, edit: Edit) -> Answered
-        requires { ⌜ (sound self ≡ true) × (seat < seats) × (seatOf self seat .opened ≡ true) × (pinOf edit < pins) ⌝ }
+    // Makes and records an edit of the seat `s` of that number that no refusal before 12 meets, unless the journal is full.
+    fn entered(self, seat: usize, s: Seat, edit: Edit) -> Answered
+        requires { ⌜ (sound self ≡ true) × (seat < seats) × (s ≡ seatOf self seat) × (seatOf self seat .opened ≡ true) × (pinOf edit < pins) ⌝ }
         ensures { λ r. ⌜ r ≡ entered self seat edit ⌝ }
     {
-        let s = self.seats[seat];
         let left = self.freed(seat, s.standing);
         if RECORDS <= left.used {
             return self.refused(Verdict::JournalFull);
@@ -207,8 +206,9 @@ impl Desk {
         let found = self.find(seat);
         let verdict = rows::turned_placing(found, pin, at);
         if refusal::is_accepted(verdict) {
+            let s = found.seat;
             let edit = drawing::edit_placing(pin, at);
-            self.entered(seat, edit)
+            self.entered(seat, s, edit)
         } else {
             self.refused(verdict)
         }
@@ -224,7 +224,7 @@ impl Desk {
             let s = found.seat;
             let pins = s.pins;
             let edit = drawing::edit_moving(pins, pin, to);
-            self.entered(seat, edit)
+            self.entered(seat, s, edit)
         } else {
             self.refused(verdict)
         }
@@ -240,7 +240,7 @@ impl Desk {
             let s = found.seat;
             let pins = s.pins;
             let edit = drawing::edit_removing(pins, pin);
-            self.entered(seat, edit)
+            self.entered(seat, s, edit)
         } else {
             self.refused(verdict)
         }

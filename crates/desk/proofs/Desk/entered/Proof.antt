@@ -6,39 +6,31 @@ use Rattle.desk.proofs.Steps.{entered-full, entered-done}
 use Rattle.desk.proofs.Desk.entered.Statement.{statement}
 use Rattle.desk.proofs.Desk.entered.Tie as tie
 
-mul-s : tie.Need-mul-s
-mul-s c = search needs
-
-element-copy-out-s : tie.Need-element-copy-out-s
-element-copy-out-s c = search needs
-
 freed-requires : tie.Need-freed-requires
-freed-requires c κs = used-within (c .before .args .t1) (c .before .pre .0)
+freed-requires c κs = used-within (c .args .self) (c .pre .0)
 
 refused-requires : tie.Need-refused-requires
 refused-requires c κs = search needs
 
 returns : tie.Need-returns
-returns c = c .refused .ensures ∙ entered-full (c .before .before .before .before .before .args .t1) (c .before .before .before .before .before .pre .0) (c .before .before .before .before .before .args .seat) (c .before .before .before .before .before .args .edit) (c .before .before .before .freed .ensures) (c .before .if1 .taken)
+returns c = c .refused .ensures ∙ entered-full (c .before .before .before .before .args .self) (c .before .before .before .before .pre .0) (c .before .before .before .before .args .seat) (c .before .before .before .before .args .edit) (c .before .before .before .before .pre .2) (c .before .before .before .freed .ensures) (c .before .if1 .taken)
 
 recorded-requires : tie.Need-recorded-requires
 recorded-requires c κs = c .if1 .left
 
 edited-requires : tie.Need-edited-requires
-edited-requires c κs = (c .before .before .before .before .before .pre .3, standing-small (c .before .before .before .before .before .args .t1) (c .before .before .before .before .before .pre .0) (c .before .before .before .before .before .args .seat) (c .before .before .before .before .before .pre .1) (c .before .before .before .before .before .pre .2))
+edited-requires c κs = (c .before .before .before .before .pre .4, rw (c .before .before .before .before .pre .2) (standing-small (c .before .before .before .before .args .self) (c .before .before .before .before .pre .0) (c .before .before .before .before .args .seat) (c .before .before .before .before .pre .1) (c .before .before .before .before .pre .3)))
 
 with-seat-requires : tie.Need-with-seat-requires
-with-seat-requires c κs = c .before .before .before .before .before .before .pre .1
+with-seat-requires c κs = c .before .before .before .before .before .pre .1
 
 returns-2 : tie.Need-returns-2
-returns-2 c = entered-done (c .before .before .before .before .before .before .before .args .t1) (c .before .before .before .before .before .before .before .pre .0) (c .before .before .before .before .before .before .before .args .seat) (c .before .before .before .before .before .before .before .args .edit) (c .before .before .before .before .before .freed .ensures) (c .before .before .before .if1 .left) (c .before .before .recorded .ensures) (c .before .edited .ensures) (c .with-seat .ensures)
+returns-2 c = entered-done (c .before .before .before .before .before .before .args .self) (c .before .before .before .before .before .before .pre .0) (c .before .before .before .before .before .before .args .seat) (c .before .before .before .before .before .before .args .edit) (c .before .before .before .before .before .before .pre .2) (c .before .before .before .before .before .freed .ensures) (c .before .before .before .if1 .left) (c .before .before .recorded .ensures) (c .before .edited .ensures) (c .with-seat .ensures)
 
 pub entered-spec : {M : Type 1} → statement M
 entered-spec =
     tie.close
     (tie.spec
-    mul-s
-    element-copy-out-s
     freed-requires
     refused-requires
     returns

@@ -21,7 +21,7 @@ edit-moving-requires : tie.Need-edit-moving-requires
 edit-moving-requires c κs = move-number (c .before .before .before .before .before .before .args .self) (c .before .before .before .before .before .before .args .seat) (c .before .before .before .before .before .find .ensures) (c .before .before .before .before .before .before .args .pin) (c .before .before .before .before .before .before .args .to) (c .before .before .before .before .turned-moving .ensures) (sym (c .before .before .before .is-accepted .ensures) ∙ c .before .before .if1 .taken)
 
 entered-requires : tie.Need-entered-requires
-entered-requires c κs = (sound-there (c .before .before .before .before .before .before .before .args .self) (c .before .before .before .before .before .before .before .args .seat) (c .before .before .before .before .before .before .find .ensures) (move-there (c .before .before .before .before .before .before .before .args .self) (c .before .before .before .before .before .before .before .args .seat) (c .before .before .before .before .before .before .find .ensures) (c .before .before .before .before .before .before .before .args .pin) (c .before .before .before .before .before .before .before .args .to) (c .before .before .before .before .before .turned-moving .ensures) (sym (c .before .before .before .before .is-accepted .ensures) ∙ c .before .before .before .if1 .taken)), seat-there (c .before .before .before .before .before .before .before .args .self) (c .before .before .before .before .before .before .before .args .seat) (c .before .before .before .before .before .before .find .ensures) (move-there (c .before .before .before .before .before .before .before .args .self) (c .before .before .before .before .before .before .before .args .seat) (c .before .before .before .before .before .before .find .ensures) (c .before .before .before .before .before .before .before .args .pin) (c .before .before .before .before .before .before .before .args .to) (c .before .before .before .before .before .turned-moving .ensures) (sym (c .before .before .before .before .is-accepted .ensures) ∙ c .before .before .before .if1 .taken)), open-there (c .before .before .before .before .before .before .before .args .self) (c .before .before .before .before .before .before .before .args .seat) (c .before .before .before .before .before .before .find .ensures) (move-there (c .before .before .before .before .before .before .before .args .self) (c .before .before .before .before .before .before .before .args .seat) (c .before .before .before .before .before .before .find .ensures) (c .before .before .before .before .before .before .before .args .pin) (c .before .before .before .before .before .before .before .args .to) (c .before .before .before .before .before .turned-moving .ensures) (sym (c .before .before .before .before .is-accepted .ensures) ∙ c .before .before .before .if1 .taken)), rw (c .edit-moving .ensures) (move-number (c .before .before .before .before .before .before .before .args .self) (c .before .before .before .before .before .before .before .args .seat) (c .before .before .before .before .before .before .find .ensures) (c .before .before .before .before .before .before .before .args .pin) (c .before .before .before .before .before .before .before .args .to) (c .before .before .before .before .before .turned-moving .ensures) (sym (c .before .before .before .before .is-accepted .ensures) ∙ c .before .before .before .if1 .taken)))
+entered-requires c κs = (sound-there (c .before .before .before .before .before .before .before .args .self) (c .before .before .before .before .before .before .before .args .seat) (c .before .before .before .before .before .before .find .ensures) (move-there (c .before .before .before .before .before .before .before .args .self) (c .before .before .before .before .before .before .before .args .seat) (c .before .before .before .before .before .before .find .ensures) (c .before .before .before .before .before .before .before .args .pin) (c .before .before .before .before .before .before .before .args .to) (c .before .before .before .before .before .turned-moving .ensures) (sym (c .before .before .before .before .is-accepted .ensures) ∙ c .before .before .before .if1 .taken)), seat-there (c .before .before .before .before .before .before .before .args .self) (c .before .before .before .before .before .before .before .args .seat) (c .before .before .before .before .before .before .find .ensures) (move-there (c .before .before .before .before .before .before .before .args .self) (c .before .before .before .before .before .before .before .args .seat) (c .before .before .before .before .before .before .find .ensures) (c .before .before .before .before .before .before .before .args .pin) (c .before .before .before .before .before .before .before .args .to) (c .before .before .before .before .before .turned-moving .ensures) (sym (c .before .before .before .before .is-accepted .ensures) ∙ c .before .before .before .if1 .taken)), same-there (c .before .before .before .before .before .before .before .args .self) (c .before .before .before .before .before .before .before .args .seat) (c .before .before .before .before .before .before .find .ensures) (move-there (c .before .before .before .before .before .before .before .args .self) (c .before .before .before .before .before .before .before .args .seat) (c .before .before .before .before .before .before .find .ensures) (c .before .before .before .before .before .before .before .args .pin) (c .before .before .before .before .before .before .before .args .to) (c .before .before .before .before .before .turned-moving .ensures) (sym (c .before .before .before .before .is-accepted .ensures) ∙ c .before .before .before .if1 .taken)), open-there (c .before .before .before .before .before .before .before .args .self) (c .before .before .before .before .before .before .before .args .seat) (c .before .before .before .before .before .before .find .ensures) (move-there (c .before .before .before .before .before .before .before .args .self) (c .before .before .before .before .before .before .before .args .seat) (c .before .before .before .before .before .before .find .ensures) (c .before .before .before .before .before .before .before .args .pin) (c .before .before .before .before .before .before .before .args .to) (c .before .before .before .before .before .turned-moving .ensures) (sym (c .before .before .before .before .is-accepted .ensures) ∙ c .before .before .before .if1 .taken)), rw (c .edit-moving .ensures) (move-number (c .before .before .before .before .before .before .before .args .self) (c .before .before .before .before .before .before .before .args .seat) (c .before .before .before .before .before .before .find .ensures) (c .before .before .before .before .before .before .before .args .pin) (c .before .before .before .before .before .before .before .args .to) (c .before .before .before .before .before .turned-moving .ensures) (sym (c .before .before .before .before .is-accepted .ensures) ∙ c .before .before .before .if1 .taken)))
 
 refused-requires : tie.Need-refused-requires
 refused-requires c κs = search needs
