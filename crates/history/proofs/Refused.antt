@@ -4,9 +4,9 @@ use mathlib.Core.Path.{_≡_, refl, ap, sym, _∙_}
 use mathlib.Core.Bool.{Bool, true, false, not, true≢false}
 use mathlib.Core.List.{List, [], _∷_, _++_}
 use mathlib.Core.Logic.{_⊎_, inl, inr, ⊎-elim, _↔_}
-use Prim.Native.Nat.{ℕ, suc, _-_, _≤_, _<_}
+use Prim.Native.Nat.{ℕ, suc, _<_}
 use native.Mathlib.Omega.{arith}
-use borrow.Author.Tests.{not-true, leb-true, leb-false, eq-eqb, ne-eqb}
+use borrow.Author.Tests.{not-true}
 use lib.Dec.{eqb, leb, ltb}
 use lib.ListN.{length}
 use Rattle.refusal.specs.Tests.{both, either, choose}
@@ -22,9 +22,7 @@ use Rattle.desk.specs.declared.Desk.{Desk}
 use Rattle.wiring.proofs.Refusing.{feedRows, wiring-verdict}
 use Rattle.desk.specs.Calls.{Call, seatIn, opening, closing, placing, moving, removing, undoing, redoing, writing, wiring}
 use Rattle.desk.specs.Refusals.{Look, seatAbove, jobAmong, pinAt, notThere, full, turnedOpening, turnedClosing, turnedPlacing, turnedMoving, turnedRemoving, turnedUndoing, turnedRedoing, turnedWriting, turnedWiring, verdictOf}
-use Rattle.journal.specs.Journal.{records}
 use Rattle.desk.specs.Desk.{sound, lookAt, answerOf, step, emptyDesk}
-use Rattle.desk.proofs.Sound.{used-within}
 use Rattle.history.specs.History.{after}
 use Rattle.history.proofs.Ascending.{rank, Ascending, exactly-ascending}
 use Rattle.history.proofs.MapRows.{mapRows, map-first, map-ascends}
@@ -243,15 +241,3 @@ broken-exactly d c = (λ e. not-true _ (broken-given d c .0 e), λ e. broken-giv
 pub never-broken : (calls : List Call) (c : Call) → step (after emptyDesk calls) c .verdict ≡ DeskBroken → ⊥
 never-broken calls c e =
     true≢false (sym (desk-as-told calls .unbroken) ∙ broken-exactly (after emptyDesk calls) c .0 e)
-
--- A number that is no larger than another is at least as large exactly where it is the same.
-at-most : (m n : ℕ) → m ≤ n → leb n m ≡ eqb m n
-at-most m n h = by (leb n m) refl
-  where
-    by : (t : Bool) → leb n m ≡ t → leb n m ≡ eqb m n
-    by true e = e ∙ sym (eq-eqb m n (omega (arith, leb-true n m e, h)))
-    by false e = e ∙ sym (ne-eqb m n (λ (q : m ≡ n). omega (arith, leb-false n m e, q)))
-
--- 12, on a desk that is not broken: used records, less this seat's taken-back ones, ARE 256; they are never more.
-pub full-exactly : (d : Desk) (s : ℕ) → sound d ≡ true → full (lookAt d s) ≡ eqb (lookAt d s .used - lookAt d s .takenBack) records
-full-exactly d s h = at-most (lookAt d s .used - lookAt d s .takenBack) records (omega (arith, used-within d h))

@@ -43,7 +43,7 @@ pinAt l p = getD (l .pins) p absent
 abbrev pub notThere : Look → ℕ → Bool
 notThere l p = either (leb pins p) (not (isThere (pinAt l p)))
 
--- Used records, less this seat's taken-back ones, are 256 (a sound desk never has more).
+-- Used records, less this seat's taken-back ones, are 256.
 abbrev pub full : Look → Bool
 full l = eqb (l .used - l .takenBack) records
 
