@@ -1,12 +1,11 @@
 -- What the test of an edit says, by the way that the code takes through it. Assumes nothing.
-use mathlib.Core.Path.{_≡_, refl, sym, _∙_}
+use mathlib.Core.Path.{_≡_, sym, _∙_}
 use mathlib.Core.Bool.{Bool, true, false}
 use mathlib.Core.List.{List}
 use Prim.Native.Nat.{ℕ, _<_, _≤_}
 use borrow.Author.Tests.{lt-ltb, le-ltb}
 use lib.Dec.{ltb}
 use lib.ListN.{getD}
-use Rattle.refusal.specs.Tests.{both}
 use Rattle.refusal.proofs.Tests.{both-no, both-yes}
 use Rattle.grid.specs.declared.Place.{Place}
 use Rattle.drawing.specs.declared.Held.{Held}

@@ -8,7 +8,6 @@ use Rattle.refusal.specs.Tests.{both, either}
 use Rattle.grid.specs.declared.Place.{Place}
 use Rattle.grid.specs.Place.{onBoard, inside, difference, closer, tooNear, sameNumber, samePlace}
 use Rattle.drawing.specs.declared.Pin.{Pin}
-use Rattle.drawing.specs.declared.Edit.{Edit}
 use Rattle.drawing.specs.declared.Edit.the-variants.{Placed, Moved, Removed}
 use Rattle.drawing.specs.Pins.{pins, absent, holding, isThere, sameHeld, samePin, samePins, meets, meetsAny, crowded, within, settled, allWithin, allApart, lawful}
 use Rattle.drawing.specs.Edits.{movedPin, made, unmade, standsAt, fits, placeable, movable, makeable, takeable}

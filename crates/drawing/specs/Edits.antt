@@ -1,5 +1,5 @@
 -- Edits: what one makes of the pins, what taking it back makes of them, and when one could have been made.
-use mathlib.Core.Bool.{Bool, true, false, not}
+use mathlib.Core.Bool.{Bool, false, not}
 use mathlib.Core.List.{List}
 use Prim.Native.Nat.{ℕ}
 use lib.Dec.{ltb}

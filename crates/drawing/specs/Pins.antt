@@ -3,7 +3,6 @@ use mathlib.Core.Bool.{Bool, true, false, not}
 use mathlib.Core.List.{List, [], _∷_, map}
 use Prim.Native.Nat.{ℕ}
 use lib.Dec.{eqb}
-use lib.IntN.{pos}
 use lib.ListN.{length, getD, set}
 use Rattle.refusal.specs.Tests.{both, either}
 use Rattle.grid.specs.declared.Place.{Place}

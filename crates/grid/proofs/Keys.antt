@@ -7,19 +7,18 @@ use Prim.Native.Nat.{ℕ, _+_, _-_, _*_, _<_, _≤_, min, max}
 use native.Mathlib.Omega.{arith}
 use native.Mathlib.Nat.{min-comm, max-comm}
 use lib.Dec.{ltb}
-use lib.IntN.{ℤ, pos, negsuc, negℤ}
+use lib.IntN.{ℤ, pos, negℤ}
 use borrow.Author.Tests.{lt-ltb, le-ltb, ltb-true, ltb-false}
 use mir.Syntax.{w32}
 use mir.Val.{SFits}
 use Rattle.refusal.specs.Tests.{choose}
 use Rattle.refusal.proofs.Tests.{both-left, both-right}
 use Rattle.grid.specs.declared.Place.{Place}
-use Rattle.grid.specs.declared.Pair.{Pair}
 use Rattle.grid.specs.Place.{inside, onBoard, difference, larger}
 use Rattle.grid.specs.Weight.{weightOf, pairOf, byPart, byNumber, comesBefore, distanceOf}
-use Rattle.grid.proofs.Signed.{off, I32, Small, small-i32, ltb-same, ltZ-off, neg-off, max-off, off-range}
-use Rattle.grid.proofs.Board.{Board, board, difference-small, larger-small}
-use Rattle.grid.proofs.Flat.{gap, gap-swap, gap-below, order, Site, span, site, Held, difference-gap, distance-span}
+use Rattle.grid.proofs.Signed.{off, I32, ltb-same, ltZ-off, neg-off, max-off, off-range}
+use Rattle.grid.proofs.Board.{board, difference-small, larger-small}
+use Rattle.grid.proofs.Flat.{gap, gap-swap, order, Site, span, site, Held, difference-gap, distance-span}
 
 -- Two digits as one number, the first deciding.
 unfoldable pub lex : ℕ → ℕ → ℕ

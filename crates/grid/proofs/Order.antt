@@ -1,12 +1,12 @@
 -- The order of pairs of pins: no pair comes before itself, what comes before what comes before comes before, and of two pairs of
 -- different pins one comes before the other. Assumes nothing.
-use mathlib.Core.Path.{_≡_, refl, sym, _∙_}
-use mathlib.Core.Bool.{Bool, true, false}
+use mathlib.Core.Path.{_≡_, sym, _∙_}
+use mathlib.Core.Bool.{true, false}
 use mathlib.Core.Logic.{_⊎_, inl, inr}
 use Prim.Native.Nat.{ℕ, _<_, _≤_}
 use native.Mathlib.Omega.{arith}
 use lib.Dec.{ltb}
-use borrow.Author.Tests.{lt-ltb, le-ltb, ltb-true, ltb-false}
+use borrow.Author.Tests.{lt-ltb, le-ltb, ltb-true}
 use Rattle.grid.specs.declared.Place.{Place}
 use Rattle.grid.specs.declared.Pair.{Pair}
 use Rattle.grid.specs.Weight.{pairOf, comesBefore}

@@ -1,18 +1,17 @@
 -- Signed numbers as natural ones: `off z` is z + 2 ^ 31, which turns order, equality, differences and maxima of i32 values into facts on ℕ.
 -- Assumes nothing.
-use mathlib.Core.Path.{_≡_, refl, sym, ap, _∙_, subst}
-use mathlib.Core.Bool.{Bool, true, false, not, cond}
-use mathlib.Core.Logic.{⊎-elim}
-use Prim.Native.Nat.{ℕ, zero, suc, _+_, _-_, _*_, _<_, _≤_, max}
+use mathlib.Core.Path.{_≡_, refl, sym, ap, _∙_}
+use mathlib.Core.Bool.{Bool, true, false, cond}
+use Prim.Native.Nat.{ℕ, zero, suc, _+_, _-_, _<_, _≤_, max}
 use native.Mathlib.Omega.{arith}
 use lib.IntN.{ℤ, pos, negsuc, negℤ, natAbs, _+ℤ_, _-ℤ_, subℕ, +ℤ-idl}
 use mir.Syntax.{w32}
 use mir.Val.{SFits, toZ, ofZ}
-use mir.Facts.{toZ-ofZ, sfits-lit}
+use mir.Facts.{toZ-ofZ}
 use lib.Signed.{ltZ, leZ, mag}
 use Rattle.refusal.specs.Tests.{choose}
 use Rattle.grid.specs.Place.{difference, larger, sameNumber}
-use lib.Dec.{T, ltb, leb, eqb, ltb→lt, nltb→le}
+use lib.Dec.{ltb, leb, eqb}
 use borrow.Author.Tests.{lt-ltb, le-ltb, le-leb, lt-leb, ltb-true, ltb-false, leb-true, leb-false, eqb-true, eqb-false, eq-eqb, ne-eqb}
 
 -- The number moved up by 2 ^ 31.

@@ -1,12 +1,12 @@
 -- Worked cases: numbers around zero and at the ends of i32 and of the board, and the ties of weights, each computed. Assumes nothing.
 use mathlib.Core.Path.{_≡_, refl}
 use mathlib.Core.Bool.{true, false}
-use mathlib.Core.List.{List, [], _∷_}
+use mathlib.Core.List.{[], _∷_}
 use lib.IntN.{ℤ, pos, negsuc}
 use Rattle.refusal.specs.Tests.{both, choose}
 use Rattle.grid.specs.declared.Place.{Place}
 use Rattle.grid.specs.Number.{numberAt, putAt, first, second, third, fourth}
-use Rattle.grid.specs.Place.{onBoard, inside, tooNear, closer, difference, larger}
+use Rattle.grid.specs.Place.{onBoard, tooNear, closer, difference, larger}
 use Rattle.grid.specs.Weight.{weightOf, distanceOf, pairOf, comesBefore, byPart, byNumber}
 
 abbrev at : ℤ → ℤ → Place

@@ -1,14 +1,14 @@
 // The grid: a number and its four bytes, places, the board's range, when two places are too near, and the order of pairs of pins.
 ghost use mathlib.Core.Path.{_≡_};
 ghost use mathlib.Core.Bool.{true};
-ghost use Prim.Native.Nat.{_+_, _≤_, min, max};
+ghost use Prim.Native.Nat.{_+_, _≤_};
 ghost use lib.IntN.{pos};
 ghost use lib.ListN.{length};
 ghost use mir.Syntax.{w32};
 ghost use mir.Val.{toZ, ofZ};
 ghost use Rattle.grid.specs.Number.{joined, numberAt, putAt};
 ghost use Rattle.grid.specs.Place.{onBoard, inside, difference, closer, tooNear, sameNumber, samePlace, larger};
-ghost use Rattle.grid.specs.Weight.{distanceOf, weightOf, pairOf, byPart, byNumber, comesBefore};
+ghost use Rattle.grid.specs.Weight.{weightOf, pairOf, byPart, byNumber, comesBefore};
 
 // x and y go from -LIMIT to LIMIT.
 pub const LIMIT: i32 = 20000;

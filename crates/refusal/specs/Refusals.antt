@@ -1,5 +1,5 @@
 -- The table of refusals: the number of each verdict and what it carries; and how the rows of a call are read.
-use mathlib.Core.Bool.{Bool, true, false}
+use mathlib.Core.Bool.{Bool}
 use Prim.Native.Nat.{ℕ}
 use lib.Dec.{eqb}
 use Rattle.refusal.specs.declared.Verdict.{Verdict}

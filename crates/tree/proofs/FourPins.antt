@@ -2,7 +2,7 @@
 -- point. Places are taken as sites, in ℕ. Nothing is asked of the pins: that they differ follows from the two comparisons.
 use mathlib.Core.Path.{_≡_, sym}
 use mathlib.Core.Logic.{_⊎_, inl, inr}
-use Prim.Native.Nat.{ℕ, _+_, _-_, _<_, _≤_, min, max}
+use Prim.Native.Nat.{ℕ, _+_, _<_, _≤_, min, max}
 use native.Mathlib.Omega.{arith}
 use Rattle.grid.proofs.Flat.{gap, gap-up, gap-down, gap-through, gap-below, order, Site, span}
 use Rattle.grid.proofs.Keys.{lex-le, lex-lt, down, key, Fits}

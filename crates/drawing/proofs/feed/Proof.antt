@@ -1,6 +1,6 @@
 -- `drawing::feed` meets its contract. The loop's invariant: the first `i` spots are those of the feed.
 -- The measure is how many are left. Assumes nothing.
-use mathlib.Core.Path.{_≡_, refl, _∙_}
+use mathlib.Core.Path.{_≡_, refl}
 use Prim.Native.Nat.{_≤_, _<_, _-_}
 use native.Mathlib.Omega.{arith}
 use lib.ListN.{length, take, length-set}

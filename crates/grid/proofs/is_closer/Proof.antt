@@ -1,11 +1,7 @@
 -- `grid::is_closer` meets its contract: the difference is taken in i64, where it fits. Assumes nothing.
 use borrow.Author.Needs.{needs}
-use mathlib.Core.Path.{_≡_, _∙_}
-use lib.IntN.{ℤ, negℤ, pos, _-ℤ_}
-use mir.Syntax.{w32, w64}
-use mir.Val.{SFits}
-use mir.Facts.{toZ-ofZ, sfits-widen, sfits-lit}
-use Rattle.grid.specs.Place.{leastGap}
+use mathlib.Core.Path.{_∙_}
+use mir.Facts.{toZ-ofZ, sfits-widen}
 use Rattle.grid.proofs.Board.{wide-is, wide-fits, wide-difference, closer-arm, closer-stop}
 use Rattle.grid.proofs.is_closer.Statement.{statement}
 use Rattle.grid.proofs.is_closer.Tie as tie

@@ -2,7 +2,7 @@
 use borrow.Author.Needs.{needs}
 use mathlib.Core.Path.{_≡_, ap, ap₂, _∙_}
 use mathlib.Core.Bool.{true}
-use lib.IntN.{ℤ, pos, negℤ, _+ℤ_, _-ℤ_}
+use lib.IntN.{ℤ, pos, negℤ, _+ℤ_}
 use mir.Syntax.{w32}
 use mir.Val.{SFits}
 use Rattle.refusal.proofs.Tests.{both-left, both-right}

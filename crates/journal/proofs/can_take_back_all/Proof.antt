@@ -1,6 +1,6 @@
 -- `journal::can_take_back_all` meets its contract: all can be taken back where those left can, from the pins that those passed leave. Assumes nothing.
 use mathlib.Core.Path.{_≡_, sym, _∙_}
-use Prim.Native.Nat.{_-_, _≤_}
+use Prim.Native.Nat.{_≤_}
 use native.Mathlib.Omega.{arith}
 use mathlib.Core.List.{[], reverse}
 use borrow.Author.Needs.{needs}

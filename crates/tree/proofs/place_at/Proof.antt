@@ -4,9 +4,6 @@ use native.Mathlib.Omega.{arith}
 use lib.ListN.{List·getD-eq-default}
 use Rattle.grid.specs.declared.Spot.the-variants.{Absent}
 use Rattle.tree.specs.Growth.{placeOf}
-use mathlib.Core.Path.{sym, ap}
-use native.Mathlib.Omega.{arith}
-use lib.ListN.{List·getD-eq-default}
 use borrow.Author.Needs.{needs}
 use Rattle.tree.proofs.place_at.Statement.{statement}
 use Rattle.tree.proofs.place_at.Tie as tie
