@@ -1,9 +1,8 @@
 -- One run on: what pins cost, the choices weighed and the number of runs below a pin, as the runs from `next` on are gone through.
 -- Assumes nothing.
-use mathlib.Core.Path.{_≡_, refl, sym, ap, ap₂, _∙_}
-use mathlib.Core.Bool.{Bool, true, false, not}
-use mathlib.Core.List.{List}
-use Prim.Native.Nat.{ℕ, zero, suc, _+_, _-_, _*_, _^_, _≤_, _<_, min}
+use mathlib.Core.Path.{_≡_, refl}
+use mathlib.Core.Bool.{Bool, true, false}
+use Prim.Native.Nat.{ℕ, zero, suc, _+_, _-_, _*_, _≤_, _<_}
 use native.Mathlib.Numerals.{add-one}
 use native.Mathlib.Omega.{arith}
 use lib.Dec.{eqb}
@@ -12,8 +11,7 @@ use Rattle.refusal.specs.Tests.{choose}
 use Rattle.grid.specs.declared.Place.{Place}
 use Rattle.copper.specs.declared.Tally.{Tally}
 use Rattle.copper.specs.Arms.{owed}
-use Rattle.least.specs.declared.Found.{Found}
-use Rattle.least.specs.Asking.{base, markOf, lesserOf, doubledIf, isBent, bentInto, firstTally, nextTally, pinCost, pinOf, runOf, choicesFrom, weighedFrom, weighedOf, found, sizeFrom}
+use Rattle.least.specs.Asking.{base, lesserOf, doubledIf, isBent, bentInto, nextTally, pinCost, pinOf, runOf, choicesFrom, weighedFrom, weighedOf, sizeFrom}
 
 -- With one more run to come.
 more : (n next : ℕ) → next < n → n - next ≡ suc (n - (next + 1))

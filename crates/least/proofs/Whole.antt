@@ -1,9 +1,9 @@
 -- A whole tree: it has no more runs than it has, its cost is the least of all choices of shapes at once, and the choices weighed are a sum
 -- over its pins. From the law of least choices. Assumes that near pins are reached first.
-use mathlib.Core.Path.{_≡_, refl, sym, ap, ap₂, _∙_}
-use mathlib.Core.Bool.{Bool, true, false, not, cond}
+use mathlib.Core.Path.{_≡_, refl, ap, _∙_}
+use mathlib.Core.Bool.{Bool, true, false, cond}
 use mathlib.Core.List.{List}
-use Prim.Native.Nat.{ℕ, zero, suc, _+_, _-_, _*_, _^_, _≤_, _<_}
+use Prim.Native.Nat.{ℕ, zero, suc, _+_, _-_, _*_, _≤_, _<_}
 use native.Mathlib.Nat.{sub-zero}
 use native.Mathlib.Omega.{arith}
 use lib.IntN.{ℤ}
@@ -13,9 +13,9 @@ use Rattle.grid.specs.declared.Place.{Place}
 use Rattle.copper.specs.declared.Tally.{Tally}
 use Rattle.copper.specs.Arms.{owed, noTally}
 use Rattle.copper_laws.proofs.Sums.{sumBelow, sum-same, sum-none}
-use Rattle.copper_laws.proofs.Least.{May, lesser, best, shown, total, best-least, best-reached}
+use Rattle.copper_laws.proofs.Least.{lesser, best, shown, total, best-least, best-reached}
 use Rattle.copper_laws.proofs.Tallies.{startAt, addAt, bentAt, leastOf}
-use Rattle.least.specs.Asking.{base, placeAt, nearAt, markOf, lesserOf, doubledIf, isBent, bentInto, firstTally, nextTally, pinCost, pinOf, weighedFrom, weighedOf, sizeFrom, Grown, Askable}
+use Rattle.least.specs.Asking.{base, nearAt, markOf, lesserOf, doubledIf, isBent, bentInto, firstTally, nextTally, pinCost, pinOf, weighedFrom, weighedOf, sizeFrom, Grown, Askable}
 
 choose-cond : (t : Bool) (x y : ℕ) → choose t x y ≡ cond t x y
 unfolding choose

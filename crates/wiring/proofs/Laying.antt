@@ -1,6 +1,6 @@
 -- The runs of a feed, by when their pins are reached, are laid as the length asks. From pins that stand on the board, no two of them too near,
 -- and a search that found no boxes that meet.
-use mathlib.Core.Path.{_≡_, refl, sym, ap, ap₂, _∙_, subst, fun-ext}
+use mathlib.Core.Path.{_≡_, refl, sym, ap, _∙_, subst, fun-ext}
 use mathlib.Core.Bool.{Bool, true, false}
 use mathlib.Core.List.{List, [], _∷_}
 use mathlib.Core.Logic.{_⊎_, inl, inr}
@@ -10,7 +10,6 @@ use lib.IntN.{ℤ}
 use lib.Dec.{eqb}
 use lib.ListN.{length, getD}
 use borrow.Author.Tests.{eq-eqb, eqb-true, eqb-false, lt-ltb}
-use Rattle.refusal.specs.Tests.{either}
 use Rattle.refusal.proofs.Tests.{both-of, both-left, both-right}
 use Rattle.grid.specs.declared.Place.{Place}
 use Rattle.grid.specs.declared.Spot.{Spot}
@@ -19,7 +18,7 @@ use Rattle.grid.specs.Place.{leastGap, difference, sameNumber, closer, tooNear,
 use Rattle.grid.proofs.Signed.{I32, difference-off}
 use Rattle.grid.proofs.Flat.{Site, site, Held, order}
 use Rattle.tree.specs.declared.Run.{Run}
-use Rattle.tree.specs.Growth.{run, present, placeOf, spotAt, allInside, pinsOf, runsOf}
+use Rattle.tree.specs.Growth.{present, placeOf, spotAt, allInside, pinsOf, runsOf}
 use Rattle.tree.specs.Boxes.{boxesMeet}
 use Rattle.tree.proofs.Deciding.{opposite, either-false}
 use Rattle.tree.proofs.Membership.{Among, pins-there}
@@ -27,7 +26,7 @@ use Rattle.tree.proofs.Listing.{Rooted, nearAt, farAt, pins-low, runs-rooted}
 use Rattle.tree.proofs.Numbering.{stands}
 use Rattle.copper_laws.proofs.Laid.{Laid}
 use Rattle.copper_laws.proofs.Planted.{pinAt, planted}
-use Rattle.wiring.specs.Reaching.{runAt, reachedPin, reachedNear, reachedPlace}
+use Rattle.wiring.specs.Reaching.{reachedPin, reachedNear, reachedPlace}
 use Rattle.wiring.specs.Crowding.{crowd, crowdAny, crowded}
 use Rattle.wiring.proofs.Positions.{near-before, near-pin, far-pin, first-pin}
 

@@ -1,9 +1,9 @@
 -- A mask of shapes: as a sum over the runs, and as the number from which each run's shape is read again. Assumes at most 31 runs.
 use mathlib.Core.Path.{_≡_, refl, sym, ap, ap₂, _∙_}
-use mathlib.Core.Bool.{Bool, true, false, not}
+use mathlib.Core.Bool.{Bool, true, false}
 use mathlib.Core.List.{List, [], _∷_}
 use Prim.Native.Nat.{ℕ, zero, suc, _+_, _-_, _*_, _/_, _%_, _^_, _≤_, _<_}
-use native.Mathlib.Nat.{pow-suc, add-mul-div-right, add-mul-mod-self-right, div-eq-of-lt, mul-assoc, zero-mul}
+use native.Mathlib.Nat.{pow-suc, add-mul-div-right, add-mul-mod-self-right, div-eq-of-lt, mul-assoc}
 use native.Mathlib.Omega.{arith}
 use lib.Dec.{eqb}
 use lib.ListN.{length}
@@ -11,7 +11,7 @@ use lib.Pow.{pow-pos, pow-add}
 use Rattle.refusal.specs.Tests.{choose}
 use Rattle.copper.specs.declared.Shape.{Shape}
 use Rattle.copper_laws.proofs.Sums.{sumBelow, sum-same}
-use Rattle.least.specs.Asking.{base, differs, markOf}
+use Rattle.least.specs.Asking.{differs, markOf}
 use Rattle.wiring.specs.Reaching.{upperIn}
 use Rattle.wiring.proofs.Ordered.{isUpper, bends, maskFrom}
 

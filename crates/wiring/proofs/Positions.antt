@@ -1,21 +1,18 @@
 -- Pins by when they are reached: each run goes from a pin that is reached before to the next, and no pin is reached twice.
 -- Assumes that the runs are rooted at the lowest pin, as those of a feed are.
-use mathlib.Core.Path.{_≡_, refl, sym, ap, _∙_, subst}
-use mathlib.Core.Bool.{Bool, true, false}
+use mathlib.Core.Path.{_≡_, refl, sym, _∙_}
 use mathlib.Core.List.{List, [], _∷_}
 use mathlib.Core.Logic.{_⊎_, inl, inr, ⊎-elim}
 use Prim.Native.Nat.{ℕ, zero, suc, _+_, _≤_, _<_}
 use native.Mathlib.Omega.{arith}
-use lib.Dec.{eqb}
-use lib.ListN.{length, getD}
+use lib.ListN.{length}
 use borrow.Author.Tests.{eq-eqb, ne-eqb}
 use Rattle.refusal.specs.Tests.{choose}
 use Rattle.grid.proofs.Flat.{order}
 use Rattle.tree.specs.declared.Run.{Run}
-use Rattle.tree.specs.Growth.{run}
 use Rattle.tree.proofs.Membership.{Among, first, later}
 use Rattle.tree.proofs.Listing.{Rooted, nearAt, farAt}
-use Rattle.wiring.specs.Reaching.{runAt, reachedPin, reachedFrom, reachedNear}
+use Rattle.wiring.specs.Reaching.{reachedPin, reachedFrom, reachedNear}
 
 -- The search for the run that reaches a pin.
 search-hit : (i : ℕ) (runs : List Run) (pin q : ℕ) → q < length runs → farAt runs q ≡ pin → ((p : ℕ) → p < q → farAt runs p ≡ pin → ⊥)

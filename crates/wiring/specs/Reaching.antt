@@ -1,5 +1,5 @@
 -- How the best shapes are found: pins numbered by when they are reached, and the shapes that a mask holds. No entry point's promise rests on these.
-use mathlib.Core.Bool.{Bool, true, false}
+use mathlib.Core.Bool.{Bool}
 use mathlib.Core.List.{List, [], _∷_, _++_}
 use Prim.Native.Nat.{ℕ, zero, suc, _-_, _/_, _%_, _^_}
 use lib.IntN.{ℤ}

@@ -9,7 +9,7 @@ use tree::place_at;
 ghost use mathlib.Core.Path.{_≡_};
 ghost use mathlib.Core.Bool.{true, false};
 ghost use Prim.Native.Nat.{_+_, _≤_, _<_};
-ghost use lib.ListN.{length, take, drop};
+ghost use lib.ListN.{take};
 ghost use Rattle.tree.specs.Growth.{allInside};
 ghost use Rattle.wiring.specs.Answer.{noLeg, turnedAway, wiringFavouring, wiringOf};
 ghost use Rattle.wiring.specs.Reaching.{reachedPin, reachedPlace, reachedFrom, xsOf, ysOf, nearsOf, upperIn, shapedIn, entriesIn, putLegs, legsOfEntry, legsOfEntries, strip};

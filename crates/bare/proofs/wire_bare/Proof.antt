@@ -2,10 +2,10 @@
 use borrow.Author.Needs.{needs}
 use borrow.Author.Tests.{not-true, not-false}
 use mathlib.Core.Path.{_≡_, refl, sym, ap, _∙_}
-use mathlib.Core.Bool.{true, false}
+use mathlib.Core.Bool.{false}
 use mathlib.Core.List.{List}
 use Rattle.refusal.specs.Refusals.{accepted}
-use Rattle.refusal.specs.declared.Verdict.the-variants.{Accepted, ListLengths, NoPins, Outside, PlaceTaken}
+use Rattle.refusal.specs.declared.Verdict.the-variants.{ListLengths, NoPins, Outside, PlaceTaken}
 use Rattle.grid.specs.declared.Spot.{Spot}
 use Rattle.tree.specs.Growth.{allInside}
 use Rattle.wiring.specs.Answer.{wiringOf}

@@ -1,6 +1,6 @@
 -- `least::pin_best` and `least::run_best` meet their contracts: the pin's function asks the runs that lead on from it, a run's the pin at its
 -- far end. The measure is twice the number of pins not yet visited, and one more for a run. Assumes nothing.
-use mathlib.Core.Path.{_≡_, refl}
+use mathlib.Core.Path.{refl}
 use mathlib.Core.Logic.{⊎-elim}
 use Prim.Native.Nat.{ℕ, _+_, _-_, _*_, _<_}
 use native.Mathlib.Omega.{arith}

@@ -1,6 +1,6 @@
 -- `least::weigh` meets its contract: what it finds is told by one step of the definition, and its sums fit by the bounds of costs.
 -- The measure is the number of runs to come. Assumes nothing.
-use mathlib.Core.Path.{_≡_, _∙_}
+use mathlib.Core.Path.{_∙_}
 use Prim.Native.Nat.{ℕ, _-_, _<_}
 use native.Mathlib.Omega.{arith}
 use borrow.Author.Needs.{needs}

@@ -1,8 +1,8 @@
 -- `wiring::entries_in` meets its contract: the entries are filled from the front. Assumes nothing.
-use mathlib.Core.Path.{_≡_, refl, sym, ap, _∙_}
+use mathlib.Core.Path.{_≡_}
 use Prim.Native.Nat.{_≤_, _-_}
 use native.Mathlib.Omega.{arith}
-use Rattle.wiring.specs.Reaching.{valuesFrom, shapedIn, entriesIn}
+use Rattle.wiring.specs.Reaching.{valuesFrom, shapedIn}
 use Rattle.wiring.specs.Answer.{runEntries}
 use Rattle.wiring.proofs.Filling.{entries-none, entries-turn, entries-all}
 use borrow.Author.Needs.{needs}

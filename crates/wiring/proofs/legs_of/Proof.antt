@@ -2,7 +2,6 @@
 use lib.ListN.{getD}
 use Rattle.copper.specs.declared.Shape.the-variants.{Straight}
 use Rattle.wiring.specs.Answer.{shaped}
-use mathlib.Core.Path.{_≡_, refl, sym, ap, _∙_}
 use Prim.Native.Nat.{_≤_, _-_}
 use native.Mathlib.Omega.{arith}
 use Rattle.wiring.proofs.Filling.{leg-small, blanks, Put, put-none, put-turn, put-all}

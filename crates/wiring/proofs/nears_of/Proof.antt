@@ -1,7 +1,6 @@
 -- `wiring::nears_of` meets its contract: the list is filled from the front. Assumes nothing.
-use mathlib.Core.Path.{_≡_, refl, sym, ap, _∙_}
-use Prim.Native.Nat.{_≤_, _-_}
-use native.Mathlib.Omega.{arith}
+use mathlib.Core.Path.{refl}
+use Prim.Native.Nat.{_-_}
 use Prim.Native.Nat.{ℕ}
 use lib.ListN.{take}
 use Rattle.wiring.specs.Reaching.{runAt, reachedFrom, nearsOf}

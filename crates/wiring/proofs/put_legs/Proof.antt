@@ -1,5 +1,4 @@
 -- `wiring::put_legs` meets its contract, by the number of legs. Assumes nothing.
-use mathlib.Core.Path.{_≡_, refl, sym, ap, _∙_}
 use Rattle.wiring.specs.Reaching.{legsOfEntry}
 use Rattle.wiring.proofs.Filling.{one-leg, two-legs}
 use borrow.Author.Needs.{needs}

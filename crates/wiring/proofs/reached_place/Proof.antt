@@ -1,6 +1,4 @@
 -- `wiring::reached_place` meets its contract. Assumes nothing.
-use mathlib.Core.Path.{_≡_, refl, sym, ap, _∙_}
-use Rattle.wiring.specs.Reaching.{reachedPlace}
 use borrow.Author.Needs.{needs}
 use Rattle.wiring.proofs.reached_place.Statement.{statement}
 use Rattle.wiring.proofs.reached_place.Tie as tie

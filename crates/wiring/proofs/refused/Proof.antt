@@ -1,5 +1,4 @@
 -- `wiring::refused` meets its contract. Assumes nothing.
-use mathlib.Core.Path.{_≡_, refl, sym, ap, _∙_}
 use Rattle.wiring.specs.Answer.{turnedAway, runEntries, legEntries}
 use borrow.Author.Needs.{needs}
 use Rattle.wiring.proofs.refused.Statement.{statement}

@@ -1,5 +1,4 @@
 -- `wiring::shaped_in` meets its contract. Assumes nothing.
-use mathlib.Core.Path.{_≡_, refl, sym, ap, _∙_}
 use Rattle.wiring.specs.Reaching.{shapedIn}
 use borrow.Author.Needs.{needs}
 use Rattle.wiring.proofs.shaped_in.Statement.{statement}

@@ -1,5 +1,5 @@
 -- `wiring::wire_favouring` meets its contract: the tree refuses, the room is too small, or the shapes found are the answer. Assumes nothing.
-use mathlib.Core.Path.{_≡_, refl, sym, ap, _∙_}
+use mathlib.Core.Path.{_∙_}
 use native.Mathlib.Omega.{arith}
 use Rattle.wiring.proofs.Answering.{wire-refused, count-few, wire-grown, wire-room, wire-answer}
 use borrow.Author.Needs.{needs}
