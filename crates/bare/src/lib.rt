@@ -16,7 +16,7 @@ ghost use Rattle.wiring.specs.Crowding.{crowd, crowdAny, crowded};
 ghost use Rattle.lent.specs.Lent.{filledWith};
 ghost use Rattle.bare.specs.Bare.{pinAt, feedOf, wrongLengths, bareOf};
 
-// A drawing has up to this many pins.
+// Lists of x and y have up to this many numbers, as a drawing has pins.
 const MOST: usize = 32;
 
 // Whether x and y lists differ in length, or exceed 32.

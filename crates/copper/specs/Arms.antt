@@ -69,7 +69,7 @@ leadingOn tally upper near far =
 unfoldable pub owed : Tally → ℕ
 owed tally = spread (tally .arms) - tally .paid
 
--- Arms as i32 places give them, of which no more is paid than there is.
+-- Arms as i32 places give them (4,294,967,296 is 2 ^ 32), of which no more is paid than there is.
 pub record Fair (tally : Tally) : Type 0 where
   pub east : tally .arms .east < 4294967296
   pub west : tally .arms .west < 4294967296

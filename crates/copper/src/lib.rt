@@ -170,7 +170,7 @@ fn larger(a: u64, b: u64) -> u64
     if a < b { b } else { a }
 }
 
-// The longest of two arms in each direction.
+// The longer of two arms in each direction.
 fn longest_of(a: Arms, b: Arms) -> Arms
     ensures { λ r. ⌜ r ≡ longest a b ⌝ }
 {

@@ -1,4 +1,5 @@
--- Whole numbers moved to ℕ and back: `off z` is z + 2 ^ 31, and `back` takes it away again. Assumes that a number is not below -2 ^ 31.
+-- Back from ℕ to whole numbers: `back` takes 2 ^ 31 away again, and what `off` makes of a difference, a smaller and a sum.
+-- Assumes that a number is not below -2 ^ 31.
 use mathlib.Core.Path.{_≡_, refl, sym, ap, _∙_}
 use mathlib.Core.Bool.{Bool, true, false, cond}
 use Prim.Native.Nat.{ℕ, zero, suc, _+_, _-_, _<_, min, max}

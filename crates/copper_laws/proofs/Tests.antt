@@ -1,4 +1,4 @@
--- What tests joined by `&&` and `||` say. Assumes nothing.
+-- What tests joined by `&&` and `||` say: the laws of copper are computed with the library's own words. Assumes nothing.
 use mathlib.Core.Path.{_≡_, refl, sym}
 use mathlib.Core.Bool.{Bool, true, false, _&&_, _||_}
 use mathlib.Core.Logic.{_⊎_, inl, inr}

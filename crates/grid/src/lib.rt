@@ -189,7 +189,7 @@ pub fn pair_of(i: usize, a: Place, j: usize, b: Place) -> Pair
     }
 }
 
-// Which of two parts is smaller, or where they are equal, what the rest says.
+// Whether the first of two parts is smaller; where they are equal, what the rest says.
 fn by_part(a: i32, b: i32, rest: bool) -> bool
     ensures { λ r. ⌜ r ≡ byPart a b rest ⌝ }
 {
@@ -202,7 +202,7 @@ fn by_part(a: i32, b: i32, rest: bool) -> bool
     rest
 }
 
-// Which of two pin numbers is lower, or where they are equal, what the rest says.
+// Whether the first of two pin numbers is lower; where they are equal, what the rest says.
 fn by_number(a: usize, b: usize, rest: bool) -> bool
     ensures { λ r. ⌜ r ≡ byNumber a b rest ⌝ }
 {

@@ -122,7 +122,7 @@ sizeFrom near zero i next = 0
 sizeFrom near (suc k) i next =
     choose (eqb (near next) i) (1 + sizeFrom near k (suc next) (suc next) + sizeFrom near k i (suc next)) (sizeFrom near k i (suc next))
 
--- Arms that pins on the board can have, of which no more is paid than there is.
+-- Arms that pins on the board can have (40,000 steps; 131,072 leaves room), of which no more is paid than there is.
 pub record Modest (tally : Tally) : Type 0 where
   pub east : tally .arms .east ≤ 131072
   pub west : tally .arms .west ≤ 131072

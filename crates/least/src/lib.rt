@@ -9,7 +9,7 @@ ghost use Rattle.least.specs.Asking.{placeAt, nearAt, markOf, isBent, be
 // One more than any mask of 31 shapes.
 pub const BASE: u64 = 2147483648;
 
-// What a pin, or a run, is asked: the least cost for either shape, and the choices that were weighed for it.
+// What a pin, or a run, answers: the least cost for either shape, and the choices that were weighed for it.
 pub struct Asked {
     pub lower: u64,
     pub upper: u64,
