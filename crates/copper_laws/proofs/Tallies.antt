@@ -15,7 +15,7 @@ use Rattle.grid.proofs.Flat.{span, site, Held, distance-span}
 use Rattle.copper.specs.declared.Arms.{Arms}
 use Rattle.copper.specs.declared.Tally.{Tally}
 use Rattle.copper.specs.Shapes.{cornerOf, shapeOf}
-use Rattle.copper.specs.Arms.{beyond, reach, armsTo, longest, spread, paidFor, noTally, reachedBy, leadingOn, owed, Fair}
+use Rattle.copper.specs.Arms.{beyond, reach, armsTo, longest, paidFor, noTally, reachedBy, leadingOn, owed, Fair}
 use Rattle.copper_laws.proofs.Cover.{straight}
 use Rattle.copper_laws.proofs.Sharing.{near-tip, far-tip}
 use Rattle.copper_laws.proofs.Star.{armTo}
@@ -126,10 +126,6 @@ module _ (u : Bool) (a b : Place) (p : Held a) (q : Held b) where
             south = unfold longest in (let z : max (t .arms .south) (m .south) < 4294967296 = omega (arith, f .south, s .south) in z);
             paid = omega (arith, f .paid);
           }
-
-pub fair-none : Fair noTally
-unfolding spread
-fair-none = omega arith
 
 -- What pins show, the pins numbered by when they were reached: 0 is the first, suc r the far pin of run r, near r the near pin of run r.
 module _ (at : ℕ → Place) (near : ℕ → ℕ) where

@@ -1,14 +1,14 @@
 -- Four bytes and their number: reading what was written gives the number, writing what was read gives the bytes, and what a part of a
 -- list holds. Assumes nothing.
-use mathlib.Core.Path.{_≡_, refl, ap, _∙_}
+use mathlib.Core.Path.{_≡_, ap, _∙_}
 use mathlib.Core.List.{List}
 use mathlib.Core.Bool.{true, false}
 use Prim.Native.Nat.{ℕ, _+_, _-_, _/_, _%_, _<_, _≤_}
 use native.Mathlib.Omega.{arith}
 use lib.IntN.{ℤ, pos, negsuc}
 use lib.Signed.{ltZ}
-use lib.ListN.{length, getD, set, take, drop, length-set}
-use lib.Seq.{getD-set-same, getD-set-other, set-getD, getD-take, getD-drop}
+use lib.ListN.{length, getD, set, length-set}
+use lib.Seq.{getD-set-same, getD-set-other, set-getD}
 use mir.Syntax.{w32}
 use mir.Val.{toZ, ofZ, Fits, SFits}
 use mir.Facts.{toZ-ofZ, ofZ-toZ, fits-ofZ, sfits-lit, toZ-pos}
@@ -92,15 +92,6 @@ unfolding putAt numberAt
 written-read l k bytes h =
     let s : _ = split-join (getD l k 0) (getD l (k + 1) 0) (getD l (k + 2) 0) (getD l (k + 3) 0) (bytes k) (bytes (k + 1)) (bytes (k + 2)) (bytes (k + 3)) in
     rw (s .0, s .1, s .2, s .3) (simp set-getD)
-
--- The number in a part of a list is the number at the same bytes of the list.
-pub number-part : (l : List ℕ) (k n i : ℕ) → i + 4 ≤ n → numberAt (take n (drop k l)) i ≡ numberAt l (k + i)
-unfolding numberAt
-number-part l k n i h =
-    rw (getD-take n (drop k l) i 0 (omega arith), getD-drop k l i 0, at 1 (omega arith), at 2 (omega arith), at 3 (omega arith)) refl
-  where
-    at : (j : ℕ) → j < 4 → getD (take n (drop k l)) (i + j) 0 ≡ getD l (k + i + j) 0
-    at j hj = getD-take n (drop k l) (i + j) 0 (omega arith) ∙ getD-drop k l (i + j) 0 ∙ ap (λ (m : ℕ). getD l m 0) (omega arith)
 
 -- What the code's complement of a negative number comes to.
 pub flipped : (z : ℤ) → SFits w32 z → ltZ (rd z) (pos 0) ≡ true → toZ w32 (4294967295 - ofZ w32 z) ≡ pos (4294967295 - ofZ w32 z)

@@ -31,18 +31,10 @@ module _ (a b : ℕ) where
   unfolding gap
   gap-swap = omega arith
 
-  -- Bounds that hold whichever is larger.
-  pub gap-within : (a ≤ b + gap a b) × (b ≤ a + gap a b)
-  unfolding gap
-  gap-within = omega arith
-
+  -- A bound that holds whichever is larger.
   pub gap-below : (m : ℕ) → a < m → b < m → gap a b < m
   unfolding gap
   gap-below m h k = omega arith
-
-  pub gap-none : gap a b ≡ 0 → a ≡ b
-  unfolding gap
-  gap-none e = omega arith
 
 pub gap-self : (a : ℕ) → gap a a ≡ 0
 unfolding gap

@@ -36,14 +36,6 @@ pub lex-eq : (a b c d : ℕ) → b < 17179869184 → d < 17179869184 → lex a b
 unfolding lex
 lex-eq a b c d f g h = omega arith
 
-pub lex-first : (a b c d : ℕ) → b < 17179869184 → a < c → lex a b < lex c d
-unfolding lex
-lex-first a b c d f h = omega arith
-
-pub lex-then : (a b c d : ℕ) → a ≡ c → b < d → lex a b < lex c d
-unfolding lex
-lex-then a b c d f h = omega arith
-
 -- A number that goes down as its argument goes up.
 abbrev pub down : ℕ → ℕ
 down n = 17179869183 - n

@@ -94,11 +94,6 @@ off-neg (pos zero) h = refl
 off-neg (pos (suc a)) h = omega arith
 off-neg (negsuc a) h = omega arith
 
-pub mag-neg : (a : ℤ) → mag (negℤ a) ≤ mag a + 1
-mag-neg (pos zero) = omega arith
-mag-neg (pos (suc a)) = omega arith
-mag-neg (negsuc a) = omega arith
-
 -- The range of an i32, read off the moved number.
 pub off-range : (z : ℤ) → 0 < off z → off z < 4294967296 → I32 z
 unfolding off
@@ -189,12 +184,6 @@ lt-no {a} {b} fa fb e = ltb-false (off a) (off b) (sym (ltZ-off a b (fa .sfits) 
 pub le-rd : {a b : ℤ} {t : Bool} → SFits w32 a → SFits w32 b → leZ (rd a) (rd b) ≡ t → leZ a b ≡ t
 le-rd fa fb e = rw (toZ-ofZ fa, toZ-ofZ fb) at e
 
-pub le-yes : {a b : ℤ} → SFits w32 a → SFits w32 b → leZ (rd a) (rd b) ≡ true → off a ≤ off b
-le-yes {a} {b} fa fb e = leb-true (off a) (off b) (sym (leZ-off a b (fa .sfits) (fb .sfits)) ∙ le-rd fa fb e)
-
-pub le-no : {a b : ℤ} → SFits w32 a → SFits w32 b → leZ (rd a) (rd b) ≡ false → off b < off a
-le-no {a} {b} fa fb e = leb-false (off a) (off b) (sym (leZ-off a b (fa .sfits) (fb .sfits)) ∙ le-rd fa fb e)
-
 -- what `max` and `abs` return, by the arm
 max-yes : (a b : ℤ) → ltZ a b ≡ true → b ≡ larger a b
 unfolding larger choose
@@ -212,12 +201,6 @@ max-rd-no {a} {b} fa fb e = toZ-ofZ fa ∙ max-no a b (lt-rd fa fb e)
 
 pub minus-rd : {a : ℤ} → SFits w32 a → Small a → rd (pos 0 -ℤ rd a) ≡ negℤ a
 minus-rd {a} fa h = rw (toZ-ofZ fa, toZ-ofZ (minus-fits a h), minus-is)
-
-pub off-rd : {z : ℤ} → SFits w32 z → off (rd z) ≡ off z
-off-rd f = rw (toZ-ofZ f)
-
-pub small-rd : {z : ℤ} → SFits w32 z → Small z → Small (rd z)
-small-rd f h = rw (toZ-ofZ f) h
 
 -- The size of a difference, by the arm that the code took.
 abs-sub-lt : (a b : ℤ) → I32 a → I32 b → Small a → Small b → off a < off b → b -ℤ a ≡ pos (difference a b)
@@ -252,12 +235,6 @@ eq-off {a = pos a} {b = negsuc b} fa fb = eqb-same a (4294967296 - suc b) (21474
 eq-off {a = negsuc a} {b = pos b} fa fb = eqb-same (4294967296 - suc a) b (2147483647 - a) (2147483648 + b) (λ h. omega arith) (λ h. omega arith)
 eq-off {a = negsuc a} {b = negsuc b} fa fb = eqb-same (4294967296 - suc a) (4294967296 - suc b) (2147483647 - a) (2147483647 - b) (λ h. omega arith) (λ h. omega arith)
 
-pub bits-off : {a b : ℤ} → SFits w32 a → SFits w32 b → ofZ w32 a ≡ ofZ w32 b → off a ≡ off b
-bits-off {a} {b} fa fb e = eqb-true (off a) (off b) (sym (eq-off fa fb) ∙ eq-eqb (ofZ w32 a) (ofZ w32 b) e)
-
-pub bits-is : {a b : ℤ} → SFits w32 a → SFits w32 b → ofZ w32 a ≡ ofZ w32 b → a ≡ b
-bits-is {a} {b} fa fb e = sym (toZ-ofZ fa) ∙ ap (toZ w32) e ∙ toZ-ofZ fb
-
 -- The test of two locals is the test of the numbers.
 pub same-bits : {a b : ℤ} → SFits w32 a → SFits w32 b → eqb (ofZ w32 a) (ofZ w32 b) ≡ sameNumber a b
 unfolding sameNumber
@@ -269,10 +246,6 @@ same-bits {a} {b} fa fb =
 pub same-is : (a b : ℤ) → I32 a → I32 b → sameNumber a b ≡ true → a ≡ b
 unfolding sameNumber
 same-is a b ha hb e = off-inj a b ha hb (omega (arith, eqb-true (difference a b) 0 e, difference-off a b ha hb))
-
-pub same-self : (a : ℤ) → I32 a → sameNumber a a ≡ true
-unfolding sameNumber
-same-self a ha = eq-eqb (difference a a) 0 (omega (arith, difference-off a a ha ha))
 
 -- A number that an i32 holds is read as it is.
 pub held : (z : ℤ) → I32 z → rd z ≡ z

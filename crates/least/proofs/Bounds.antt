@@ -1,18 +1,16 @@
 -- Costs and counts of choices fit their numbers: a cost is little for each run below a pin, and there are at most 31 of these.
 -- Assumes that the places are on the board.
-use mathlib.Core.Path.{_≡_, refl, sym, ap, _∙_}
+use mathlib.Core.Path.{_≡_, sym, ap, _∙_}
 use mathlib.Core.Bool.{Bool, true, false}
-use Prim.Native.Nat.{ℕ, zero, suc, _+_, _-_, _*_, _^_, _≤_, _<_, min}
-use native.Mathlib.Nat.{pow-suc, suc-mul, mul-assoc, mul-le-mul}
+use Prim.Native.Nat.{ℕ, zero, suc, _+_, _*_, _^_, _≤_}
+use native.Mathlib.Nat.{pow-suc, suc-mul, mul-assoc}
 use native.Mathlib.Omega.{arith}
 use lib.Dec.{eqb}
-use lib.Pow.{pow-mono, pow-pos}
 use Rattle.refusal.specs.Tests.{choose}
 use Rattle.grid.specs.declared.Place.{Place}
 use Rattle.grid.specs.Place.{inside}
 use Rattle.copper.specs.declared.Tally.{Tally}
-use Rattle.copper.specs.Arms.{owed}
-use Rattle.least.specs.Asking.{base, markOf, lesserOf, doubledIf, isBent, bentInto, firstTally, nextTally, pinCost, pinOf, runOf, choicesFrom, weighedFrom, weighedOf, sizeFrom, Modest}
+use Rattle.least.specs.Asking.{markOf, lesserOf, doubledIf, isBent, firstTally, nextTally, pinCost, choicesFrom, weighedFrom, sizeFrom, Modest}
 use Rattle.least.proofs.Reading.{mark-small}
 use Rattle.least.proofs.Modesty.{modest-first, modest-next, modest-owed}
 use Rattle.least.proofs.Stepping.{doubled-none, choices-sum, weighed-split}
@@ -50,12 +48,6 @@ module _ (at : ℕ → Place) (near : ℕ → ℕ) (favoured : Bool) (on-board :
       go true p q {x = x} {y = y} e f g =
           unfold choose in omega (arith, mark-small favoured false next, lesser-low b (markOf favoured next false + x + y) u)
       go false p q e f g = unfold choose in g
-
--- Each bent run doubles the choices.
-doubled-most : (t : Bool) (c : ℕ) → doubledIf t c ≤ c + c
-unfolding doubledIf choose
-doubled-most true c = omega arith
-doubled-most false c = omega arith
 
 module _ (at : ℕ → Place) (near : ℕ → ℕ) where
   doubled-choices : (t : Bool) (k i next : ℕ) → choicesFrom at near k i next (doubledIf t 1) ≤ choicesFrom at near k i next 1 + choicesFrom at near k i next 1

@@ -1,7 +1,6 @@
 -- What joined tests say of their parts. Assumes nothing.
 use mathlib.Core.Path.{_≡_, refl, sym, _∙_}
 use mathlib.Core.Bool.{Bool, true, false, true≢false}
-use mathlib.Core.Logic.{_⊎_, inl, inr}
 use Rattle.refusal.specs.Tests.{both, either, choose}
 
 -- No test holds and fails.
@@ -40,11 +39,6 @@ either-left b p = rw p
 pub either-right : {a : Bool} (b : Bool) → a ≡ false → either a b ≡ b
 unfolding either
 either-right b p = rw p
-
-pub either-cases : (a b : Bool) → either a b ≡ true → (a ≡ true) ⊎ (b ≡ true)
-unfolding either
-either-cases true b e = inl refl
-either-cases false b e = inr e
 
 -- Where neither holds, each fails; and the other way round.
 pub either-false : (a b : Bool) → either a b ≡ false → (a ≡ false) × (b ≡ false)
