@@ -414,7 +414,7 @@ pub fn can_take_back(pins: [Pin; 32], edit: Edit) -> bool
     }
 }
 
-// What a pin holds: nothing but the middle of the board where it is not there.
+// What a pin holds; as if it stood in the middle of the board where it is not there.
 fn held_by(pin: Pin) -> Held
     ensures { λ r. ⌜ r ≡ heldBy pin ⌝ }
 {
