@@ -11,13 +11,13 @@ use Rattle.refusal.specs.Tests.{both, either}
 use Rattle.refusal.proofs.Tests.{both-left, both-right, both-of, either-false, either-no}
 use Rattle.grid.specs.declared.Place.{Place}
 use Rattle.grid.specs.declared.Spot.the-variants as spot
-use Rattle.grid.specs.Place.{inside, tooNear}
+use Rattle.grid.specs.Place.{tooNear}
 use Rattle.grid.proofs.Board.{place-same, place-self}
 use Rattle.drawing.specs.declared.Held.{Held}
 use Rattle.drawing.specs.declared.Stand.{Stand}
 use Rattle.drawing.specs.declared.Stand.the-variants.{Absent, There}
 use Rattle.drawing.specs.declared.Pin.{Pin}
-use Rattle.drawing.specs.Pins.{pins, absent, sameHeld, sameIn, samePin, samePins, meetIn, meets, meetsAny, within, withinIn, allWithin, allApart, settled, lawful, spotIn, spotOf, feedOf}
+use Rattle.drawing.specs.Pins.{pins, absent, sameHeld, sameIn, samePin, samePins, meetIn, meets, meetsAny, within, allWithin, allApart, settled, lawful, spotIn, spotOf, feedOf}
 use Rattle.drawing.proofs.Places.{near-turned}
 
 -- ---- pins that are the same
@@ -178,16 +178,6 @@ settled-lawful l p q e n s =
     lawful-set l p q e (both-left _ _ (sym t ∙ s)) (not-true _ (both-right _ _ (sym t ∙ s)))
 
 -- ---- the feed of a drawing
-
-spot-stand : (s : Stand) (a : Place) → spotIn s ≡ spot.At a → withinIn s ≡ true → inside a ≡ true
-spot-stand Absent a e w = let z : _≡_ {A = ℕ} 0 1 = cc in absurd (omega arith)
-spot-stand (There h) a e w = let p : h .place ≡ a = cc in rw (← p) w
-
--- Every place of a feed is on the board.
-pub feed-inside : (l : List Pin) → lawful l ≡ true → (i : ℕ) (a : Place) → getD (feedOf l) i spot.Absent ≡ spot.At a → inside a ≡ true
-unfolding feedOf spotOf within
-feed-inside l e i a t =
-    spot-stand (getD l i absent .stand) a (sym (List·getD-map spotOf l i absent) ∙ t) (within-at l i (lawful-parts l e .board))
 
 spots-stand : (s t : Stand) (a b : Place) → spotIn s ≡ spot.At a → spotIn t ≡ spot.At b → meetIn s t ≡ false → tooNear a b ≡ false
 spots-stand Absent t a b e f m = let z : _≡_ {A = ℕ} 0 1 = cc in absurd (omega arith)

@@ -4,8 +4,8 @@ use mathlib.Core.List.{List, [], _∷_, reverse, reverse-append}
 use Prim.Native.Nat.{ℕ, _+_, _-_, _<_, _≤_}
 use native.Mathlib.Numerals.{add-one}
 use native.Mathlib.Omega.{arith}
-use lib.ListN.{length, take, drop, getD, length-append, length-reverse, drop-of-length-le}
-use lib.Seq.{take-suc, drop-cons, take-all, length-take-le}
+use lib.ListN.{length, take, getD, length-append, length-reverse}
+use lib.Seq.{take-suc, drop-cons, length-take-le}
 use Rattle.drawing.specs.declared.Edit.{Edit}
 use Rattle.journal.specs.declared.Record.{Record}
 use Rattle.journal.specs.Journal.{own, added}
@@ -15,10 +15,6 @@ use Rattle.journal.proofs.Passing.{turned}
 -- One edit more stands than the first n: the edit of number n, counted from 0, is the latest.
 pub stands-more : {A : Type 0} (l : List A) (n : ℕ) (d : A) → n < length l → reverse (take (n + 1) l) ≡ getD l n d ∷ reverse (take n l)
 stands-more l n d h = rw (add-one, take-suc l n d h) (reverse-append (take n l) (getD l n d ∷ []))
-
--- The edit of number n is the next to redo where the first n stand.
-pub back-less : {A : Type 0} (l : List A) (n : ℕ) (d : A) → n < length l → drop n l ≡ getD l n d ∷ drop (n + 1) l
-back-less l n d h = rw add-one (drop-cons l n d h)
 
 -- The edit of number n is the one that has all but the first n + 1 after it.
 pub counted-back : {A : Type 0} (l : List A) (n : ℕ) (d : A) → n < length l → getD (reverse l) (length l - (n + 1)) d ≡ getD l n d
@@ -30,13 +26,3 @@ counted-back {A = A} l n d h =
 module _ (s k : ℕ) (e : Edit) (l : List Record) (h : k ≤ length (own s l)) where
   pub added-count : length (own s (added s k e l)) ≡ k + 1
   added-count = rw (own-added s k e l) (length-append (take k (own s l)) (e ∷ []) ∙ rw (length-take-le k (own s l) h))
-
-  pub added-stands : reverse (take (k + 1) (own s (added s k e l))) ≡ e ∷ reverse (take k (own s l))
-  added-stands =
-      let a : length (own s (added s k e l)) ≤ k + 1 = omega (arith, added-count) in
-      rw (take-all (k + 1) (own s (added s k e l)) a, own-added s k e l) (reverse-append (take k (own s l)) (e ∷ []))
-
-  pub added-none-back : drop (k + 1) (own s (added s k e l)) ≡ []
-  added-none-back =
-      let a : length (own s (added s k e l)) ≤ k + 1 = omega (arith, added-count) in
-      drop-of-length-le (own s (added s k e l)) a

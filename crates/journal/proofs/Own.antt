@@ -118,10 +118,6 @@ kept-length s (suc k) (r ∷ l) =
     (λ d. rw (kept-past s r l (suc k) d, own-past s r l d) (omega (arith, kept-length s (suc k) l)))
     (same-or-not (r .seat) s)
 
--- No more records are left than there were.
-pub kept-shorter : (s k : ℕ) (l : List Record) → length (kept s k l) ≤ length l
-kept-shorter s k l = omega (arith, kept-length s k l)
-
 -- Where the seat has no edits beyond the first k, nothing is dropped.
 pub kept-all : (s k : ℕ) (l : List Record) → length (own s l) ≤ k → kept s k l ≡ l
 kept-all s k [] h = kept-nil s k
