@@ -2,8 +2,8 @@
 use answer::answer_line;
 use desk::Desk;
 use script::answers::ROOM;
-use script::feed::keep;
-use script::feed::newline;
+use script::windows::keep;
+use script::windows::newline;
 ghost use mathlib.Core.Path.{_≡_};
 ghost use mathlib.Core.Bool.{false};
 ghost use Prim.Native.Nat.{_-_, _≤_};

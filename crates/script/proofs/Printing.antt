@@ -180,8 +180,8 @@ unfolding hexPart
 lent-some [] h = absurd (h refl)
 lent-some (b ∷ rest) h = refl
 
-pub take-least : {A : Type 0} (l : List A) (n : ℕ) → take (min (length l) n) l ≡ take n l
-take-least {A} l n = by (order n (length l))
+pub take-smaller : {A : Type 0} (l : List A) (n : ℕ) → take (min (length l) n) l ≡ take n l
+take-smaller {A} l n = by (order n (length l))
   where
     by : (n ≤ length l) ⊎ (length l < n) → take (min (length l) n) l ≡ take n l
     by (inl h) =

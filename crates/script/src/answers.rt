@@ -1,5 +1,5 @@
 // Answers printed into a lent buffer, a line each: from its start on, with the bytes printed told, or from a position on, with the position after them told.
-use crate::feed::least;
+use crate::windows::smaller;
 use grid::Place;
 use refusal::Carried;
 use refusal::Told;
@@ -314,7 +314,7 @@ pub fn print_written(bytes: usize, buffer: &[u8], out: &mut [u8; ROOM]) -> usize
     ensures { λ r. ⌜ (r ≡ length (writtenLine bytes (now (buffer .entry)))) × (r ≤ room) ⌝ }
     ensures { λ _. ⌜ now (out .exit) ≡ over (writtenLine bytes (now (buffer .entry))) (now (out .entry)) ⌝ }
 {
-    let shown = least(buffer.len(), 1024);
+    let shown = smaller(buffer.len(), 1024);
     let one = put_field(out, 0, b"0 ", bytes);
     let two = put_lent(out, one, &buffer[..shown]);
     put(out, two, b"\n")

@@ -1,6 +1,6 @@
 // The lines of a log read into calls, and answers printed, over bytes.
 pub mod answers;
-pub mod feed;
+pub mod windows;
 mod numbers;
 mod orders;
 mod words;

@@ -16,7 +16,7 @@ use Rattle.wiring.specs.declared.Wiring.{Wiring}
 use Rattle.wiring.specs.declared.Laid.{Laid}
 use Rattle.script.specs.Text.{over}
 use Rattle.script.specs.Answers.{verdictLine, wiredLine, jobLine}
-use Rattle.script.proofs.Printing.{Put, take-least}
+use Rattle.script.proofs.Printing.{Put, take-smaller}
 use Rattle.script.proofs.Steps.{front}
 use Rattle.shown.specs.Shown.{linesOf, runsText, legsText, spotText, pinsText, counted, pinsIn, wiredText, laidText, jobText, mapText}
 
@@ -39,7 +39,7 @@ module _ {A : Type 0} where
   pub first-all : (l : List A) (count n i : ℕ) → length l ≡ n → i ≡ min count n → take i l ≡ take count l
   first-all l count n i h e =
       let m : i ≡ min (length l) count = omega arith in
-      ap (λ (k : ℕ). take k l) m ∙ take-least l count
+      ap (λ (k : ℕ). take k l) m ∙ take-smaller l count
 
 -- One pin more.
 pins-snoc : (k : ℕ) (l : List Spot) (s : Spot) → pinsText k l ++ spotText (k + length l) s ≡ pinsText k (l ++ (s ∷ []))

@@ -10,7 +10,7 @@ use script::answers::print_pin;
 use script::answers::print_run;
 use script::answers::print_verdict;
 use script::answers::print_wired;
-use script::feed::least;
+use script::windows::smaller;
 use wiring::Laid;
 use wiring::Shaped;
 use wiring::Wiring;
@@ -41,7 +41,7 @@ fn put_runs(runs: [Shaped; 31], count: usize, out: &mut [u8; ROOM], at: usize) -
     ensures { λ r. ⌜ (r ≡ at + length (runsText (take count runs))) × (r ≤ at + 1581) ⌝ }
     ensures { λ _. ⌜ now (out .exit) ≡ sets (now (out .entry)) at (runsText (take count runs)) ⌝ }
 {
-    let most = least(count, 31);
+    let most = smaller(count, 31);
     let mut next = at;
     let mut i = 0;
     while i < most {
@@ -69,7 +69,7 @@ fn put_legs(legs: [Leg; 62], count: usize, out: &mut [u8; ROOM], at: usize) -> u
     ensures { λ r. ⌜ (r ≡ at + length (legsText (take count legs))) × (r ≤ at + 5704) ⌝ }
     ensures { λ _. ⌜ now (out .exit) ≡ sets (now (out .entry)) at (legsText (take count legs)) ⌝ }
 {
-    let most = least(count, 62);
+    let most = smaller(count, 62);
     let mut next = at;
     let mut i = 0;
     while i < most {

@@ -17,8 +17,8 @@ Inv-loop count out₀ at legs most next₀ i₀ out next i = ((i ≤ most) × (n
 abbrev μ-loop : tie.MeasureT-loop
 μ-loop count out₀ at legs most next₀ i₀ out next i = most - i
 
-least-requires : tie.Need-least-requires Inv-loop μ-loop
-least-requires c κs = search needs
+smaller-requires : tie.Need-smaller-requires Inv-loop μ-loop
+smaller-requires c κs = search needs
 
 loop-holds : tie.Need-loop-holds Inv-loop μ-loop
 unfolding linesOf
@@ -52,7 +52,7 @@ returns : tie.Need-returns Inv-loop μ-loop
 returns c =
     let s = c .before .before .before .args in
     let q = c .before .loop in
-    let n = c .before .before .least .ensures in
+    let n = c .before .before .smaller .ensures in
     let e = first-all (s .t1) (s .count) 62 (q .i) (omega arith) (omega (arith, n)) in
     let h = put-as (s .out .now) (s .at) (ap (linesOf legText) e) (q .inv .1) in
     ((h .0, omega (arith, n)), h .1)
@@ -63,7 +63,7 @@ put-legs-spec =
     (tie.spec
     Inv-loop
     μ-loop
-    least-requires
+    smaller-requires
     loop-holds
     mul-leg
     array-copy-out-leg

@@ -3,7 +3,7 @@ use mathlib.Core.Path.{sym, _∙_, ap}
 use mathlib.Core.List.{_++_}
 use Prim.Native.Nat.{ℕ}
 use native.Mathlib.Omega.{arith}
-use Rattle.script.proofs.Printing.{put-as, put-all3, line, take-least}
+use Rattle.script.proofs.Printing.{put-as, put-all3, line, take-smaller}
 use Rattle.script.specs.Text.{text}
 use Rattle.script.specs.Answers.{field, hexPart, writtenLine}
 use lib.ListN.{take}
@@ -12,8 +12,8 @@ use borrow.Author.Needs.{needs}
 use Rattle.script.proofs.answers.print_written.Statement.{statement}
 use Rattle.script.proofs.answers.print_written.Tie as tie
 
-least-requires : tie.Need-least-requires
-least-requires c κs = search needs
+smaller-requires : tie.Need-smaller-requires
+smaller-requires c κs = search needs
 
 slice-aggregate-put-field : tie.Need-slice-aggregate-put-field
 slice-aggregate-put-field c = search needs
@@ -22,10 +22,10 @@ put-field-requires : tie.Need-put-field-requires
 put-field-requires c κs = search needs
 
 slice-aggregate-put-lent : tie.Need-slice-aggregate-put-lent
-slice-aggregate-put-lent c = sym (length-take-le (c .before .before .before .before .before .least .result) (c .before .before .before .before .before .before .before .args .buffer .now) (omega (arith, c .before .before .before .before .before .least .ensures)))
+slice-aggregate-put-lent c = sym (length-take-le (c .before .before .before .before .before .smaller .result) (c .before .before .before .before .before .before .before .args .buffer .now) (omega (arith, c .before .before .before .before .before .smaller .ensures)))
 
 put-lent-requires : tie.Need-put-lent-requires
-put-lent-requires c κs = (omega (arith, c .before .before .put-field .ensures .0 .1), omega (arith, c .before .before .before .before .before .least .ensures, length-take-le (c .before .before .before .before .before .least .result) (c .before .before .before .before .before .before .before .args .buffer .now) (omega (arith, c .before .before .before .before .before .least .ensures))))
+put-lent-requires c κs = (omega (arith, c .before .before .put-field .ensures .0 .1), omega (arith, c .before .before .before .before .before .smaller .ensures, length-take-le (c .before .before .before .before .before .smaller .result) (c .before .before .before .before .before .before .before .args .buffer .now) (omega (arith, c .before .before .before .before .before .smaller .ensures))))
 
 slice-aggregate-put : tie.Need-slice-aggregate-put
 slice-aggregate-put c = search needs
@@ -37,7 +37,7 @@ returns : tie.Need-returns
 unfolding writtenLine
 returns c =
     let s = c .before .before .before .before .before .before .before .before .before .before .before .args in
-    let n = c .before .before .before .before .before .before .before .before .before .least .ensures in
+    let n = c .before .before .before .before .before .before .before .before .before .smaller .ensures in
     let a = c .before .before .before .before .before .before .put-field .ensures in
     let b = c .before .before .before .put-lent .ensures in
     let d = c .put .ensures in
@@ -48,7 +48,7 @@ returns c =
     (hexPart (take 1024 (s .buffer .now)))
     (text "\n")
     (a .0 .0, a .1)
-    (put-as (c .before .before .before .before .before .before .put-field .last .0) (c .before .before .before .before .before .before .put-field .result) (ap hexPart (ap (λ (n : ℕ). take n (s .buffer .now)) n ∙ take-least (s .buffer .now) 1024)) (b .0 .0, b .1))
+    (put-as (c .before .before .before .before .before .before .put-field .last .0) (c .before .before .before .before .before .before .put-field .result) (ap hexPart (ap (λ (n : ℕ). take n (s .buffer .now)) n ∙ take-smaller (s .buffer .now) 1024)) (b .0 .0, b .1))
     d) in
     ((h .0, omega (arith, a .0 .1, b .0 .1, d .0)), h .1)
 
@@ -56,7 +56,7 @@ pub print-written-spec : {M : Type 1} → statement M
 print-written-spec =
     tie.close
     (tie.spec
-    least-requires
+    smaller-requires
     slice-aggregate-put-field
     put-field-requires
     slice-aggregate-put-lent

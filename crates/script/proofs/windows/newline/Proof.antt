@@ -1,8 +1,8 @@
 -- `script::newline` meets its contract. Assumes nothing.
 use Rattle.script.proofs.Cutting.{stop-from, stop-within}
 use borrow.Author.Needs.{needs}
-use Rattle.script.proofs.feed.newline.Statement.{statement}
-use Rattle.script.proofs.feed.newline.Tie as tie
+use Rattle.script.proofs.windows.newline.Statement.{statement}
+use Rattle.script.proofs.windows.newline.Tie as tie
 
 stop-at-requires : tie.Need-stop-at-requires
 stop-at-requires c κs = search needs

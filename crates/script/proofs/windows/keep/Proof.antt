@@ -6,9 +6,9 @@ use native.Mathlib.Omega.{arith}
 use lib.ListN.{length, take}
 use lib.Seq.{sets}
 use Rattle.script.proofs.Steps.{front, stored-more}
-use Rattle.script.proofs.Printing.{take-least}
-use Rattle.script.proofs.feed.keep.Statement.{statement}
-use Rattle.script.proofs.feed.keep.Tie as tie
+use Rattle.script.proofs.Printing.{take-smaller}
+use Rattle.script.proofs.windows.keep.Statement.{statement}
+use Rattle.script.proofs.windows.keep.Tie as tie
 
 abbrev Inv-loop : tie.InvT-loop
 Inv-loop line₀ kept bytes n i₀ line i = (i ≤ n) × (line ≡ sets line₀ kept (take i bytes))
@@ -16,23 +16,23 @@ Inv-loop line₀ kept bytes n i₀ line i = (i ≤ n) × (line ≡ sets line₀ 
 abbrev μ-loop : tie.MeasureT-loop
 μ-loop line₀ kept bytes n i₀ line i = n - i
 
-sub-least : tie.Need-sub-least Inv-loop μ-loop
-sub-least c = omega arith
+sub-smaller : tie.Need-sub-smaller Inv-loop μ-loop
+sub-smaller c = omega arith
 
-least-requires : tie.Need-least-requires Inv-loop μ-loop
-least-requires c κs = tt
+smaller-requires : tie.Need-smaller-requires Inv-loop μ-loop
+smaller-requires c κs = tt
 
 loop-holds : tie.Need-loop-holds Inv-loop μ-loop
 loop-holds c = (omega arith, refl)
 
 shared-slice-read-line : tie.Need-shared-slice-read-line Inv-loop μ-loop
-shared-slice-read-line c = omega (arith, c .before .before .before .least .ensures)
+shared-slice-read-line c = omega (arith, c .before .before .before .smaller .ensures)
 
 add-line : tie.Need-add-line Inv-loop μ-loop
-add-line c = omega (arith, c .before .before .before .least .ensures)
+add-line c = omega (arith, c .before .before .before .smaller .ensures)
 
 element-write-line : tie.Need-element-write-line Inv-loop μ-loop
-element-write-line c = omega (arith, c .before .before .before .least .ensures)
+element-write-line c = omega (arith, c .before .before .before .smaller .ensures)
 
 add-i : tie.Need-add-i Inv-loop μ-loop
 add-i c = omega arith
@@ -41,19 +41,19 @@ loop-less : tie.Need-loop-less Inv-loop μ-loop
 loop-less c = omega arith
 
 loop-again : tie.Need-loop-again Inv-loop μ-loop
-loop-again c = (omega arith, rw (c .before .before .loop .inv .1) ((stored-more 0 (c .before .before .before .before .before .args .bytes .now) (c .before .before .before .before .before .args .line .now) (c .before .before .before .before .before .args .kept) (c .before .before .loop .i) (front 0 (c .before .before .before .before .before .args .bytes .now) (c .before .before .loop .i) (omega (arith, c .before .before .before .least .ensures)))) .0))
+loop-again c = (omega arith, rw (c .before .before .loop .inv .1) ((stored-more 0 (c .before .before .before .before .before .args .bytes .now) (c .before .before .before .before .before .args .line .now) (c .before .before .before .before .before .args .kept) (c .before .before .loop .i) (front 0 (c .before .before .before .before .before .args .bytes .now) (c .before .before .loop .i) (omega (arith, c .before .before .before .smaller .ensures)))) .0))
 
 add-result : tie.Need-add-result Inv-loop μ-loop
-add-result c = omega (arith, c .before .before .least .ensures)
+add-result c = omega (arith, c .before .before .smaller .ensures)
 
 -- At the end all bytes that have room are kept.
 whole : (bytes : List ℕ) (room : ℕ) {i n : ℕ} → i ≤ n → n ≤ i → n ≡ min (length bytes) room → take i bytes ≡ take room bytes
 whole bytes room {i} {n} h k e =
     let q : i ≡ min (length bytes) room = omega arith in
-    ap (λ (m : ℕ). take m bytes) q ∙ take-least bytes room
+    ap (λ (m : ℕ). take m bytes) q ∙ take-smaller bytes room
 
 returns : tie.Need-returns Inv-loop μ-loop
-returns c = (omega (arith, c .before .before .least .ensures), c .before .loop .inv .1 ∙ ap (sets (c .before .before .before .before .args .line .now) (c .before .before .before .before .args .kept)) (whole (c .before .before .before .before .args .bytes .now) (16386 - c .before .before .before .before .args .kept) (c .before .loop .inv .0) (c .loop-test .left) (c .before .before .least .ensures)))
+returns c = (omega (arith, c .before .before .smaller .ensures), c .before .loop .inv .1 ∙ ap (sets (c .before .before .before .before .args .line .now) (c .before .before .before .before .args .kept)) (whole (c .before .before .before .before .args .bytes .now) (16386 - c .before .before .before .before .args .kept) (c .before .loop .inv .0) (c .loop-test .left) (c .before .before .smaller .ensures)))
 
 pub keep-spec : {M : Type 1} → statement M
 keep-spec =
@@ -61,8 +61,8 @@ keep-spec =
     (tie.spec
     Inv-loop
     μ-loop
-    sub-least
-    least-requires
+    sub-smaller
+    smaller-requires
     loop-holds
     shared-slice-read-line
     add-line

@@ -17,7 +17,7 @@ pub fn newline(window: &[u8], at: usize) -> usize
 }
 
 // The smaller of two numbers.
-pub fn least(a: usize, b: usize) -> usize
+pub fn smaller(a: usize, b: usize) -> usize
     ensures { λ r. ⌜ r ≡ min a b ⌝ }
 {
     if a < b { a } else { b }
@@ -29,7 +29,7 @@ pub fn keep(line: &mut [u8; 16386], kept: usize, bytes: &[u8]) -> usize
     ensures { λ r. ⌜ r ≡ min (kept + length (now (bytes .entry))) mostKept ⌝ }
     ensures { λ _. ⌜ now (line .exit) ≡ sets (now (line .entry)) kept (take (mostKept - kept) (now (bytes .entry))) ⌝ }
 {
-    let n = least(bytes.len(), 16386 - kept);
+    let n = smaller(bytes.len(), 16386 - kept);
     let mut i = 0;
     while i < n {
         line[kept + i] = bytes[i];
