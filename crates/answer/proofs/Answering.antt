@@ -8,7 +8,7 @@ use lib.ListN.{length, take}
 use Rattle.desk.specs.declared.Desk.{Desk}
 use Rattle.script.specs.declared.Order.{Order}
 use Rattle.script.specs.Text.{over, room}
-use Rattle.script.specs.Numbers.{mostBytes, mostNumbers}
+use Rattle.script.specs.Numbers.{mostPairs, mostNumbers}
 use Rattle.script.specs.Orders.{orderOf, mapOf, acrossOf, upOf}
 use Rattle.answer.specs.Answered.{Holds, followed, played, printed, answered}
 use Rattle.answer.proofs.Ordered.{open-count, bare-counts, first-stored}
@@ -30,7 +30,7 @@ answers d number line old e f h =
 module _ (line : List ℕ) {o : Order} (e : o ≡ orderOf line) where
   -- The map of an opening.
   pub map-lent : {s job n : ℕ} (old : List ℕ) {map : List ℕ} → o ≡ Order.Open s job n → map ≡ over (mapOf line) old
-      → length old ≡ mostBytes → take n map ≡ mapOf line
+      → length old ≡ mostPairs → take n map ≡ mapOf line
   map-lent {n} old f g k =
       let h = open-count line e f in
       ap (take n) g ∙ first-stored old (mapOf line) (h .0) (omega arith)

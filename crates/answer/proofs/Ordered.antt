@@ -13,16 +13,16 @@ use Rattle.refusal.specs.Tests.{both, choose}
 use Rattle.refusal.proofs.Tests.{both-left, both-right}
 use Rattle.script.specs.declared.Order.{Order}
 use Rattle.script.specs.Text.{text, same, over}
-use Rattle.script.specs.Numbers.{most, mostJob, mostBytes, mostNumbers, none, isNumber, listed, isList, bytesOf, isMap}
+use Rattle.script.specs.Numbers.{most, mostJob, mostPairs, mostNumbers, none, isNumber, listed, isList, bytesOf, isMap}
 use Rattle.script.specs.Words.{withoutReturn, wordsOf, word}
-use Rattle.script.specs.Orders.{mostRoom, mostLegs, only, seatCall, pairCall, isOpening, isBaring, isPlacing, opening, baring, lentCall, placeCall, callOf, isSkipped, asked, isLong, orderOf, mapIn, mapAsked, mapOf, listIn, listAsked, acrossOf, upOf}
+use Rattle.script.specs.Orders.{mostRoom, mostLegsLent, only, seatCall, pairCall, isOpening, isBaring, isPlacing, opening, baring, lentCall, placeCall, callOf, isSkipped, asked, isLong, orderOf, mapIn, mapAsked, mapOf, listIn, listAsked, acrossOf, upOf}
 use Rattle.script.proofs.Values.{number-top, map-length, list-row, listed-none, listed-row, row-numbers}
 
 -- What an order says of its map, its lists and its counts.
 unfoldable pub Fair : List ℕ → List ℤ → List ℤ → Order → Type 0
 Fair m xs ys Order.Skip = Unit {0}
 Fair m xs ys Order.NotACall = Unit {0}
-Fair m xs ys (Order.Open s job n) = (n ≡ length m) × (n ≤ mostBytes)
+Fair m xs ys (Order.Open s job n) = (n ≡ length m) × (n ≤ mostPairs)
 Fair m xs ys (Order.Close s) = Unit {0}
 Fair m xs ys (Order.Place s p at) = Unit {0}
 Fair m xs ys (Order.Move s p to) = Unit {0}
@@ -78,7 +78,7 @@ module _ (m : List ℕ) (xs ys : List ℤ) where
       just F tt (isNumber most a)
       (λ e. row F (same name (text "remove")) (λ e. just F tt (isNumber most b) (λ e. tt))
       (λ e. row F (same name (text "write")) (λ e. just F tt (isNumber mostRoom b) (λ e. number-top mostRoom b e))
-      (λ e. row F (same name (text "wire")) (λ e. just F tt (isNumber mostLegs b) (λ e. tt)) (λ e. tt))))
+      (λ e. row F (same name (text "wire")) (λ e. just F tt (isNumber mostLegsLent b) (λ e. tt)) (λ e. tt))))
 
   place-fair : (name a b c d : List ℕ) → Fair m xs ys (placeCall name a b c d)
   unfolding placeCall Fair
@@ -93,7 +93,7 @@ map-read a b c f = both-right (isNumber mostJob b) (isMap c) (both-right (isNumb
 
 lists-read : (a b c : List ℕ) → isBaring a b c ≡ true → both (isList b) (isList c) ≡ true
 unfolding isBaring
-lists-read a b c f = both-right (isNumber mostLegs a) (both (isList b) (isList c)) f
+lists-read a b c f = both-right (isNumber mostLegsLent a) (both (isList b) (isList c)) f
 
 -- Calls of four words.
 lent-fair : (name a b c : List ℕ)
@@ -151,7 +151,7 @@ module _ (line : List ℕ) {o : Order} (e : o ≡ orderOf line) where
   of f = rw (sym e ∙ f) at (fair line)
 
   -- The counts of an order that was read.
-  pub open-count : {s job n : ℕ} → o ≡ Order.Open s job n → (n ≡ length (mapOf line)) × (n ≤ mostBytes)
+  pub open-count : {s job n : ℕ} → o ≡ Order.Open s job n → (n ≡ length (mapOf line)) × (n ≤ mostPairs)
   unfolding Fair
   open-count f = of f
 

@@ -18,7 +18,7 @@ ghost use Rattle.bare.specs.Bare.{bareOf};
 ghost use Rattle.desk.specs.Calls.{opening};
 ghost use Rattle.desk.specs.Desk.{step, wiredOf};
 ghost use Rattle.script.specs.Text.{over, room};
-ghost use Rattle.script.specs.Numbers.{mostBytes, mostNumbers};
+ghost use Rattle.script.specs.Numbers.{mostPairs, mostNumbers};
 ghost use Rattle.script.specs.Orders.{mostRoom};
 ghost use Rattle.script.specs.Answers.{verdictLine};
 ghost use Rattle.shown.specs.Shown.{laidText};
@@ -50,7 +50,7 @@ fn open(
     bytes: usize,
     out: &mut [u8; ROOM],
 ) -> Answer
-    requires { ⌜ bytes ≤ mostBytes ⌝ }
+    requires { ⌜ bytes ≤ mostPairs ⌝ }
     ensures { λ r. ⌜ r .desk ≡ step desk (opening seat job (take bytes (now (map .entry)))) .desk ⌝ }
     ensures { λ r. ⌜ Holds (callText desk (opening seat job (take bytes (now (map .entry))))) (now (out .entry)) (r .bytes) (now (out .exit)) ⌝ }
 {

@@ -24,7 +24,7 @@ use Rattle.script.specs.Text.{text}
 use Rattle.script.specs.Answers.{shown, carriedText, toldLine, verdictLine}
 use Rattle.script.proofs.Steps.{order}
 use Rattle.shown.specs.Shown.{mapText}
-use Rattle.mapped.specs.Mapped.{mostKept, jobIn, openedWith, wiredWith, mapAnswer}
+use Rattle.mapped.specs.Mapped.{mostRead, jobIn, openedWith, wiredWith, mapAnswer}
 use Rattle.mapped.proofs.Opening.{opened, printed-refused}
 
 -- Empty input is a drawing without pins: nothing to wire.
@@ -57,28 +57,28 @@ unfolding toldLine carriedText shown choose
 above-384 input e h = too-long input e h
 
 -- The job is read from what is kept.
-job-kept : (input : List ℕ) → jobIn (take mostKept input) ≡ jobIn input
+job-kept : (input : List ℕ) → jobIn (take mostRead input) ≡ jobIn input
 unfolding jobIn
 job-kept [] = refl
 job-kept (b ∷ []) = refl
 job-kept (b ∷ c ∷ rest) = refl
 
 -- Input that is longer is answered as what is kept of it.
-longer : (input : List ℕ) → mostKept < length input → mapAnswer (take mostKept input) ≡ mapAnswer input
+longer : (input : List ℕ) → mostRead < length input → mapAnswer (take mostRead input) ≡ mapAnswer input
 longer input h = by (eqb (jobIn input) 0) refl
   where
-    by : (t : Bool) → eqb (jobIn input) 0 ≡ t → mapAnswer (take mostKept input) ≡ mapAnswer input
+    by : (t : Bool) → eqb (jobIn input) 0 ≡ t → mapAnswer (take mostRead input) ≡ mapAnswer input
     by true e =
         let z : jobIn input ≡ 0 = eqb-true (jobIn input) 0 e in
-        job-zero (take mostKept input) (job-kept input ∙ z) ∙ sym (job-zero input z)
+        job-zero (take mostRead input) (job-kept input ∙ z) ∙ sym (job-zero input z)
     by false e =
-        too-long (take mostKept input) (ap (λ (j : ℕ). eqb j 0) (job-kept input) ∙ e) (omega (arith, length-take-le mostKept input (omega arith)))
+        too-long (take mostRead input) (ap (λ (j : ℕ). eqb j 0) (job-kept input) ∙ e) (omega (arith, length-take-le mostRead input (omega arith)))
         ∙ sym (too-long input e (omega arith))
 
 -- CUTTING AN INPUT TO 397 BYTES DOES NOT CHANGE ITS ANSWER.
-pub cut : (input : List ℕ) → mapAnswer (take mostKept input) ≡ mapAnswer input
-cut input = by (order (length input) mostKept)
+pub cut : (input : List ℕ) → mapAnswer (take mostRead input) ≡ mapAnswer input
+cut input = by (order (length input) mostRead)
   where
-    by : (length input ≤ mostKept) ⊎ (mostKept < length input) → mapAnswer (take mostKept input) ≡ mapAnswer input
-    by (inl h) = ap mapAnswer (take-all mostKept input h)
+    by : (length input ≤ mostRead) ⊎ (mostRead < length input) → mapAnswer (take mostRead input) ≡ mapAnswer input
+    by (inl h) = ap mapAnswer (take-all mostRead input h)
     by (inr h) = longer input h

@@ -33,6 +33,6 @@ unfoldable pub mapAnswer : List ℕ → List ℕ
 mapAnswer map =
     choose (accepted (openedWith map .verdict)) (mapText (jobIn map) (wiredWith map)) (verdictLine (openedWith map .verdict))
 
--- Of a longer input it is enough to keep so many bytes: they, too, are more than a map has.
-abbrev pub mostKept : ℕ
-mostKept = 397
+-- Of a longer input it is enough to read so many bytes: they, too, are more than a map has.
+abbrev pub mostRead : ℕ
+mostRead = 397

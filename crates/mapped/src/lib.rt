@@ -9,8 +9,8 @@ ghost use lib.ListN.{length};
 ghost use Rattle.script.specs.Text.{over, room};
 ghost use Rattle.mapped.specs.Mapped.{jobIn, mapAnswer};
 
-// Of a longer input it is enough to keep so many bytes (proofs/Inputs.antt).
-pub const MOST_KEPT: usize = 397;
+// Of a longer input it is enough to read so many bytes (proofs/Inputs.antt).
+pub const MOST_READ: usize = 397;
 
 // The most legs that a board has (proofs/Room.antt).
 const MOST_LEGS: usize = 62;

@@ -13,7 +13,7 @@ use Rattle.refusal.specs.Tests.{both, either, choose}
 use Rattle.grid.specs.declared.Place.{Place}
 use Rattle.script.specs.Text.{text, same, over}
 use Rattle.script.specs.Numbers.{most, mostJob, valueOf, isNumber, numberOf, isCoordinate, signed, listed, isList, bytesOf, isMap}
-use Rattle.script.specs.Orders.{mostRoom, mostLegs, only, seatCall, pairCall, isOpening, isBaring, opening, baring, lentCall, isPlacing, placeOf, placingOf, placeCall, callOf, isSkipped, asked, isLong, orderOf, mapIn, listIn, mapAsked, listAsked, mapOf, acrossOf, upOf}
+use Rattle.script.specs.Orders.{mostRoom, mostLegsLent, only, seatCall, pairCall, isOpening, isBaring, opening, baring, lentCall, isPlacing, placeOf, placingOf, placeCall, callOf, isSkipped, asked, isLong, orderOf, mapIn, listIn, mapAsked, listAsked, mapOf, acrossOf, upOf}
 use Rattle.script.specs.Words.{endOf, withoutReturn, wordsOf, word, partOf, cutOf}
 use Rattle.script.specs.declared.Cut.{Cut}
 use Rattle.grid.proofs.Signed.{eqb-same}
@@ -100,11 +100,11 @@ module _ (name a b : List ℕ) where
         only-yes (number-read most a e .0)
         (row-no _ h (row-yes _ i (k ∙ ap (λ (n : ℕ). only (isNumber mostRoom b) (Order.Write n (valueOf b))) (number-read most a e .1))))
 
-    pub pair-wire : same name (text "remove") ≡ false → same name (text "write") ≡ false → same name (text "wire") ≡ true → o ≡ only (isNumber mostLegs b) (Order.Wire s (valueOf b)) → o ≡ pairCall name a b
+    pub pair-wire : same name (text "remove") ≡ false → same name (text "write") ≡ false → same name (text "wire") ≡ true → o ≡ only (isNumber mostLegsLent b) (Order.Wire s (valueOf b)) → o ≡ pairCall name a b
     unfolding pairCall
     pair-wire h i j k =
         only-yes (number-read most a e .0)
-        (row-no _ h (row-no _ i (row-yes _ j (k ∙ ap (λ (n : ℕ). only (isNumber mostLegs b) (Order.Wire n (valueOf b))) (number-read most a e .1)))))
+        (row-no _ h (row-no _ i (row-yes _ j (k ∙ ap (λ (n : ℕ). only (isNumber mostLegsLent b) (Order.Wire n (valueOf b))) (number-read most a e .1)))))
 
   pub pair-none : {s : ℕ} → Number.Of s ≡ numberOf most a → same name (text "remove") ≡ false → same name (text "write") ≡ false → same name (text "wire") ≡ false → Order.NotACall ≡ pairCall name a b
   unfolding pairCall
@@ -151,22 +151,22 @@ module _ (a b c : List ℕ) where
   unfolding baring
   bare-no h = only-no _ h
 
-  pub bare-room : Number.NotOne ≡ numberOf mostLegs a → isBaring a b c ≡ false
+  pub bare-room : Number.NotOne ≡ numberOf mostLegsLent a → isBaring a b c ≡ false
   unfolding isBaring
-  bare-room e = both-first-no _ (number-unread mostLegs a e)
+  bare-room e = both-first-no _ (number-unread mostLegsLent a e)
 
-  module _ {s : ℕ} (e : Number.Of s ≡ numberOf mostLegs a) where
+  module _ {s : ℕ} (e : Number.Of s ≡ numberOf mostLegsLent a) where
     pub bare-across : isList b ≡ false → isBaring a b c ≡ false
     unfolding isBaring
-    bare-across h = both-yes (number-read mostLegs a e .0) (both-first-no _ h)
+    bare-across h = both-yes (number-read mostLegsLent a e .0) (both-first-no _ h)
 
     pub bare-up : {t : Bool} → isList b ≡ true → isList c ≡ t → isBaring a b c ≡ t
     unfolding isBaring
-    bare-up h k = both-yes (number-read mostLegs a e .0) (both-yes h k)
+    bare-up h k = both-yes (number-read mostLegsLent a e .0) (both-yes h k)
 
     pub bare-yes : {m n : ℕ} → isList b ≡ true → isList c ≡ true → m ≡ length (listed b) → n ≡ length (listed c) → Order.Bare s m n ≡ baring a b c
     unfolding baring
-    bare-yes h k p q = only-yes (bare-up h k) (λ i. Order.Bare (number-read mostLegs a e .1 i) (p i) (q i))
+    bare-yes h k p q = only-yes (bare-up h k) (λ i. Order.Bare (number-read mostLegsLent a e .1 i) (p i) (q i))
 
 -- SEAT PIN X Y
 module _ (a b c d : List ℕ) where

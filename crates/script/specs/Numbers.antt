@@ -31,9 +31,9 @@ mostBelow = 2147483648
 abbrev pub beyond : ℕ
 beyond = 4294967296
 
--- A map has up to 4,200 bytes.
-abbrev pub mostBytes : ℕ
-mostBytes = 4200
+-- A map has up to 4,200 pairs of hex digits, a byte each.
+abbrev pub mostPairs : ℕ
+mostPairs = 4200
 
 -- A list has up to 40 numbers.
 abbrev pub mostNumbers : ℕ
@@ -136,4 +136,4 @@ bytesOf (a ∷ b ∷ rest) = (hexValue a * 16 + hexValue b) ∷ bytesOf rest
 
 -- A map is one to 4,200 pairs of hex digits, or - for an empty one.
 unfoldable pub isMap : List ℕ → Bool
-isMap w = either (same w none) (both (ltb 0 (length w)) (both (leb (length w) (mostBytes * 2)) (allPairs w)))
+isMap w = either (same w none) (both (ltb 0 (length w)) (both (leb (length w) (mostPairs * 2)) (allPairs w)))

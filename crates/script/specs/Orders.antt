@@ -26,8 +26,8 @@ abbrev pub mostRoom : ℕ
 mostRoom = 1024
 
 -- The most legs that a call lends.
-abbrev pub mostLegs : ℕ
-mostLegs = 64
+abbrev pub mostLegsLent : ℕ
+mostLegsLent = 64
 
 -- Out of its range it is not a call.
 unfoldable pub only : Bool → Order → Order
@@ -48,7 +48,7 @@ pairCall name a b =
     only (isNumber most a)
     (choose (same name (text "remove")) (only (isNumber most b) (Order.Remove (valueOf a) (valueOf b)))
     (choose (same name (text "write")) (only (isNumber mostRoom b) (Order.Write (valueOf a) (valueOf b)))
-    (choose (same name (text "wire")) (only (isNumber mostLegs b) (Order.Wire (valueOf a) (valueOf b))) Order.NotACall)))
+    (choose (same name (text "wire")) (only (isNumber mostLegsLent b) (Order.Wire (valueOf a) (valueOf b))) Order.NotACall)))
 
 -- The words after open are a seat, a job and a map.
 unfoldable pub isOpening : List ℕ → List ℕ → List ℕ → Bool
@@ -56,7 +56,7 @@ isOpening a b c = both (isNumber most a) (both (isNumber mostJob b) (isMap c))
 
 -- The words after bare are a room and two lists.
 unfoldable pub isBaring : List ℕ → List ℕ → List ℕ → Bool
-isBaring a b c = both (isNumber mostLegs a) (both (isList b) (isList c))
+isBaring a b c = both (isNumber mostLegsLent a) (both (isList b) (isList c))
 
 -- open SEAT JOB MAP.
 unfoldable pub opening : List ℕ → List ℕ → List ℕ → Order

@@ -1,8 +1,8 @@
 // The lines of a log read into calls, and answers printed, over bytes.
 pub mod answers;
-pub mod windows;
 mod numbers;
 mod orders;
+pub mod windows;
 mod words;
 
 use grid::Place;

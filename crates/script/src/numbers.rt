@@ -11,7 +11,7 @@ ghost use lib.IntN.{pos, negℤ};
 ghost use lib.ListN.{length};
 ghost use Rattle.script.specs.Text.{over};
 ghost use Rattle.script.specs.Words.{comma, pieces};
-ghost use Rattle.script.specs.Numbers.{most, mostBytes, mostNumbers, beyond, between as isBetween, allDigits, valueOf, numberOf, hasMinus, isCoordinate, signed, coordinateOf, isRow, listed, isList, isHex, hexValue, allPairs, bytesOf, isMap};
+ghost use Rattle.script.specs.Numbers.{most, mostPairs, mostNumbers, beyond, between as isBetween, allDigits, valueOf, numberOf, hasMinus, isCoordinate, signed, coordinateOf, isRow, listed, isList, isHex, hexValue, allPairs, bytesOf, isMap};
 
 // The largest number of a seat or a pin, and the number that stands for all larger ones.
 pub const MOST: usize = 4294967295;
@@ -276,7 +276,7 @@ fn joined(a: u8, b: u8) -> u8
 
 // Writes the bytes that a word spells from the start on, and answers how many there are.
 pub(crate) fn fill_map(word: &[u8], map: &mut [u8; 4200]) -> usize
-    requires { ⌜ length (now word) ≤ mostBytes * 2 ⌝ }
+    requires { ⌜ length (now word) ≤ mostPairs * 2 ⌝ }
     ensures { λ r. ⌜ r ≡ length (bytesOf (now (word .entry))) ⌝ }
     ensures { λ _. ⌜ now (map .exit) ≡ over (bytesOf (now (word .entry))) (now (map .entry)) ⌝ }
 {

@@ -18,7 +18,7 @@ ghost use lib.Dec.{eqb};
 ghost use Rattle.refusal.specs.Tests.{choose};
 ghost use Rattle.script.specs.Text.{over};
 ghost use Rattle.script.specs.Numbers.{most, isNumber, valueOf, bytesOf, listed};
-ghost use Rattle.script.specs.Orders.{mostRoom, mostLegs, only, seatCall, pairCall, isOpening, isBaring, opening, baring, lentCall, placingOf, placeCall, callOf, isSkipped as skipped, mapIn, listIn};
+ghost use Rattle.script.specs.Orders.{mostRoom, mostLegsLent, only, seatCall, pairCall, isOpening, isBaring, opening, baring, lentCall, placingOf, placeCall, callOf, isSkipped as skipped, mapIn, listIn};
 
 // Two words: close SEAT, undo SEAT, redo SEAT, pins SEAT.
 fn seat_call(name: &[u8], a: &[u8]) -> Order
@@ -64,7 +64,7 @@ fn read_write(seat: usize, b: &[u8]) -> Order
 
 // wire SEAT ROOM
 fn read_wire(seat: usize, b: &[u8]) -> Order
-    ensures { λ r. ⌜ r ≡ only (isNumber mostLegs (now (b .entry))) (Order.Wire seat (valueOf (now (b .entry)))) ⌝ }
+    ensures { λ r. ⌜ r ≡ only (isNumber mostLegsLent (now (b .entry))) (Order.Wire seat (valueOf (now (b .entry)))) ⌝ }
 {
     let Number::Of(room) = number(b, 64) else {
         return Order::NotACall;
