@@ -3,6 +3,9 @@ use desk::Answered;
 use desk::Desk;
 use journal::SEATS;
 use refusal::Verdict;
+use script::MOST_NUMBERS;
+use script::MOST_PAIRS;
+use script::MOST_ROOM;
 use script::Order;
 use script::answers::ROOM;
 use script::answers::print_closed;
@@ -46,7 +49,7 @@ fn open(
     desk: Desk,
     seat: usize,
     job: u16,
-    map: &[u8; 4200],
+    map: &[u8; MOST_PAIRS],
     bytes: usize,
     out: &mut [u8; ROOM],
 ) -> Answer
@@ -75,10 +78,10 @@ fn write_into(desk: Desk, seat: usize, buffer: &mut [u8], out: &mut [u8; ROOM]) 
 }
 
 // The most room that is lent, each byte holding EE.
-fn lent_bytes() -> [u8; 1024]
+fn lent_bytes() -> [u8; MOST_ROOM]
     ensures { λ r. ⌜ r ≡ lentBytes mostRoom ⌝ }
 {
-    [0xEEu8; 1024]
+    [0xEEu8; MOST_ROOM]
 }
 
 // Writes a map into lent room.
@@ -105,9 +108,9 @@ fn wire(desk: Desk, seat: usize, room: usize, out: &mut [u8; ROOM]) -> Answer
 
 // Wires the first numbers of two lists.
 fn wire_bare(
-    xs: &[i32; 40],
+    xs: &[i32; MOST_NUMBERS],
     across: usize,
-    ys: &[i32; 40],
+    ys: &[i32; MOST_NUMBERS],
     up: usize,
     room: usize,
     out: &mut [u8; ROOM],
@@ -151,9 +154,9 @@ pub fn answer_line(desk: Desk, number: usize, line: &[u8], out: &mut [u8; ROOM])
     ensures { λ r. ⌜ r .bytes ≤ room ⌝ }
     ensures { λ _. ⌜ now (out .exit) ≡ over (answered desk number (now (line .entry))) (now (out .entry)) ⌝ }
 {
-    let mut map = [0u8; 4200];
-    let mut xs = [0i32; 40];
-    let mut ys = [0i32; 40];
+    let mut map = [0u8; MOST_PAIRS];
+    let mut xs = [0i32; MOST_NUMBERS];
+    let mut ys = [0i32; MOST_NUMBERS];
     let order = script::read_line(line, &mut map, &mut xs, &mut ys);
     match order {
         Order::Skip => Answer { desk, bytes: 0 },

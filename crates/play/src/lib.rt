@@ -2,6 +2,7 @@
 use answer::answer_line;
 use desk::Desk;
 use script::answers::ROOM;
+use script::windows::MOST_KEPT;
 use script::windows::keep;
 use script::windows::newline;
 ghost use mathlib.Core.Path.{_≡_};
@@ -63,7 +64,7 @@ fn end_line(session: Session, line: &[u8], out: &mut [u8; ROOM]) -> Session
 // Keeps the bytes of a window from `at` up to `to`, where the line ends unless the window does.
 fn take_in(
     session: Session,
-    line: &mut [u8; 16386],
+    line: &mut [u8; MOST_KEPT],
     out: &mut [u8; ROOM],
     window: &[u8],
     at: usize,
@@ -85,7 +86,7 @@ fn take_in(
 // Takes a window in: plays the lines that end in it, and keeps what it has of the next.
 fn play_window(
     session: Session,
-    line: &mut [u8; 16386],
+    line: &mut [u8; MOST_KEPT],
     out: &mut [u8; ROOM],
     window: &[u8],
 ) -> Session
@@ -118,7 +119,7 @@ fn end_input(session: Session, line: &[u8], out: &mut [u8; ROOM]) -> Session
 }
 
 // Reads once, and takes in what came.
-fn play_some(fd: i32, session: Session, line: &mut [u8; 16386], out: &mut [u8; ROOM]) -> Session
+fn play_some(fd: i32, session: Session, line: &mut [u8; MOST_KEPT], out: &mut [u8; ROOM]) -> Session
     requires { ⌜ (session .kept ≤ mostKept) × (session .ended ≡ false) ⌝ }
     ensures { λ r. ⌜ ComesOf (logOf session (now (line .entry)) (now (out .entry))) (logOf r (now (line .exit)) (now (out .exit))) ⌝ }
     ensures { λ r. ⌜ r .kept ≤ mostKept ⌝ }
@@ -134,7 +135,7 @@ fn play_some(fd: i32, session: Session, line: &mut [u8; 16386], out: &mut [u8; R
 
 // Reads to the end of the input, and takes in what comes. Nothing says that an input ends, so the turns are counted down from a
 // number that no run uses up.
-fn play_all(fd: i32, session: Session, line: &mut [u8; 16386], out: &mut [u8; ROOM]) -> Session
+fn play_all(fd: i32, session: Session, line: &mut [u8; MOST_KEPT], out: &mut [u8; ROOM]) -> Session
     requires { ⌜ (session .kept ≤ mostKept) × (session .ended ≡ false) ⌝ }
     ensures { λ r. ⌜ ComesOf (logOf session (now (line .entry)) (now (out .entry))) (logOf r (now (line .exit)) (now (out .exit))) ⌝ }
 {
@@ -151,7 +152,7 @@ fn play_all(fd: i32, session: Session, line: &mut [u8; 16386], out: &mut [u8; RO
 pub fn play_log(fd: i32) -> Session
     ensures { λ r. ⌜ Played r ⌝ }
 {
-    let mut line = [0u8; 16386];
+    let mut line = [0u8; MOST_KEPT];
     let mut out = [0u8; ROOM];
     let desk = Desk::empty();
     let session = Session {

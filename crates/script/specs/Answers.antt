@@ -14,6 +14,7 @@ use Rattle.refusal.specs.declared.Carried.the-variants.{Nothing, Record}
 use Rattle.refusal.specs.declared.Told.{Told}
 use Rattle.grid.specs.declared.Place.{Place}
 use Rattle.script.specs.Text.{text}
+use Rattle.script.specs.Orders.{mostRoom}
 
 -- The decimal digits of a number of at most so many digits.
 unfoldable pub shown : ℕ → ℕ → List ℕ
@@ -65,7 +66,7 @@ hexPart (b ∷ rest) = text " " ++ hex (b ∷ rest)
 
 -- An accepted writing: `0 BYTES HEX`, HEX the lent buffer (a call lends at most 1,024 bytes, and no more are printed); with room 0 the line ends after BYTES.
 unfoldable pub writtenLine : ℕ → List ℕ → List ℕ
-writtenLine bytes buffer = field "0 " bytes ++ hexPart (take 1024 buffer) ++ text "\n"
+writtenLine bytes buffer = field "0 " bytes ++ hexPart (take mostRoom buffer) ++ text "\n"
 
 -- An accepted wiring: `0 length L runs R legs G weighed W`.
 unfoldable pub wiredLine : ℕ → ℕ → ℕ → ℕ → List ℕ

@@ -1,4 +1,5 @@
 // Answers printed into a lent buffer, a line each: from its start on, with the bytes printed told, or from a position on, with the position after them told.
+use crate::MOST_ROOM;
 use crate::windows::smaller;
 use grid::Place;
 use refusal::Carried;
@@ -11,6 +12,7 @@ ghost use lib.IntN.{natAbs};
 ghost use lib.ListN.{length, take};
 ghost use lib.Seq.{sets};
 ghost use Rattle.script.specs.Text.{text, over, room};
+ghost use Rattle.script.specs.Orders.{mostRoom};
 ghost use Rattle.script.specs.Answers.{decimal, integer, placeText, hexDigit, hex, hexPart, carriedText, toldLine, verdictLine, writtenLine, wiredLine, jobLine, runLine, legLine, closedLine, drawingLine, pinLine, strayLine};
 
 // An answer has room for so many bytes.
@@ -298,7 +300,7 @@ pub fn print_verdict(verdict: Verdict, out: &mut [u8; ROOM]) -> usize
 
 // Puts a space and the bytes in hex, or nothing where there are none.
 fn put_lent(out: &mut [u8; ROOM], at: usize, bytes: &[u8]) -> usize
-    requires { ⌜ (at ≤ 30) × (length (now bytes) ≤ 1024) ⌝ }
+    requires { ⌜ (at ≤ 30) × (length (now bytes) ≤ mostRoom) ⌝ }
     ensures { λ r. ⌜ (r ≡ at + length (hexPart (now (bytes .entry)))) × (r ≤ at + 2049) ⌝ }
     ensures { λ _. ⌜ now (out .exit) ≡ sets (now (out .entry)) at (hexPart (now (bytes .entry))) ⌝ }
 {
@@ -314,7 +316,7 @@ pub fn print_written(bytes: usize, buffer: &[u8], out: &mut [u8; ROOM]) -> usize
     ensures { λ r. ⌜ (r ≡ length (writtenLine bytes (now (buffer .entry)))) × (r ≤ room) ⌝ }
     ensures { λ _. ⌜ now (out .exit) ≡ over (writtenLine bytes (now (buffer .entry))) (now (out .entry)) ⌝ }
 {
-    let shown = smaller(buffer.len(), 1024);
+    let shown = smaller(buffer.len(), MOST_ROOM);
     let one = put_field(out, 0, b"0 ", bytes);
     let two = put_lent(out, one, &buffer[..shown]);
     put(out, two, b"\n")

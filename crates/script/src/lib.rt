@@ -15,6 +15,18 @@ ghost use mathlib.Core.Path.{_≡_};
 ghost use Rattle.script.specs.Text.{over};
 ghost use Rattle.script.specs.Orders.{orderOf, mapOf, acrossOf, upOf};
 
+// A line of more bytes is not a call.
+const MOST_LINE: usize = 16384;
+
+// A map has up to so many pairs of hex digits, a byte each.
+pub const MOST_PAIRS: usize = 4200;
+
+// A list has up to so many numbers.
+pub const MOST_NUMBERS: usize = 40;
+
+// The most bytes that a call lends.
+pub const MOST_ROOM: usize = 1024;
+
 // Where a word stands in a line: from its first byte up to the byte after its last.
 pub struct Span {
     pub from: usize,
@@ -102,14 +114,19 @@ pub enum Order {
 
 // Reads a line, without its newline. The map of an opening goes into `map`, the x and y of a bare wiring into `xs` and `ys`,
 // from the start on; any other line leaves them as they were.
-pub fn read_line(line: &[u8], map: &mut [u8; 4200], xs: &mut [i32; 40], ys: &mut [i32; 40]) -> Order
+pub fn read_line(
+    line: &[u8],
+    map: &mut [u8; MOST_PAIRS],
+    xs: &mut [i32; MOST_NUMBERS],
+    ys: &mut [i32; MOST_NUMBERS],
+) -> Order
     ensures { λ r. ⌜ r ≡ orderOf (now (line .entry)) ⌝ }
     ensures { λ _. ⌜ now (map .exit) ≡ over (mapOf (now (line .entry))) (now (map .entry)) ⌝ }
     ensures { λ _. ⌜ now (xs .exit) ≡ over (acrossOf (now (line .entry))) (now (xs .entry)) ⌝ }
     ensures { λ _. ⌜ now (ys .exit) ≡ over (upOf (now (line .entry))) (now (ys .entry)) ⌝ }
 {
     let end = end_of(line);
-    if 16384 < end {
+    if MOST_LINE < end {
         return Order::NotACall;
     }
     let text = &line[..end];

@@ -1,5 +1,7 @@
 // Words read as numbers, as lists of numbers and as bytes.
 use crate::Coordinate;
+use crate::MOST_NUMBERS;
+use crate::MOST_PAIRS;
 use crate::Number;
 use crate::words::same;
 use crate::words::stop_at;
@@ -13,10 +15,20 @@ ghost use Rattle.script.specs.Text.{over};
 ghost use Rattle.script.specs.Words.{comma, pieces};
 ghost use Rattle.script.specs.Numbers.{most, mostPairs, mostNumbers, beyond, between as isBetween, allDigits, valueOf, numberOf, hasMinus, isCoordinate, signed, coordinateOf, isRow, listed, isList, isHex, hexValue, allPairs, bytesOf, isMap};
 
-// The largest number of a seat or a pin, and the number that stands for all larger ones.
-pub const MOST: usize = 4294967295;
+// The largest number of a seat or a pin.
+pub(crate) const MOST: usize = 4294967295;
 
+// One more: it stands for all larger numbers.
 const BEYOND: usize = 4294967296;
+
+// x and y go up to so much.
+const MOST_ABOVE: usize = 2147483647;
+
+// x and y go down to so much below zero.
+const MOST_BELOW: usize = 2147483648;
+
+// A map has up to so many hex digits.
+const MOST_DIGITS: usize = MOST_PAIRS * 2;
 
 // Whether a byte lies from one to another.
 fn between(low: u8, high: u8, b: u8) -> bool
@@ -115,12 +127,12 @@ pub(crate) fn coordinate(word: &[u8]) -> Coordinate
     ensures { λ r. ⌜ r ≡ coordinateOf (now (word .entry)) ⌝ }
 {
     if has_minus(word) {
-        let Number::Of(n) = number(&word[1..], 2147483648) else {
+        let Number::Of(n) = number(&word[1..], MOST_BELOW) else {
             return Coordinate::Unread;
         };
         return Coordinate::At(negated(n));
     }
-    let Number::Of(n) = number(word, 2147483647) else {
+    let Number::Of(n) = number(word, MOST_ABOVE) else {
         return Coordinate::Unread;
     };
     Coordinate::At(n as i32)
@@ -161,7 +173,7 @@ fn is_row(word: &[u8]) -> bool
         count += 1;
         at = to + 1;
     }
-    count <= 40
+    count <= MOST_NUMBERS
 }
 
 // Whether a word is a list of numbers, or a minus for none.
@@ -175,7 +187,7 @@ pub(crate) fn is_list(word: &[u8]) -> bool
 }
 
 // Writes the numbers of a row from the start on, and answers how many there are.
-fn fill_row(word: &[u8], values: &mut [i32; 40]) -> usize
+fn fill_row(word: &[u8], values: &mut [i32; MOST_NUMBERS]) -> usize
     requires { ⌜ isRow (now word) ≡ true ⌝ }
     ensures { λ r. ⌜ r ≡ length (pieces comma (now (word .entry))) ⌝ }
     ensures { λ _. ⌜ now (values .exit) ≡ over (map signed (pieces comma (now (word .entry)))) (now (values .entry)) ⌝ }
@@ -192,7 +204,7 @@ fn fill_row(word: &[u8], values: &mut [i32; 40]) -> usize
 }
 
 // Writes the numbers of a list from the start on, and answers how many there are.
-pub(crate) fn fill_list(word: &[u8], values: &mut [i32; 40]) -> usize
+pub(crate) fn fill_list(word: &[u8], values: &mut [i32; MOST_NUMBERS]) -> usize
     requires { ⌜ isList (now word) ≡ true ⌝ }
     ensures { λ r. ⌜ r ≡ length (listed (now (word .entry))) ⌝ }
     ensures { λ _. ⌜ now (values .exit) ≡ over (listed (now (word .entry))) (now (values .entry)) ⌝ }
@@ -261,7 +273,7 @@ pub(crate) fn is_map(word: &[u8]) -> bool
     if n == 0 {
         return false;
     }
-    if 8400 < n {
+    if MOST_DIGITS < n {
         return false;
     }
     all_pairs(word)
@@ -275,7 +287,7 @@ fn joined(a: u8, b: u8) -> u8
 }
 
 // Writes the bytes that a word spells from the start on, and answers how many there are.
-pub(crate) fn fill_map(word: &[u8], map: &mut [u8; 4200]) -> usize
+pub(crate) fn fill_map(word: &[u8], map: &mut [u8; MOST_PAIRS]) -> usize
     requires { ⌜ length (now word) ≤ mostPairs * 2 ⌝ }
     ensures { λ r. ⌜ r ≡ length (bytesOf (now (word .entry))) ⌝ }
     ensures { λ _. ⌜ now (map .exit) ≡ over (bytesOf (now (word .entry))) (now (map .entry)) ⌝ }

@@ -1,5 +1,8 @@
 // What the words of a line ask for.
 use crate::Coordinate;
+use crate::MOST_NUMBERS;
+use crate::MOST_PAIRS;
+use crate::MOST_ROOM;
 use crate::Number;
 use crate::Order;
 use crate::Placing;
@@ -19,6 +22,12 @@ ghost use Rattle.refusal.specs.Tests.{choose};
 ghost use Rattle.script.specs.Text.{over};
 ghost use Rattle.script.specs.Numbers.{most, isNumber, valueOf, bytesOf, listed};
 ghost use Rattle.script.specs.Orders.{mostRoom, mostLegsLent, only, seatCall, pairCall, isOpening, isBaring, opening, baring, lentCall, placingOf, placeCall, callOf, isSkipped as skipped, mapIn, listIn};
+
+// The most legs that a call lends.
+const MOST_LEGS_LENT: usize = 64;
+
+// The largest job.
+const MOST_JOB: usize = 65535;
 
 // Two words: close SEAT, undo SEAT, redo SEAT, pins SEAT.
 fn seat_call(name: &[u8], a: &[u8]) -> Order
@@ -56,7 +65,7 @@ fn read_remove(seat: usize, b: &[u8]) -> Order
 fn read_write(seat: usize, b: &[u8]) -> Order
     ensures { λ r. ⌜ r ≡ only (isNumber mostRoom (now (b .entry))) (Order.Write seat (valueOf (now (b .entry)))) ⌝ }
 {
-    let Number::Of(room) = number(b, 1024) else {
+    let Number::Of(room) = number(b, MOST_ROOM) else {
         return Order::NotACall;
     };
     Order::Write { seat, room }
@@ -66,7 +75,7 @@ fn read_write(seat: usize, b: &[u8]) -> Order
 fn read_wire(seat: usize, b: &[u8]) -> Order
     ensures { λ r. ⌜ r ≡ only (isNumber mostLegsLent (now (b .entry))) (Order.Wire seat (valueOf (now (b .entry)))) ⌝ }
 {
-    let Number::Of(room) = number(b, 64) else {
+    let Number::Of(room) = number(b, MOST_LEGS_LENT) else {
         return Order::NotACall;
     };
     Order::Wire { seat, room }
@@ -92,14 +101,14 @@ fn pair_call(name: &[u8], a: &[u8], b: &[u8]) -> Order
 }
 
 // open SEAT JOB MAP
-fn read_open(a: &[u8], b: &[u8], c: &[u8], map: &mut [u8; 4200]) -> Order
+fn read_open(a: &[u8], b: &[u8], c: &[u8], map: &mut [u8; MOST_PAIRS]) -> Order
     ensures { λ r. ⌜ r ≡ opening (now (a .entry)) (now (b .entry)) (now (c .entry)) ⌝ }
     ensures { λ _. ⌜ now (map .exit) ≡ over (choose (isOpening (now (a .entry)) (now (b .entry)) (now (c .entry))) (bytesOf (now (c .entry))) []) (now (map .entry)) ⌝ }
 {
     let Number::Of(seat) = number(a, MOST) else {
         return Order::NotACall;
     };
-    let Number::Of(job) = number(b, 65535) else {
+    let Number::Of(job) = number(b, MOST_JOB) else {
         return Order::NotACall;
     };
     if !is_map(c) {
@@ -114,12 +123,18 @@ fn read_open(a: &[u8], b: &[u8], c: &[u8], map: &mut [u8; 4200]) -> Order
 }
 
 // bare ROOM XS YS
-fn read_bare(a: &[u8], b: &[u8], c: &[u8], xs: &mut [i32; 40], ys: &mut [i32; 40]) -> Order
+fn read_bare(
+    a: &[u8],
+    b: &[u8],
+    c: &[u8],
+    xs: &mut [i32; MOST_NUMBERS],
+    ys: &mut [i32; MOST_NUMBERS],
+) -> Order
     ensures { λ r. ⌜ r ≡ baring (now (a .entry)) (now (b .entry)) (now (c .entry)) ⌝ }
     ensures { λ _. ⌜ now (xs .exit) ≡ over (choose (isBaring (now (a .entry)) (now (b .entry)) (now (c .entry))) (listed (now (b .entry))) []) (now (xs .entry)) ⌝ }
     ensures { λ _. ⌜ now (ys .exit) ≡ over (choose (isBaring (now (a .entry)) (now (b .entry)) (now (c .entry))) (listed (now (c .entry))) []) (now (ys .entry)) ⌝ }
 {
-    let Number::Of(room) = number(a, 64) else {
+    let Number::Of(room) = number(a, MOST_LEGS_LENT) else {
         return Order::NotACall;
     };
     if !is_list(b) {
@@ -184,9 +199,9 @@ fn lent_call(
     a: &[u8],
     b: &[u8],
     c: &[u8],
-    map: &mut [u8; 4200],
-    xs: &mut [i32; 40],
-    ys: &mut [i32; 40],
+    map: &mut [u8; MOST_PAIRS],
+    xs: &mut [i32; MOST_NUMBERS],
+    ys: &mut [i32; MOST_NUMBERS],
 ) -> Order
     ensures { λ r. ⌜ r ≡ lentCall (now (name .entry)) (now (a .entry)) (now (b .entry)) (now (c .entry)) ⌝ }
     ensures { λ _. ⌜ now (map .exit) ≡ over (mapIn (now (name .entry)) (now (a .entry)) (now (b .entry)) (now (c .entry))) (now (map .entry)) ⌝ }
@@ -210,9 +225,9 @@ pub(crate) fn read_call(
     b: &[u8],
     c: &[u8],
     d: &[u8],
-    map: &mut [u8; 4200],
-    xs: &mut [i32; 40],
-    ys: &mut [i32; 40],
+    map: &mut [u8; MOST_PAIRS],
+    xs: &mut [i32; MOST_NUMBERS],
+    ys: &mut [i32; MOST_NUMBERS],
 ) -> Order
     ensures { λ r. ⌜ r ≡ callOf count (now (name .entry)) (now (a .entry)) (now (b .entry)) (now (c .entry)) (now (d .entry)) ⌝ }
     ensures { λ _. ⌜ now (map .exit) ≡ over (choose (eqb count 4) (mapIn (now (name .entry)) (now (a .entry)) (now (b .entry)) (now (c .entry))) []) (now (map .entry)) ⌝ }

@@ -7,6 +7,9 @@ ghost use lib.Seq.{sets};
 ghost use Rattle.script.specs.Words.{newline as newlineByte, stopAt};
 ghost use Rattle.script.specs.Orders.{mostKept};
 
+// Of a longer line it is enough to keep so many bytes.
+pub const MOST_KEPT: usize = 16386;
+
 // Where the next newline from `at` on stands in a window, or the window's end.
 pub fn newline(window: &[u8], at: usize) -> usize
     requires { ⌜ at ≤ length (now window) ⌝ }
@@ -24,12 +27,12 @@ pub fn smaller(a: usize, b: usize) -> usize
 }
 
 // Keeps bytes of a line after those kept so far, as far as the room goes, and answers how many are kept now.
-pub fn keep(line: &mut [u8; 16386], kept: usize, bytes: &[u8]) -> usize
+pub fn keep(line: &mut [u8; MOST_KEPT], kept: usize, bytes: &[u8]) -> usize
     requires { ⌜ kept ≤ mostKept ⌝ }
     ensures { λ r. ⌜ r ≡ min (kept + length (now (bytes .entry))) mostKept ⌝ }
     ensures { λ _. ⌜ now (line .exit) ≡ sets (now (line .entry)) kept (take (mostKept - kept) (now (bytes .entry))) ⌝ }
 {
-    let n = smaller(bytes.len(), 16386 - kept);
+    let n = smaller(bytes.len(), MOST_KEPT - kept);
     let mut i = 0;
     while i < n {
         line[kept + i] = bytes[i];
