@@ -1,4 +1,4 @@
-// A second `replay`, in plain C, written from the rules alone: it plays a log of calls on one desk and prints each answer.
+// A second `replay`, in plain C, written from the rules: it plays a log of calls on one desk and prints each answer.
 // Nothing here is proved. The proved program is compared with it, for its answers and for its time.
 // Built with -DEVERY_CHOICE it finds the shapes by trying every choice, on boards of at most EVERY_CHOICE bent runs.
 #include <stdbool.h>
