@@ -128,19 +128,18 @@ fn wire_bare(
 fn show_pins(desk: Desk, seat: usize, out: &mut [u8; ROOM]) -> usize
     ensures { λ r. ⌜ Holds (seatText desk seat) (now (out .entry)) r (now (out .exit)) ⌝ }
 {
-    let d = desk;
-    if !d.is_sound() {
+    if !desk.is_sound() {
         return print_verdict(Verdict::DeskBroken, out);
     }
     if SEATS <= seat {
         return print_verdict(Verdict::SeatAbove, out);
     }
-    let s = d.seats[seat];
+    let s = desk.seats[seat];
     if !s.opened {
         return print_closed(out);
     }
-    let records = d.journal;
-    let used = d.used;
+    let records = desk.journal;
+    let used = desk.used;
     let owned = journal::count_of(records, used, seat);
     let pins = s.pins;
     let feed = drawing::feed(pins);

@@ -13,7 +13,8 @@ use Rattle.grid.proofs.Signed.{off}
 use Rattle.copper.specs.Length.{Step, across, up, sameStep, among, different}
 use Rattle.copper_laws.proofs.Numbers.{Low, back, back-off, same-back}
 use Rattle.copper_laws.proofs.Sums.{oneIf, sumBelow, sum-same, sum-none, sum-only}
-use Rattle.copper_laws.proofs.Tests.{never-both, and-left, and-right}
+use Rattle.refusal.proofs.Tests.{opposite}
+use Rattle.copper_laws.proofs.Tests.{and-left, and-right}
 use Rattle.copper_laws.proofs.Cover.{Stride, along, rise, over}
 use Rattle.copper_laws.proofs.Star.{over-same, over-add}
 
@@ -52,8 +53,8 @@ same-stride : (σ τ : Stride) → sameStride σ τ ≡ true → σ ≡ τ
 unfolding sameStride
 same-stride (along x y) (along v w) e =
     ap₂ along (eqb-true x v (and-left (eqb x v) (eqb y w) e)) (eqb-true y w (and-right (eqb x v) (eqb y w) e))
-same-stride (along x y) (rise v w) e = absurd (never-both e refl)
-same-stride (rise x y) (along v w) e = absurd (never-both e refl)
+same-stride (along x y) (rise v w) e = absurd (opposite e refl)
+same-stride (rise x y) (along v w) e = absurd (opposite e refl)
 same-stride (rise x y) (rise v w) e =
     ap₂ rise (eqb-true x v (and-left (eqb x v) (eqb y w) e)) (eqb-true y w (and-right (eqb x v) (eqb y w) e))
 

@@ -12,7 +12,8 @@ use Rattle.grid.proofs.Flat.{Site, span}
 use Rattle.copper.specs.declared.Arms.{Arms}
 use Rattle.copper.specs.Arms.{noArms, longest, spread}
 use Rattle.copper_laws.proofs.Sums.{oneIf, sumBelow, sum-same, sum-none, sum-only, sum-pair}
-use Rattle.copper_laws.proofs.Tests.{never-both, and-left, and-right, and-both, or-which, or-left, or-right, fails-if, same-test}
+use Rattle.refusal.proofs.Tests.{opposite, fails-if}
+use Rattle.copper_laws.proofs.Tests.{and-left, and-right, and-both, or-which, or-left, or-right, same-test}
 use Rattle.copper_laws.proofs.Least.{entered, shown}
 use Rattle.copper_laws.proofs.Cover.{Stride, covers, straight, some, over, coversOf, covered, gridLength}
 use Rattle.copper_laws.proofs.Sharing.{
@@ -65,7 +66,7 @@ use Rattle.copper_laws.proofs.Star.{
 -- A test that holds of some number below n.
 some-of : (n : ℕ) (f : ℕ → Bool) → some n f ≡ true → (r : ℕ) × (r < n) × (f r ≡ true)
 unfolding some
-some-of zero f e = absurd (never-both e refl)
+some-of zero f e = absurd (opposite e refl)
 some-of (suc n) f e = go (or-which (f n) (some n f) e) (some-of n f)
   where
     go : (f n ≡ true) ⊎ (some n f ≡ true) → (some n f ≡ true → (r : ℕ) × (r < n) × (f r ≡ true)) → (r : ℕ) × (r < suc n) × (f r ≡ true)
@@ -427,9 +428,9 @@ module _ (at : ℕ → Site) (near : ℕ → ℕ) where
         bend : (r p : ℕ) → r < n → Arm r p σ → some n (straightOn σ) ≡ false → Goal true
         bend r p l h no-mark =
             let ns : (q : ℕ) → q < n → Covering q σ → isStraightRun q ≡ false =
-            λ q k c. fails-if (isStraightRun q) (λ z. never-both (some-holds n (straightOn σ) q k (and-both (isStraightRun q) (coversOf at near q (s q) σ) z c)) no-mark) in
+            λ q k c. fails-if (isStraightRun q) (λ z. opposite (some-holds n (straightOn σ) q k (and-both (isStraightRun q) (coversOf at near q (s q) σ) z c)) no-mark) in
             let c1 : oneIf (pinsOn σ p) ≡ 1 = oneIf-one (pin-is r p σ l h) in
-            let c2 = sum-none n (λ q. oneIf (straightOn σ q)) (λ q k. oneIf-none (straightOn σ q) (λ z. never-both (some-holds n (straightOn σ) q k z) no-mark)) in
+            let c2 = sum-none n (λ q. oneIf (straightOn σ q)) (λ q k. oneIf-none (straightOn σ q) (λ z. opposite (some-holds n (straightOn σ) q k z) no-mark)) in
             let c3 = sum-only (suc n) p (λ i. oneIf (pinsOn σ i)) (arm-in l h) (λ i k ne. oneIf-none (pinsOn σ i) (pin-only r p σ l h ns i k ne)) in
             omega (arith, c1, c2, c3)
 
@@ -439,16 +440,16 @@ module _ (at : ℕ → Site) (near : ℕ → ℕ) where
             line (f .0) (f .1) (and-left (isStraightRun (f .0)) (coversOf at near (f .0) (s (f .0)) σ) (f .2)) (and-right (isStraightRun (f .0)) (coversOf at near (f .0) (s (f .0)) σ) (f .2))
         go true false a b =
             let f = some-of n (straightOn σ) a in
-            absurd (never-both (some-holds n (λ r. coversOf at near r (s r) σ) (f .0) (f .1) (and-right (isStraightRun (f .0)) (coversOf at near (f .0) (s (f .0)) σ) (f .2))) b)
+            absurd (opposite (some-holds n (λ r. coversOf at near r (s r) σ) (f .0) (f .1) (and-right (isStraightRun (f .0)) (coversOf at near (f .0) (s (f .0)) σ) (f .2))) b)
         go false true a b =
             let f = some-of n (λ r. coversOf at near r (s r) σ) b in
             let h = has-arm (f .0) σ (f .2) in
             bend (f .0) (h .0) (f .1) (h .1) a
         go false false a b =
-            let c1 = sum-none n (λ q. oneIf (straightOn σ q)) (λ q k. oneIf-none (straightOn σ q) (λ z. never-both (some-holds n (straightOn σ) q k z) a)) in
+            let c1 = sum-none n (λ q. oneIf (straightOn σ q)) (λ q k. oneIf-none (straightOn σ q) (λ z. opposite (some-holds n (straightOn σ) q k z) a)) in
             let c2 =
             sum-none (suc n) (λ i. oneIf (pinsOn σ i))
-            (λ i k. oneIf-none (pinsOn σ i) (λ z. let f = pin-true i n σ k (omega arith) z in never-both (some-holds n (λ r. coversOf at near r (s r) σ) (f .0) (f .1) (arm-covers (f .2))) b))
+            (λ i k. oneIf-none (pinsOn σ i) (λ z. let f = pin-true i n σ k (omega arith) z in opposite (some-holds n (λ r. coversOf at near r (s r) σ) (f .0) (f .1) (arm-covers (f .2))) b))
             in
             omega (arith, c1, c2)
 

@@ -18,7 +18,8 @@ use Rattle.copper.specs.declared.Leg.{Leg}
 use Rattle.copper.specs.Length.{Step, across, up, sameStep, stepsAcross, stepsUp, smaller, stepsOf, stepsOfAll, among, lengthOf}
 use Rattle.copper_laws.proofs.Numbers.{Low, low-held, back, next-off, same-back, same-off, smaller-off, smaller-low, reach-off}
 use Rattle.copper_laws.proofs.Sums.{oneIf}
-use Rattle.copper_laws.proofs.Tests.{and-left, and-right, and-both, or-which, fails-if, same-test}
+use Rattle.refusal.proofs.Tests.{fails-if}
+use Rattle.copper_laws.proofs.Tests.{and-left, and-right, and-both, or-which, same-test}
 use Rattle.copper_laws.proofs.Cover.{Stride, along, rise, covers, over}
 use Rattle.copper_laws.proofs.Star.{over-same, Within}
 use Rattle.copper_laws.proofs.Counted.{both-is, either-is, strideOf, stepAt, Each, none, more, each-join, counted}

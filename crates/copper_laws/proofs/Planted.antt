@@ -11,7 +11,7 @@ use lib.Dec.{eqb}
 use lib.ListN.{length, getD}
 use borrow.Author.Tests.{eq-eqb, ne-eqb}
 use Rattle.refusal.specs.Tests.{either, choose}
-use Rattle.refusal.proofs.Tests.{both-of}
+use Rattle.refusal.proofs.Tests.{both-of, opposite}
 use Rattle.grid.specs.declared.Place.{Place}
 use Rattle.grid.specs.declared.Spot.{Spot}
 use Rattle.grid.specs.Place.{sameNumber, samePlace}
@@ -24,11 +24,10 @@ use Rattle.tree.proofs.Membership.{Among, first, later}
 use Rattle.tree.proofs.Numbering.{siteAt, keyAt, stands, fits, keyed}
 use Rattle.tree.proofs.Branches.{HasRun, here, further}
 use Rattle.tree.proofs.Listing.{nearAt, farAt, runs-rooted, runs-grown, pins-low}
-use Rattle.tree.proofs.Spanning.{in-turned, has-run}
+use Rattle.tree.proofs.Spanning.{in-turned, has-run, entry-in}
 use Rattle.tree.proofs.Neighbours.{Joined, onward, backward, beyond, neighbours}
 use Rattle.tree.proofs.FourPins.{InBox, key-span}
 use Rattle.tree.proofs.Boxes.{point-shared, clash-apart, no-clash}
-use Rattle.copper_laws.proofs.Tests.{never-both}
 use Rattle.copper_laws.proofs.Numbers.{low-held, same-off}
 use Rattle.copper_laws.proofs.Sharing.{Same}
 use Rattle.copper_laws.proofs.Laid.{Joins, out, back, Laid}
@@ -41,11 +40,6 @@ run-onward (further h) = beyond (run-onward h)
 run-backward : {s t : ℕ} {rs : List Run} → HasRun s t rs → Joined t s rs
 run-backward (here e f) = backward f e
 run-backward (further h) = beyond (run-backward h)
-
-entry-among : (l : List Run) (r : ℕ) → r < length l → Among (getD l r (run 0 0)) l
-entry-among [] r h = absurd (omega arith)
-entry-among (q ∷ l) zero h = first refl
-entry-among (q ∷ l) (suc r) h = later (entry-among l r (omega arith))
 
 -- Two runs none of whose ends agree have no common pin.
 no-common : (r s : Run) → (r .near ≡ s .near → ⊥) → (r .near ≡ s .far → ⊥) → (r .far ≡ s .near → ⊥) → (r .far ≡ s .far → ⊥) → common r s ≡ false
@@ -148,7 +142,7 @@ module _ (feed : List Spot) (full : length feed ≡ 32) (ok : allInside feed ≡
 
     in-list : (r : ℕ) → r < length runs → HasRun (pinAt (near r)) (pinAt (suc r)) (reverseAux runs [])
     unfolding pinAt
-    in-list r l = rw (from r l) (has-run (in-turned runs (inl (entry-among runs r l))))
+    in-list r l = rw (from r l) (has-run (in-turned runs (inl (entry-in runs r l))))
 
     joined : (r i j : ℕ) → r < length runs → Joins near r i j → Joined (pinAt i) (pinAt j) (reverseAux runs [])
     joined r i j l (out a b) = rw (a, b) (run-onward (in-list r l))
@@ -198,7 +192,7 @@ module _ (feed : List Spot) (full : length feed ≡ 32) (ok : allInside feed ≡
         let shared = point-shared (placeOf (spotAt feed (end r .near))) (placeOf (spotAt feed (end r .far))) (placeOf (spotAt feed (end q .near))) (placeOf (spotAt feed (end q .far)))
         (stands feed ok (end r .near) .held) (stands feed ok (end r .far) .held) (stands feed ok (end q .near) .held) (stands feed ok (end q .far) .held)
         (record { point = p; in-first = box r p er h; in-second = box q p eq k }) in
-        never-both shared none
+        opposite shared none
 
     -- The runs are laid as the length asks.
     pub planted : Laid (λ i. site (placeAt i)) near (length runs)

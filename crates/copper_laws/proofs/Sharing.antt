@@ -60,7 +60,8 @@ second-first i j t t' (row-first p q n) (in-column e f l h) (in-column e' f' l' 
 second-first i j t t' (column-first p q n) (in-row e f l h) (in-row e' f' l' h') = n (omega arith)
 second-first i j t t' (column-first p q n) (in-column e f l h) (in-column e' f' l' h') = omega arith
 
-gap-same : (a b : ℕ) → a ≡ b → gap a b ≡ 0
+-- There is no gap between a number and itself.
+pub gap-same : (a b : ℕ) → a ≡ b → gap a b ≡ 0
 gap-same a b e = omega (arith, gap-up a b (omega arith))
 
 -- A stride at v between a and b: b lies on its side of a.

@@ -10,9 +10,10 @@ use Rattle.grid.proofs.Flat.{order, Site, gap, span}
 use Rattle.copper.specs.declared.Arms.{Arms}
 use Rattle.copper.specs.Arms.{noArms, longest, spread}
 use Rattle.copper_laws.proofs.Sums.{oneIf, sumBelow, sum-same, sum-add, sum-none, sum-only}
-use Rattle.copper_laws.proofs.Tests.{never-both, and-left, and-right, and-both, or-which, or-left, or-right, same-test}
+use Rattle.refusal.proofs.Tests.{opposite}
+use Rattle.copper_laws.proofs.Tests.{and-left, and-right, and-both, or-which, or-left, or-right, same-test}
 use Rattle.copper_laws.proofs.Cover.{Stride, along, rise, covers, over}
-use Rattle.copper_laws.proofs.Sharing.{On, in-row, in-column, on-of, on-covers}
+use Rattle.copper_laws.proofs.Sharing.{On, in-row, in-column, on-of, on-covers, gap-same}
 
 -- The leg from p to t reaches in one direction only.
 unfoldable pub armTo : Site → Site → Arms
@@ -60,7 +61,7 @@ arm-line p t x false l h = absurd (omega arith)
 
 line-arm : (p t x : ℕ) (b : Bool) → b ≡ true → min p t ≤ x → x < max p t → (p ≤ x + cond b (p - t) 0) × (x < p + cond b (t - p) 0)
 line-arm p t x true e l h = (omega arith, omega arith)
-line-arm p t x false e l h = absurd (never-both e refl)
+line-arm p t x false e l h = absurd (opposite e refl)
 
 star-arm : (p t : Site) {s : Stride} → Star p (armTo p t) s → On p t s
 unfolding armTo
@@ -251,18 +252,14 @@ no-arm false p t e = (refl, refl)
 an-arm : (p t : ℕ) (b : Bool) → b ≡ true → cond b (t - p) 0 + cond b (p - t) 0 ≡ gap p t
 unfolding gap
 an-arm p t true e = omega arith
-an-arm p t false e = absurd (never-both e refl)
-
-no-gap : (p t : ℕ) → p ≡ t → gap p t ≡ 0
-unfolding gap
-no-gap p t e = omega arith
+an-arm p t false e = absurd (opposite e refl)
 
 -- The arms of a straight leg together are its length.
 pub spread-arm : (p t : Site) → (p .x ≡ t .x) ⊎ (p .y ≡ t .y) → spread (armTo p t) ≡ span p t
 unfolding spread armTo span
 spread-arm p t (inl e) =
     let z = no-arm (eqb (t .y) (p .y)) (p .x) (t .x) e in
-    omega (arith, z .0, z .1, no-gap (p .x) (t .x) e, an-arm (p .y) (t .y) (eqb (t .x) (p .x)) (eq-eqb (t .x) (p .x) (sym e)))
+    omega (arith, z .0, z .1, gap-same (p .x) (t .x) e, an-arm (p .y) (t .y) (eqb (t .x) (p .x)) (eq-eqb (t .x) (p .x) (sym e)))
 spread-arm p t (inr e) =
     let z = no-arm (eqb (t .x) (p .x)) (p .y) (t .y) e in
-    omega (arith, z .0, z .1, no-gap (p .y) (t .y) e, an-arm (p .x) (t .x) (eqb (t .y) (p .y)) (eq-eqb (t .y) (p .y) (sym e)))
+    omega (arith, z .0, z .1, gap-same (p .y) (t .y) e, an-arm (p .x) (t .x) (eqb (t .y) (p .y)) (eq-eqb (t .y) (p .y) (sym e)))

@@ -2,12 +2,7 @@
 use mathlib.Core.Path.{_≡_, refl, sym}
 use mathlib.Core.Bool.{Bool, true, false, _&&_, _||_}
 use mathlib.Core.Logic.{_⊎_, inl, inr}
-use Prim.Native.Nat.{ℕ}
-use native.Mathlib.Omega.{arith}
-
--- No test holds and fails.
-pub never-both : {t : Bool} → t ≡ true → t ≡ false → ⊥
-never-both e f = let z : _≡_ {A = ℕ} 0 1 = cc in omega arith
+use Rattle.refusal.proofs.Tests.{opposite}
 
 pub and-left : (a b : Bool) → (a && b) ≡ true → a ≡ true
 and-left true b e = refl
@@ -15,7 +10,7 @@ and-left false b e = e
 
 pub and-right : (a b : Bool) → (a && b) ≡ true → b ≡ true
 and-right true b e = e
-and-right false b e = absurd (never-both {t = false} e refl)
+and-right false b e = absurd (opposite {t = false} e refl)
 
 pub and-both : (a b : Bool) → a ≡ true → b ≡ true → (a && b) ≡ true
 and-both true b e f = f
@@ -27,20 +22,15 @@ or-which false b e = inr e
 
 pub or-left : (a b : Bool) → a ≡ true → (a || b) ≡ true
 or-left true b e = refl
-or-left false b e = absurd (never-both e refl)
+or-left false b e = absurd (opposite e refl)
 
 pub or-right : (a b : Bool) → b ≡ true → (a || b) ≡ true
 or-right true b e = refl
 or-right false b e = e
 
 pub or-neither : (a b : Bool) → (a || b) ≡ false → (a ≡ false) × (b ≡ false)
-or-neither true b e = absurd (never-both refl e)
+or-neither true b e = absurd (opposite refl e)
 or-neither false b e = (refl, e)
-
--- What does not hold fails.
-pub fails-if : (t : Bool) → (t ≡ true → ⊥) → t ≡ false
-fails-if true h = absurd (h refl)
-fails-if false h = refl
 
 -- Two tests that hold together are the same.
 pub same-test : (a b : Bool) → (a ≡ true → b ≡ true) → (b ≡ true → a ≡ true) → a ≡ b

@@ -57,7 +57,8 @@ pub record Fits (a : Site) (i : ℕ) : Type 0 where
   pub y : a .y < 17179869184
   pub number : i < 17179869184
 
-low : (n : ℕ) → down n < 17179869184
+-- A number going down fits a digit.
+pub low : (n : ℕ) → down n < 17179869184
 low n = omega arith
 
 both-numbers : (i j k l : ℕ) → min i j ≡ min k l → max i j ≡ max k l → ((i ≡ k) × (j ≡ l)) ⊎ ((i ≡ l) × (j ≡ k))

@@ -7,6 +7,11 @@ use Rattle.refusal.specs.Tests.{both, either, choose}
 pub opposite : {t : Bool} → t ≡ true → t ≡ false → ⊥
 opposite e f = true≢false (sym e ∙ f)
 
+-- What does not hold fails.
+pub fails-if : (t : Bool) → (t ≡ true → ⊥) → t ≡ false
+fails-if true h = absurd (h refl)
+fails-if false h = refl
+
 -- Where both hold, each holds.
 pub both-left : (a b : Bool) → both a b ≡ true → a ≡ true
 unfolding both

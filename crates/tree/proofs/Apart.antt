@@ -1,7 +1,7 @@
 -- THE BOXES OF TWO RUNS WITHOUT A COMMON PIN SHARE NO POINT, so 18 is never given. Each of the two runs comes before a pair that crosses over to the other
 -- run, on its own side of it; four such pins are apart. From pins that stand on the board.
 use mathlib.Core.Path.{_≡_, refl, sym, ap, _∙_}
-use mathlib.Core.Bool.{Bool, true, false, not}
+use mathlib.Core.Bool.{true, false, not}
 use mathlib.Core.List.{List, [], _∷_, reverseAux}
 use mathlib.Core.Logic.{_⊎_, inl, inr}
 use Prim.Native.Nat.{ℕ, _<_}
@@ -12,7 +12,7 @@ use lib.ListN.{length}
 use borrow.Author.Tests.{eqb-false}
 use Rattle.refusal.specs.Tests.{both, either}
 use Rattle.refusal.specs.declared.Verdict.the-variants.{Accepted}
-use Rattle.refusal.proofs.Tests.{both-no, both-yes, either-right, choose-no}
+use Rattle.refusal.proofs.Tests.{fails-if, both-no, both-yes, either-right, choose-no}
 use Rattle.grid.specs.declared.Spot.{Spot}
 use Rattle.grid.proofs.Flat.{Site}
 use Rattle.tree.specs.declared.Run.{Run}
@@ -151,14 +151,6 @@ module _ (feed : List Spot) (full : length feed ≡ 32) (ok : allInside feed ≡
       go (inr p) (inr q) = beside s t s' t' h h' n1 n2 n3 n4 p q m
 
 -- ---- the theorem
--- A test of boxes that holds is one too many.
-share-no : {t : Bool} → (t ≡ true → ⊥) → t ≡ false
-share-no {t} n = go (decide t)
-  where
-    go : (t ≡ true) ⊎ (t ≡ false) → t ≡ false
-    go (inl e) = absurd (n e)
-    go (inr e) = e
-
 -- Runs without a common pin have four different ends.
 record FourEnds (r s : Run) : Type 0 where
   near-near : r .near ≡ s .near → ⊥
@@ -183,7 +175,7 @@ module _ (feed : List Spot) (full : length feed ≡ 32) (ok : allInside feed ≡
   -- THE BOXES OF TWO RUNS WITHOUT A COMMON PIN SHARE NO POINT.
   pub boxes-apart : (r s : Run) → Among r (runsOf feed) → Among s (runsOf feed) → common r s ≡ false
       → boxesShare (placeOf (spotAt feed (r .near))) (placeOf (spotAt feed (r .far))) (placeOf (spotAt feed (s .near))) (placeOf (spotAt feed (s .far))) ≡ false
-  boxes-apart r s hr hs c = share-no (λ b. go (pinsOf feed) refl b)
+  boxes-apart r s hr hs c = fails-if _ (λ b. go (pinsOf feed) refl b)
     where
       run-of : {q : Run} → Among q (runsOf feed) → HasRun (q .near) (q .far) (reverseAux (runsOf feed) [])
       run-of h = has-run (in-turned (runsOf feed) (inl h))

@@ -5,7 +5,7 @@ use mathlib.Core.Logic.{_⊎_, inl, inr}
 use Prim.Native.Nat.{ℕ, _+_, _<_, _≤_, min, max}
 use native.Mathlib.Omega.{arith}
 use Rattle.grid.proofs.Flat.{gap, gap-up, gap-down, gap-through, gap-below, order, Site, span}
-use Rattle.grid.proofs.Keys.{lex-le, lex-lt, down, key, Fits}
+use Rattle.grid.proofs.Keys.{lex-le, lex-lt, down, key, Fits, low}
 
 -- A number between two others cuts their gap in two.
 gap-at : (a b p : ℕ) → min a b ≤ p → p ≤ max a b → gap a b ≡ gap a p + gap p b
@@ -50,9 +50,6 @@ pub record Before (p : Site) (i : ℕ) (q : Site) (j : ℕ) (r : Site) (k : ℕ)
   pub lower : span p q ≡ span r s → gap (p .y) (q .y) ≡ gap (r .y) (s .y) → max (p .x) (q .x) ≡ max (r .x) (s .x) → min i j ≤ min k l
   pub higher : span p q ≡ span r s → gap (p .y) (q .y) ≡ gap (r .y) (s .y) → max (p .x) (q .x) ≡ max (r .x) (s .x) → min i j ≡ min k l
       → max i j < max k l
-
-low : (n : ℕ) → down n < 17179869184
-low n = omega arith
 
 -- A smaller key comes before.
 pub key-before : (p : Site) (i : ℕ) (q : Site) (j : ℕ) (r : Site) (k : ℕ) (s : Site) (l : ℕ) → Fits p i → Fits q j → Fits r k → Fits s l

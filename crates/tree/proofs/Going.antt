@@ -1,7 +1,7 @@
 -- The loop that takes runs: what it keeps, how a turn goes, and how it ends. Assumes nothing.
 use mathlib.Core.Path.{_≡_, refl, sym, ap, _∙_}
 use mathlib.Core.Bool.{true, false}
-use mathlib.Core.List.{List, [], _∷_, _++_}
+use mathlib.Core.List.{List, [], _∷_, _++_, append-nil}
 use Prim.Native.Nat.{ℕ, zero, suc, _+_, _-_, _<_, _≤_}
 use native.Mathlib.Omega.{arith}
 use lib.ListN.{length, set, replicate, length-append}
@@ -31,10 +31,6 @@ pub something : (feed : List Spot) (turns : ℕ) (offers : List Offer) → choic
     ≡ run (choiceOf offers .offer .near) (choiceOf offers .pin) ∷ takenRuns feed turns (after feed (choiceOf offers .pin) offers)
 unfolding takenRuns
 something feed turns offers e = choose-yes _ [] e
-
-append-nil : {A : Type 0} (m : List A) → m ++ [] ≡ m
-append-nil [] = refl
-append-nil (a ∷ m) = ap (_∷_ a) (append-nil m)
 
 -- One entry more.
 pub entries-more : (l : List Run) (r : Run) → length l < 31 → set (entries l) (length l) r ≡ entries (l ++ (r ∷ []))

@@ -1,7 +1,7 @@
 -- What is left to do at a turn of each loop: one turn more, and none. Assumes nothing.
 use mathlib.Core.Path.{_≡_, refl, sym, ap, _∙_}
 use mathlib.Core.Bool.{Bool, true, false}
-use mathlib.Core.List.{List, [], _∷_, _++_}
+use mathlib.Core.List.{List, [], _∷_, _++_, append-nil}
 use Prim.Native.Nat.{ℕ, _+_, _<_, _≤_}
 use native.Mathlib.Omega.{arith}
 use native.Mathlib.Numerals.{add-one}
@@ -70,10 +70,6 @@ module _ {A : Type 0} (t l : List A) where
   pub filled-end : (i : ℕ) → length t ≤ i → length l ≤ i → filled t l i ≡ t
   unfolding filled
   filled-end i h k = rw (drop-of-length-le l k, take-all i t h) (append-nil t)
-    where
-      append-nil : (m : List A) → m ++ [] ≡ m
-      append-nil [] = refl
-      append-nil (a ∷ m) = ap (_∷_ a) (append-nil m)
 
 -- ---- runs that clash, among the first `count` of some
 rest-of : (l : List Run) (count i : ℕ) → count ≤ length l → i < count → drop i (take count l) ≡ getD l i (run 0 0) ∷ drop (i + 1) (take count l)

@@ -60,7 +60,8 @@ taken-few feed (suc turns) offers = go (decide (choiceOf offers .offer .waits)) 
     go (inl e) h = rw (something feed turns offers e) (omega arith)
     go (inr e) h = rw (nothing feed (suc turns) offers e) (omega arith)
 
-take-entries : (l : List Run) → take (length l) (entries l) ≡ l
+-- The first entries of an answer are its runs.
+pub take-entries : (l : List Run) → take (length l) (entries l) ≡ l
 unfolding entries
 take-entries l = take-append-seam l (replicate (31 - length l) (run 0 0))
 

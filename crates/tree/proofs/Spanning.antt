@@ -57,7 +57,8 @@ pub run-in : {s t : ℕ} {rs : List Run} → HasRun s t rs → Among (run s t) r
 run-in (here {r = r} e f) = first (λ i. record { near = e i; far = f i })
 run-in (further h) = later (run-in h)
 
-entry-in : (l : List Run) (r : ℕ) → r < length l → Among (getD l r (run 0 0)) l
+-- The entry at a position is one of the list.
+pub entry-in : (l : List Run) (r : ℕ) → r < length l → Among (getD l r (run 0 0)) l
 entry-in [] r h = absurd (omega arith)
 entry-in (q ∷ l) zero h = first refl
 entry-in (q ∷ l) (suc r) h = later (entry-in l r (omega arith))

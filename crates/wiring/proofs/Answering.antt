@@ -24,6 +24,7 @@ use Rattle.tree.specs.Boxes.{boxesMeet}
 use Rattle.tree.specs.Trees.{entries, treeWith, none, treeOf}
 use Rattle.tree.proofs.Filling.{inside-at}
 use Rattle.tree.proofs.Membership.{pins-few}
+use Rattle.tree.proofs.Result.{take-entries as entries-take}
 use Rattle.tree.proofs.Spanning.{runs-many}
 use Rattle.copper.specs.declared.Shape.{Shape}
 use Rattle.copper.specs.declared.Leg.{Leg}
@@ -120,10 +121,6 @@ padded-at (x ∷ l) k (suc i) d = padded-at l k i d
 entries-at : (runs : List Run) (r : ℕ) → runAt (entries runs) r ≡ runAt runs r
 unfolding entries
 entries-at runs r = padded-at runs (31 - length runs) r (run 0 0)
-
-entries-take : (runs : List Run) → take (length runs) (entries runs) ≡ runs
-unfolding entries
-entries-take runs = take-at runs (replicate (31 - length runs) (run 0 0)) (length runs) refl
 
 pin-entries : (runs : List Run) (i : ℕ) → reachedPin (entries runs) i ≡ reachedPin runs i
 unfolding reachedPin

@@ -17,7 +17,7 @@ print-verdict-requires c κs = search needs
 returns : tie.Need-returns
 returns c =
     let s = c .before .before .before .before in
-    pins-broken (s .args .desk) (s .args .seat) (s .args .out .now) (sym (c .before .before .before .is-sound .ensures) ∙ not-true _ (c .before .before .if1 .taken)) (c .print-verdict .ensures)
+    pins-broken (s .args .t1) (s .args .seat) (s .args .out .now) (sym (c .before .before .before .is-sound .ensures) ∙ not-true _ (c .before .before .if1 .taken)) (c .print-verdict .ensures)
 
 print-verdict-requires-2 : tie.Need-print-verdict-requires-2
 print-verdict-requires-2 c κs = search needs
@@ -25,7 +25,7 @@ print-verdict-requires-2 c κs = search needs
 returns-2 : tie.Need-returns-2
 returns-2 c =
     let s = c .before .before .before .before .before in
-    pins-above (s .args .desk) (s .args .seat) (s .args .out .now) (sym (c .before .before .before .before .is-sound .ensures) ∙ not-false _ (c .before .before .before .if1 .left)) (c .before .before .if2 .taken) (c .print-verdict2 .ensures)
+    pins-above (s .args .t1) (s .args .seat) (s .args .out .now) (sym (c .before .before .before .before .is-sound .ensures) ∙ not-false _ (c .before .before .before .if1 .left)) (c .before .before .if2 .taken) (c .print-verdict2 .ensures)
 
 mul-s : tie.Need-mul-s
 mul-s c = search needs
@@ -39,10 +39,10 @@ print-closed-requires c κs = search needs
 returns-3 : tie.Need-returns-3
 returns-3 c =
     let s = c .before .before .before .before .before .before .before .before in
-    pins-closed (s .args .desk) (s .args .seat) (s .args .out .now) (sym (c .before .before .before .before .before .before .before .is-sound .ensures) ∙ not-false _ (c .before .before .before .before .before .before .if1 .left)) (c .before .before .before .before .before .if2 .left) (not-true _ (c .before .before .if3 .taken)) (c .print-closed .ensures)
+    pins-closed (s .args .t1) (s .args .seat) (s .args .out .now) (sym (c .before .before .before .before .before .before .before .is-sound .ensures) ∙ not-false _ (c .before .before .before .before .before .before .if1 .left)) (c .before .before .before .before .before .if2 .left) (not-true _ (c .before .before .if3 .taken)) (c .print-closed .ensures)
 
 count-of-requires : tie.Need-count-of-requires
-count-of-requires c κs = used-within (c .before .before .before .before .before .before .before .args .desk) (sym (c .before .before .before .before .before .before .is-sound .ensures) ∙ not-false _ (c .before .before .before .before .before .if1 .left))
+count-of-requires c κs = used-within (c .before .before .before .before .before .before .before .args .t1) (sym (c .before .before .before .before .before .before .is-sound .ensures) ∙ not-false _ (c .before .before .before .before .before .if1 .left))
 
 feed-requires : tie.Need-feed-requires
 feed-requires c κs = search needs
@@ -51,7 +51,7 @@ sub-print-drawn : tie.Need-sub-print-drawn
 sub-print-drawn c =
     let s = c .before .before .before .before .before .before .before .before .before .before .before in
     let e = (sym (c .before .before .before .before .before .before .before .before .before .before .is-sound .ensures) ∙ not-false _ (c .before .before .before .before .before .before .before .before .before .if1 .left)) in
-    omega (arith, c .before .before .before .count-of .ensures, standing-within (s .args .desk) e (s .args .seat) (c .before .before .before .before .before .before .before .before .if2 .left) (not-false _ (c .before .before .before .before .before .if3 .left)))
+    omega (arith, c .before .before .before .count-of .ensures, standing-within (s .args .t1) e (s .args .seat) (c .before .before .before .before .before .before .before .before .if2 .left) (not-false _ (c .before .before .before .before .before .if3 .left)))
 
 print-drawn-requires : tie.Need-print-drawn-requires
 print-drawn-requires c κs = search needs
@@ -59,7 +59,7 @@ print-drawn-requires c κs = search needs
 returns-4 : tie.Need-returns-4
 returns-4 c =
     let s = c .before .before .before .before .before .before .before .before .before .before .before .before .before in
-    pins-drawn (s .args .desk) (s .args .seat) (s .args .out .now) (sym (c .before .before .before .before .before .before .before .before .before .before .before .before .is-sound .ensures) ∙ not-false _ (c .before .before .before .before .before .before .before .before .before .before .before .if1 .left))
+    pins-drawn (s .args .t1) (s .args .seat) (s .args .out .now) (sym (c .before .before .before .before .before .before .before .before .before .before .before .before .is-sound .ensures) ∙ not-false _ (c .before .before .before .before .before .before .before .before .before .before .before .if1 .left))
     (c .before .before .before .before .before .before .before .before .before .before .if2 .left) (not-false _ (c .before .before .before .before .before .before .before .if3 .left)) (c .before .before .before .before .before .count-of .ensures) (c .before .before .before .feed .ensures) (c .print-drawn .ensures)
 
 pub show-pins-spec : {M : Type 1} → statement M
