@@ -9,7 +9,7 @@ use Rattle.desk.specs.declared.Desk.{Desk}
 use Rattle.script.specs.declared.Order.{Order}
 use Rattle.script.specs.Text.{over, room}
 use Rattle.script.specs.Numbers.{mostPairs, mostNumbers}
-use Rattle.script.specs.Orders.{orderOf, mapOf, acrossOf, upOf}
+use Rattle.script.specs.Orders.{orderOf, mapGiven, xsGiven, ysGiven}
 use Rattle.answer.specs.Answered.{Holds, followed, played, printed, answered}
 use Rattle.answer.proofs.Ordered.{open-count, bare-counts, first-stored}
 
@@ -21,7 +21,7 @@ Answers d number line old r n new =
 
 -- The answer to the order is that to the line.
 pub answers : (d : Desk) (number : ℕ) (line old : List ℕ) {o p : Order} {r : Desk} {n : ℕ} {new : List ℕ} → o ≡ orderOf line → o ≡ p
-    → (r ≡ followed d (mapOf line) p) × Holds (printed d number (mapOf line) (acrossOf line) (upOf line) p) old n new
+    → (r ≡ followed d (mapGiven line) p) × Holds (printed d number (mapGiven line) (xsGiven line) (ysGiven line) p) old n new
     → Answers d number line old r n new
 unfolding played answered
 answers d number line old e f h =
@@ -29,21 +29,21 @@ answers d number line old e f h =
 
 module _ (line : List ℕ) {o : Order} (e : o ≡ orderOf line) where
   -- The map of an opening.
-  pub map-lent : {s job n : ℕ} (old : List ℕ) {map : List ℕ} → o ≡ Order.Open s job n → map ≡ over (mapOf line) old
-      → length old ≡ mostPairs → take n map ≡ mapOf line
+  pub map-lent : {s job n : ℕ} (old : List ℕ) {map : List ℕ} → o ≡ Order.Open s job n → map ≡ over (mapGiven line) old
+      → length old ≡ mostPairs → take n map ≡ mapGiven line
   map-lent {n} old f g k =
       let h = open-count line e f in
-      ap (take n) g ∙ first-stored old (mapOf line) (h .0) (omega arith)
+      ap (take n) g ∙ first-stored old (mapGiven line) (h .0) (omega arith)
 
   -- The lists of a bare wiring.
-  pub across-lent : {legs across up : ℕ} (old : List ℤ) {xs : List ℤ} → o ≡ Order.Bare legs across up → xs ≡ over (acrossOf line) old
-      → length old ≡ mostNumbers → take across xs ≡ acrossOf line
+  pub across-lent : {legs across up : ℕ} (old : List ℤ) {xs : List ℤ} → o ≡ Order.Bare legs across up → xs ≡ over (xsGiven line) old
+      → length old ≡ mostNumbers → take across xs ≡ xsGiven line
   across-lent {across} old f g k =
       let h = bare-counts line e f .0 in
-      ap (take across) g ∙ first-stored old (acrossOf line) (h .0) (omega arith)
+      ap (take across) g ∙ first-stored old (xsGiven line) (h .0) (omega arith)
 
-  pub up-lent : {legs across up : ℕ} (old : List ℤ) {ys : List ℤ} → o ≡ Order.Bare legs across up → ys ≡ over (upOf line) old
-      → length old ≡ mostNumbers → take up ys ≡ upOf line
+  pub up-lent : {legs across up : ℕ} (old : List ℤ) {ys : List ℤ} → o ≡ Order.Bare legs across up → ys ≡ over (ysGiven line) old
+      → length old ≡ mostNumbers → take up ys ≡ ysGiven line
   up-lent {up} old f g k =
       let h = bare-counts line e f .1 in
-      ap (take up) g ∙ first-stored old (upOf line) (h .0) (omega arith)
+      ap (take up) g ∙ first-stored old (ysGiven line) (h .0) (omega arith)

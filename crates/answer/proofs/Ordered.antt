@@ -13,9 +13,9 @@ use Rattle.refusal.specs.Tests.{both, choose}
 use Rattle.refusal.proofs.Tests.{both-left, both-right}
 use Rattle.script.specs.declared.Order.{Order}
 use Rattle.script.specs.Text.{text, same, over}
-use Rattle.script.specs.Numbers.{most, mostJob, mostPairs, mostNumbers, none, isNumber, listed, isList, bytesOf, isMap}
+use Rattle.script.specs.Numbers.{mostNumber, mostJob, mostPairs, mostNumbers, noneWord, isNumber, listed, isList, bytesOf, isMap}
 use Rattle.script.specs.Words.{withoutReturn, wordsOf, word}
-use Rattle.script.specs.Orders.{mostRoom, mostLegsLent, only, seatCall, pairCall, isOpening, isBaring, isPlacing, opening, baring, lentCall, placeCall, callOf, isSkipped, asked, isLong, orderOf, mapIn, mapAsked, mapOf, listIn, listAsked, acrossOf, upOf}
+use Rattle.script.specs.Orders.{mostRoom, mostLegsLent, only, seatCall, pairCall, isOpenCall, isBareCall, isPlacing, openCall, bareCall, lentCall, placeCall, callOf, isSkipped, asked, isLong, orderOf, mapIn, mapAsked, mapGiven, listIn, listAsked, xsGiven, ysGiven}
 use Rattle.script.proofs.Values.{number-top, map-length, list-row, listed-none, listed-row, row-numbers}
 
 -- What an order says of its map, its lists and its counts.
@@ -43,9 +43,9 @@ bytes-half (a ∷ []) = omega arith
 bytes-half (a ∷ b ∷ rest) = omega (arith, bytes-half rest)
 
 list-short : (w : List ℕ) → isList w ≡ true → length (listed w) ≤ mostNumbers
-list-short w h = by (same w none) refl
+list-short w h = by (same w noneWord) refl
   where
-    by : (t : Bool) → same w none ≡ t → length (listed w) ≤ mostNumbers
+    by : (t : Bool) → same w noneWord ≡ t → length (listed w) ≤ mostNumbers
     by true e = rw (← listed-none w e) (omega arith)
     by false e = rw (← listed-row w e) (row-numbers w (list-row w e ∙ h) .1)
 
@@ -67,7 +67,7 @@ module _ (m : List ℕ) (xs ys : List ℤ) where
   seat-fair : (name a : List ℕ) → Fair m xs ys (seatCall name a)
   unfolding seatCall Fair
   seat-fair name a =
-      just F tt (isNumber most a)
+      just F tt (isNumber mostNumber a)
       (λ e. row F (same name (text "close")) (λ e. tt)
       (λ e. row F (same name (text "undo")) (λ e. tt)
       (λ e. row F (same name (text "redo")) (λ e. tt) (λ e. row F (same name (text "pins")) (λ e. tt) (λ e. tt)))))
@@ -75,8 +75,8 @@ module _ (m : List ℕ) (xs ys : List ℤ) where
   pair-fair : (name a b : List ℕ) → Fair m xs ys (pairCall name a b)
   unfolding pairCall Fair
   pair-fair name a b =
-      just F tt (isNumber most a)
-      (λ e. row F (same name (text "remove")) (λ e. just F tt (isNumber most b) (λ e. tt))
+      just F tt (isNumber mostNumber a)
+      (λ e. row F (same name (text "remove")) (λ e. just F tt (isNumber mostNumber b) (λ e. tt))
       (λ e. row F (same name (text "write")) (λ e. just F tt (isNumber mostRoom b) (λ e. number-top mostRoom b e))
       (λ e. row F (same name (text "wire")) (λ e. just F tt (isNumber mostLegsLent b) (λ e. tt)) (λ e. tt))))
 
@@ -87,25 +87,25 @@ module _ (m : List ℕ) (xs ys : List ℤ) where
       (λ e. row F (same name (text "place")) (λ e. tt) (λ e. row F (same name (text "move")) (λ e. tt) (λ e. tt)))
 
 -- What the words of an opening and of a bare wiring are.
-map-read : (a b c : List ℕ) → isOpening a b c ≡ true → isMap c ≡ true
-unfolding isOpening
-map-read a b c f = both-right (isNumber mostJob b) (isMap c) (both-right (isNumber most a) (both (isNumber mostJob b) (isMap c)) f)
+map-read : (a b c : List ℕ) → isOpenCall a b c ≡ true → isMap c ≡ true
+unfolding isOpenCall
+map-read a b c f = both-right (isNumber mostJob b) (isMap c) (both-right (isNumber mostNumber a) (both (isNumber mostJob b) (isMap c)) f)
 
-lists-read : (a b c : List ℕ) → isBaring a b c ≡ true → both (isList b) (isList c) ≡ true
-unfolding isBaring
+lists-read : (a b c : List ℕ) → isBareCall a b c ≡ true → both (isList b) (isList c) ≡ true
+unfolding isBareCall
 lists-read a b c f = both-right (isNumber mostLegsLent a) (both (isList b) (isList c)) f
 
 -- Calls of four words.
 lent-fair : (name a b c : List ℕ)
     → Fair (mapIn name a b c) (listIn name a b c b) (listIn name a b c c) (lentCall name a b c)
-unfolding lentCall opening baring mapIn listIn both choose Fair
+unfolding lentCall openCall bareCall mapIn listIn both choose Fair
 lent-fair name a b c =
     let F : Order → Type 0 = Fair (mapIn name a b c) (listIn name a b c b) (listIn name a b c c) in
     row F (same name (text "open"))
-    (λ e. just F tt (isOpening a b c)
+    (λ e. just F tt (isOpenCall a b c)
     (λ f. (rw (e, f), omega (arith, bytes-half c, map-length c (map-read a b c f)))))
     (λ e. row F (same name (text "bare"))
-    (λ g. just F tt (isBaring a b c)
+    (λ g. just F tt (isBareCall a b c)
     (λ f. let k = lists-read a b c f in
     ((rw (g, f), list-short b (both-left (isList b) (isList c) k)), (rw (g, f), list-short c (both-right (isList b) (isList c) k))))) (λ g. tt))
 
@@ -142,16 +142,16 @@ unfolding choose Fair
 line-fair true words = tt
 line-fair false words = words-fair words
 
-fair : (line : List ℕ) → Fair (mapOf line) (acrossOf line) (upOf line) (orderOf line)
-unfolding orderOf mapOf acrossOf upOf
+fair : (line : List ℕ) → Fair (mapGiven line) (xsGiven line) (ysGiven line) (orderOf line)
+unfolding orderOf mapGiven xsGiven ysGiven
 fair line = line-fair (isLong line) (wordsOf (withoutReturn line))
 
 module _ (line : List ℕ) {o : Order} (e : o ≡ orderOf line) where
-  of : {p : Order} → o ≡ p → Fair (mapOf line) (acrossOf line) (upOf line) p
+  of : {p : Order} → o ≡ p → Fair (mapGiven line) (xsGiven line) (ysGiven line) p
   of f = rw (sym e ∙ f) at (fair line)
 
   -- The counts of an order that was read.
-  pub open-count : {s job n : ℕ} → o ≡ Order.Open s job n → (n ≡ length (mapOf line)) × (n ≤ mostPairs)
+  pub open-count : {s job n : ℕ} → o ≡ Order.Open s job n → (n ≡ length (mapGiven line)) × (n ≤ mostPairs)
   unfolding Fair
   open-count f = of f
 
@@ -160,7 +160,7 @@ module _ (line : List ℕ) {o : Order} (e : o ≡ orderOf line) where
   write-room f = of f
 
   pub bare-counts : {room across up : ℕ} → o ≡ Order.Bare room across up
-      → ((across ≡ length (acrossOf line)) × (across ≤ mostNumbers)) × ((up ≡ length (upOf line)) × (up ≤ mostNumbers))
+      → ((across ≡ length (xsGiven line)) × (across ≤ mostNumbers)) × ((up ≡ length (ysGiven line)) × (up ≤ mostNumbers))
   unfolding Fair
   bare-counts f = of f
 

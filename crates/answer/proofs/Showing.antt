@@ -8,9 +8,9 @@ use lib.ListN.{length}
 use borrow.Author.Tests.{le-leb, lt-leb}
 use Rattle.refusal.specs.Tests.{choose}
 use Rattle.refusal.specs.declared.Verdict.the-variants.{SeatAbove, DeskBroken}
-use Rattle.grid.specs.declared.Spot.{Spot}
+use Rattle.feed.specs.declared.Spot.{Spot}
 use Rattle.drawing.specs.Pins.{feedOf}
-use Rattle.journal.specs.Journal.{seats}
+use Rattle.journal.specs.Journal.{mostSeats}
 use Rattle.desk.specs.declared.Desk.{Desk}
 use Rattle.desk.specs.Desk.{sound, seatOf, editsOf}
 use Rattle.script.specs.Text.{room}
@@ -27,21 +27,21 @@ module _ (d : Desk) (s : ℕ) (old : List ℕ) {n : ℕ} {new : List ℕ} where
 
   module _ (e : sound d ≡ true) where
     -- A seat above 7.
-    pub pins-above : seats ≤ s → Left (verdictLine SeatAbove) old 200 n new → Holds (seatText d s) old n new
+    pub pins-above : mostSeats ≤ s → Left (verdictLine SeatAbove) old 200 n new → Holds (seatText d s) old n new
     unfolding seatText lookText choose
-    pins-above k h = rw (e, le-leb seats s k) (held (verdictLine SeatAbove) old 200 (omega arith) h)
+    pins-above k h = rw (e, le-leb mostSeats s k) (held (verdictLine SeatAbove) old 200 (omega arith) h)
 
     -- A seat that is not open.
-    pub pins-closed : s < seats → seatOf d s .opened ≡ false → Left closedLine old 200 n new → Holds (seatText d s) old n new
+    pub pins-closed : s < mostSeats → seatOf d s .opened ≡ false → Left closedLine old 200 n new → Holds (seatText d s) old n new
     unfolding seatText lookText choose
-    pins-closed k o h = rw (e, lt-leb seats s k, o) (held closedLine old 200 (omega arith) h)
+    pins-closed k o h = rw (e, lt-leb mostSeats s k, o) (held closedLine old 200 (omega arith) h)
 
     -- A drawing.
-    pub pins-drawn : {owned : ℕ} {feed : List Spot} → s < seats → seatOf d s .opened ≡ true → owned ≡ length (editsOf d s)
+    pub pins-drawn : {owned : ℕ} {feed : List Spot} → s < mostSeats → seatOf d s .opened ≡ true → owned ≡ length (editsOf d s)
         → feed ≡ feedOf (seatOf d s .pins)
         → Left (drawnText (seatOf d s .job) feed (seatOf d s .standing) (owned - seatOf d s .standing)) old room n new
         → Holds (seatText d s) old n new
     unfolding seatText lookText choose
     pins-drawn {owned} {feed} k o f g h =
-        rw (e, lt-leb seats s k, o, ← f, ← g)
+        rw (e, lt-leb mostSeats s k, o, ← f, ← g)
         (held (drawnText (seatOf d s .job) feed (seatOf d s .standing) (owned - seatOf d s .standing)) old room (omega arith) h)

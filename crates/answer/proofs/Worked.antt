@@ -7,20 +7,21 @@ use Rattle.refusal.specs.Tests.{both, either, choose}
 use Rattle.refusal.specs.Refusals.{accepted, turn}
 use Rattle.grid.specs.Number.{first, second, third, fourth}
 use Rattle.grid.specs.Place.{onBoard, inside, difference, closer, tooNear, sameNumber, samePlace}
-use Rattle.drawing.specs.Pins.{isThere, sameHeld, samePin, samePins, meets, meetsAny, crowded, within, settled, allWithin, allApart, lawful, spotOf, feedOf}
+use Rattle.feed.specs.Feeds.{meets, meetsAny, crowded, within, settled, allWithin, allApart, meetsOther}
+use Rattle.drawing.specs.Pins.{isThere, sameHeld, samePin, samePins, lawful, spotOf, feedOf}
 use Rattle.drawing.specs.Edits.{movedPin, made, unmade, standsAt, fits, placeable, movable, makeable, takeable, heldBy}
 use Rattle.pinmap.specs.Record.{recordBytes, pinBytes}
-use Rattle.pinmap.specs.Map.{noPins, readFrom, wrongLength, readMap, mapFrom, mapOf as bytesOfMap, written}
-use Rattle.journal.specs.Journal.{own, kept, filled as filledUp, seated, inTurn}
+use Rattle.pinmap.specs.Map.{noPins, readFrom, wrongLength, readMap, mapFrom, mapOf, written}
+use Rattle.journal.specs.Journal.{own, kept, filled, seated, inTurn}
 use Rattle.desk.specs.declared.Desk.{Desk}
 use Rattle.desk.specs.Refusals.{sameJob, jobAmong, turnedOpening, turnedClosing, turnedPlacing, turnedUndoing, turnedWriting, verdictOf}
 use Rattle.desk.specs.Desk.{jobOf, jobsApart, soundOpen, soundClosed, soundSeat, soundTo, sound, edited, effect, answerOf, step, emptyDesk, writtenOf, bufferOf}
 use Rattle.script.specs.Text.{text, same}
-use Rattle.script.specs.Words.{endOf, longer, pieces, filled, wordsOf}
+use Rattle.script.specs.Words.{endOf, beforeFirst, pieces, nonEmpty, wordsOf}
 use Rattle.script.specs.Numbers.{between, allDigits, valueFrom, isNumber, hasMinus, isCoordinate, signed, isHex, hexValue, allPairs, bytesOf, isMap}
-use Rattle.script.specs.Orders.{only, seatCall, pairCall, isOpening, opening, lentCall, isPlacing, placeCall, callOf, isSkipped, asked, isLong, orderOf, mapIn, mapAsked, mapOf}
-use Rattle.script.specs.Answers.{shown, integer, placeText, hexDigit, hex, carriedText, toldLine, hexPart, writtenLine, drawingLine, pinLine, strayLine}
-use Rattle.shown.specs.Shown.{spotText, pinsText, pinsIn, drawnText}
+use Rattle.script.specs.Orders.{only, seatCall, pairCall, isOpenCall, openCall, lentCall, isPlacing, placeCall, callOf, isSkipped, asked, isLong, orderOf, mapIn, mapAsked, mapGiven}
+use Rattle.script.specs.Answers.{shown, integer, placeText, hexDigit, hex, carriedText, toldLine, hexPart, writtenLine, drawingLine, pinLine, notACallLine}
+use Rattle.shown.specs.Shown.{spotText, pinsText, pinsThere, drawnText}
 use Rattle.answer.specs.Answered.{followed, played, callText, writingText, lookText, seatText, printed, answered}
 
 -- What lines print one after the other, numbered from a number on.
@@ -33,5 +34,5 @@ worked :
     ("# D3" ∷ "open 0 7 -" ∷ "place 0 0 1 -1" ∷ "write 0 13" ∷ "pins 0" ∷ "undo 0" ∷ "pins 0" ∷ "undo 0" ∷ "pins 1" ∷ "pins 8" ∷ "draw 0" ∷ [])
     ≡ text
     "0\n0\n0 12 0007000000000001ffffffffee\njob 7 pins 1 standing 1 taken 0\npin 0 1 -1\n0\njob 7 pins 0 standing 0 taken 1\nrefused 10\nclosed\nrefused 1\nline 11: not a call\n"
-unfolding told both either choose accepted turn onBoard inside difference closer tooNear sameNumber samePlace isThere sameHeld samePin samePins meets meetsAny crowded within settled allWithin allApart lawful spotOf feedOf movedPin made unmade standsAt fits placeable movable makeable takeable heldBy first second third fourth recordBytes pinBytes noPins readFrom wrongLength readMap mapFrom bytesOfMap written own kept filledUp seated inTurn sameJob jobAmong turnedOpening turnedClosing turnedPlacing turnedUndoing turnedWriting verdictOf jobOf jobsApart soundOpen soundClosed soundSeat soundTo sound edited effect answerOf step emptyDesk writtenOf bufferOf same endOf longer pieces filled wordsOf between allDigits valueFrom isNumber hasMinus isCoordinate signed isHex hexValue allPairs bytesOf isMap only seatCall pairCall isOpening opening lentCall isPlacing placeCall callOf isSkipped asked isLong orderOf mapIn mapAsked mapOf shown integer placeText hexDigit hex carriedText toldLine hexPart writtenLine drawingLine pinLine strayLine spotText pinsText pinsIn drawnText followed played callText writingText lookText seatText printed answered
+unfolding told both either choose accepted turn onBoard inside difference closer tooNear sameNumber samePlace isThere sameHeld samePin samePins meets meetsAny meetsOther crowded within settled allWithin allApart spotOf feedOf lawful movedPin made unmade standsAt fits placeable movable makeable takeable heldBy first second third fourth recordBytes pinBytes noPins readFrom wrongLength readMap mapFrom mapOf written own kept filled seated inTurn sameJob jobAmong turnedOpening turnedClosing turnedPlacing turnedUndoing turnedWriting verdictOf jobOf jobsApart soundOpen soundClosed soundSeat soundTo sound edited effect answerOf step emptyDesk writtenOf bufferOf same endOf beforeFirst pieces nonEmpty wordsOf between allDigits valueFrom isNumber hasMinus isCoordinate signed isHex hexValue allPairs bytesOf isMap only seatCall pairCall isOpenCall openCall lentCall isPlacing placeCall callOf isSkipped asked isLong orderOf mapIn mapAsked mapGiven shown integer placeText hexDigit hex carriedText toldLine hexPart writtenLine drawingLine pinLine notACallLine spotText pinsText pinsThere drawnText followed played callText writingText lookText seatText printed answered
 worked = refl

@@ -16,8 +16,8 @@ use Rattle.desk.specs.Refusals.{Look, seatAbove}
 use Rattle.desk.specs.Desk.{lookAt, step, writtenOf, bufferOf, wiredOf}
 use Rattle.script.specs.declared.Order.{Order}
 use Rattle.script.specs.Text.{over, room}
-use Rattle.script.specs.Orders.{orderOf, mapOf, acrossOf, upOf}
-use Rattle.script.specs.Answers.{verdictLine, writtenLine, closedLine, strayLine}
+use Rattle.script.specs.Orders.{orderOf, mapGiven, xsGiven, ysGiven}
+use Rattle.script.specs.Answers.{verdictLine, writtenLine, closedLine, notACallLine}
 use Rattle.shown.specs.Shown.{laidText, drawnText}
 
 -- What an order makes of the desk, with the map of an opening. Writing, wiring and showing leave the desk as it is, and so does
@@ -39,7 +39,7 @@ followed d map (Order.Pins s) = d
 
 -- What a line makes of the desk.
 unfoldable pub played : Desk → List ℕ → Desk
-played d line = followed d (mapOf line) (orderOf line)
+played d line = followed d (mapGiven line) (orderOf line)
 
 -- Opening, closing, edits, undo and redo print their verdict.
 unfoldable pub callText : Desk → Call → List ℕ
@@ -72,7 +72,7 @@ seatText d s = lookText (lookAt d s)
 -- prints nothing.
 unfoldable pub printed : Desk → ℕ → List ℕ → List ℤ → List ℤ → Order → List ℕ
 printed d number map xs ys Order.Skip = []
-printed d number map xs ys Order.NotACall = strayLine number
+printed d number map xs ys Order.NotACall = notACallLine number
 printed d number map xs ys (Order.Open s job n) = callText d (opening s job map)
 printed d number map xs ys (Order.Close s) = callText d (closing s)
 printed d number map xs ys (Order.Place s p at) = callText d (placing s p at)
@@ -87,7 +87,7 @@ printed d number map xs ys (Order.Pins s) = seatText d s
 
 -- What the line of that number prints.
 unfoldable pub answered : Desk → ℕ → List ℕ → List ℕ
-answered d number line = printed d number (mapOf line) (acrossOf line) (upOf line) (orderOf line)
+answered d number line = printed d number (mapGiven line) (xsGiven line) (ysGiven line) (orderOf line)
 
 -- So many bytes of a lent buffer are the text, from its start on, no more than its room; what lies after them stays.
 pub record Holds (text before : List ℕ) (count : ℕ) (after : List ℕ) : Type 0 where

@@ -9,7 +9,7 @@ use script::MOST_ROOM;
 use script::Order;
 use script::answers::ROOM;
 use script::answers::print_closed;
-use script::answers::print_stray;
+use script::answers::print_not_a_call;
 use script::answers::print_verdict;
 use script::answers::print_written;
 use shown::print_drawn;
@@ -142,7 +142,7 @@ fn show_pins(desk: Desk, seat: usize, out: &mut [u8; ROOM]) -> usize
     let used = desk.used;
     let owned = journal::count_of(records, used, seat);
     let pins = s.pins;
-    let feed = drawing::feed(pins);
+    let feed = drawing::feed_of(pins);
     print_drawn(s.job, feed, s.standing, owned - s.standing, out)
 }
 
@@ -160,7 +160,7 @@ pub fn answer_line(desk: Desk, number: usize, line: &[u8], out: &mut [u8; ROOM])
     match order {
         Order::Skip => Answer { desk, bytes: 0 },
         Order::NotACall => {
-            let bytes = print_stray(number, out);
+            let bytes = print_not_a_call(number, out);
             Answer { desk, bytes }
         }
         Order::Open { seat, job, bytes } => open(desk, seat, job, &map, bytes, out),

@@ -9,7 +9,7 @@ use Rattle.refusal.specs.Refusals.{accepted}
 use Rattle.tree.proofs.Deciding.{decide}
 use Rattle.wiring.specs.Answer.{turnedAway}
 use Rattle.lent.proofs.Fitting.{wiring-fits}
-use Rattle.bare.specs.Bare.{feedOf, bareVerdict, bareOf}
+use Rattle.bare.specs.Bare.{feedOfLists, bareVerdict, bareOf}
 use Rattle.bare.proofs.Feeds.{feed-many}
 use Rattle.bare.proofs.Verdicts.{lengths-right, well, refused, wired}
 
@@ -21,5 +21,5 @@ bare-fits xs ys room = by (decide (accepted (bareVerdict xs ys)))
     by : (accepted (bareVerdict xs ys) ≡ true) ⊎ (accepted (bareVerdict xs ys) ≡ false) → (bareOf xs ys room .wiring .legs ≤ 62) × (bareOf xs ys room .wiring .legs ≤ room)
     by (inl e) =
         let h = lengths-right xs ys (well xs ys e .0) in
-        rw (← wired xs ys room e) (wiring-fits (feedOf xs ys) room (feed-many xs ys (h .0) (h .1)))
+        rw (← wired xs ys room e) (wiring-fits (feedOfLists xs ys) room (feed-many xs ys (h .0) (h .1)))
     by (inr e) = rw (← refused xs ys room e) (zero-le, zero-le)

@@ -13,14 +13,14 @@ use Rattle.refusal.specs.Refusals.{accepted, turn}
 use Rattle.refusal.specs.declared.Verdict.{Verdict}
 use Rattle.refusal.specs.declared.Verdict.the-variants.{Accepted, ListLengths, NoPins, Outside, PlaceTaken, BoxesMeet, RoomTooSmall}
 use Rattle.refusal.proofs.Rows.{Row, given, firstOf, Given, refusalAt, Exactly, exactly, distinct, unlike}
-use Rattle.tree.specs.Growth.{allInside, keptIf, pinsFrom, pinsOf, runsOf}
+use Rattle.feed.specs.Feeds.{allWithin, allApart}
+use Rattle.tree.specs.Growth.{keptIf, pinsFrom, pinsOf, runsOf}
 use Rattle.tree.specs.Boxes.{boxesMeet}
 use Rattle.tree.specs.Trees.{none}
 use Rattle.tree.proofs.Apart.{never-meet}
 use Rattle.wiring.specs.Answer.{wiringOf}
-use Rattle.wiring.specs.Crowding.{crowded}
 use Rattle.wiring.proofs.Refusing.{legsNeeded, laid-behind, wiring-verdict}
-use Rattle.bare.specs.Bare.{spotsOf, feedOf, wrongLengths, bareVerdict, bareOf}
+use Rattle.bare.specs.Bare.{spotsOf, feedOfLists, wrongLengths, bareVerdict, bareOf}
 use Rattle.bare.proofs.Feeds.{feed-many}
 use Rattle.bare.proofs.Verdicts.{lengths-right}
 
@@ -29,10 +29,10 @@ unfoldable pub bareRows : List ℤ → List ℤ → ℕ → List Row
 bareRows xs ys room =
     given (wrongLengths xs ys) ListLengths
     ∷ given (eqb (length xs) 0) NoPins
-    ∷ given (not (allInside (feedOf xs ys))) Outside
-    ∷ given (crowded (feedOf xs ys)) PlaceTaken
-    ∷ given (boxesMeet (feedOf xs ys) (runsOf (feedOf xs ys))) BoxesMeet
-    ∷ given (ltb room (length (legsNeeded (feedOf xs ys)))) RoomTooSmall
+    ∷ given (not (allWithin (feedOfLists xs ys))) Outside
+    ∷ given (not (allApart (feedOfLists xs ys))) PlaceTaken
+    ∷ given (boxesMeet (feedOfLists xs ys) (runsOf (feedOfLists xs ys))) BoxesMeet
+    ∷ given (ltb room (length (legsNeeded (feedOfLists xs ys)))) RoomTooSmall
     ∷ []
 
 -- A row that does not hold is passed.
@@ -41,8 +41,8 @@ unfolding turn choose
 passes-by u v p = rw p
 
 -- Lists that are alike and not empty have a pin.
-pins-there : (xs ys : List ℤ) → wrongLengths xs ys ≡ false → eqb (length xs) 0 ≡ false → none (pinsOf (feedOf xs ys)) ≡ false
-unfolding feedOf spotsOf pinsOf pinsFrom keptIf
+pins-there : (xs ys : List ℤ) → wrongLengths xs ys ≡ false → eqb (length xs) 0 ≡ false → none (pinsOf (feedOfLists xs ys)) ≡ false
+unfolding feedOfLists spotsOf pinsOf pinsFrom keptIf
 pins-there [] ys right e = e
 pins-there (x ∷ xs) [] right e = let h = lengths-right (x ∷ xs) [] right in absurd (omega arith)
 pins-there (x ∷ xs) (y ∷ ys) right e = refl
@@ -56,10 +56,10 @@ later-by false u e = e refl
 module _ (xs ys : List ℤ) (room : ℕ) where
   -- The wiring's verdict, where there are pins.
   wired-is : wrongLengths xs ys ≡ false → eqb (length xs) 0 ≡ false
-      → wiringOf (feedOf xs ys) room .wiring .verdict
-      ≡ turn (boxesMeet (feedOf xs ys) (runsOf (feedOf xs ys))) BoxesMeet (turn (ltb room (length (legsNeeded (feedOf xs ys)))) RoomTooSmall Accepted)
+      → wiringOf (feedOfLists xs ys) room .wiring .verdict
+      ≡ turn (boxesMeet (feedOfLists xs ys) (runsOf (feedOfLists xs ys))) BoxesMeet (turn (ltb room (length (legsNeeded (feedOfLists xs ys)))) RoomTooSmall Accepted)
   unfolding firstOf
-  wired-is right e = wiring-verdict (feedOf xs ys) room ∙ passes-by NoPins _ (pins-there xs ys right e)
+  wired-is right e = wiring-verdict (feedOfLists xs ys) room ∙ passes-by NoPins _ (pins-there xs ys right e)
 
   answer-is : bareOf xs ys room .wiring .verdict ≡ firstOf (bareRows xs ys room) Accepted
   unfolding bareOf bareVerdict bareRows firstOf distinct unlike both accepted
@@ -67,11 +67,11 @@ module _ (xs ys : List ℤ) (room : ℕ) where
       laid-behind
       (given (wrongLengths xs ys) ListLengths
       ∷ given (eqb (length xs) 0) NoPins
-      ∷ given (not (allInside (feedOf xs ys))) Outside
-      ∷ given (crowded (feedOf xs ys)) PlaceTaken
-      ∷ []) refl (wiringOf (feedOf xs ys) room)
+      ∷ given (not (allWithin (feedOfLists xs ys))) Outside
+      ∷ given (not (allApart (feedOfLists xs ys))) PlaceTaken
+      ∷ []) refl (wiringOf (feedOfLists xs ys) room)
       ∙ later-by (wrongLengths xs ys) ListLengths
-      (λ a. later-by (eqb (length xs) 0) NoPins (λ b. ap (λ (v : Verdict). turn (not (allInside (feedOf xs ys))) Outside (turn (crowded (feedOf xs ys)) PlaceTaken v)) (wired-is a b)))
+      (λ a. later-by (eqb (length xs) 0) NoPins (λ b. ap (λ (v : Verdict). turn (not (allWithin (feedOfLists xs ys))) Outside (turn (not (allApart (feedOfLists xs ys))) PlaceTaken v)) (wired-is a b)))
 
   -- EACH REFUSAL OF BARE WIRING EXACTLY.
   pub bare-exactly : Exactly (bareRows xs ys room) Accepted (bareOf xs ys room .wiring .verdict)
@@ -84,4 +84,4 @@ module _ (xs ys : List ℤ) (room : ℕ) where
   bare-never-18 e =
       let g = bare-exactly .refused 4 (omega arith) .0 e in
       let h = lengths-right xs ys (g .0) in
-      true≢false (sym (g .1 .1 .1 .1) ∙ never-meet (feedOf xs ys) (feed-many xs ys (h .0) (h .1)) (not-false _ (g .1 .1 .0)))
+      true≢false (sym (g .1 .1 .1 .1) ∙ never-meet (feedOfLists xs ys) (feed-many xs ys (h .0) (h .1)) (not-false _ (g .1 .1 .0)))

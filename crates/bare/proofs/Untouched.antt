@@ -9,12 +9,12 @@ use Rattle.copper.specs.declared.Leg.{Leg}
 use Rattle.wiring.specs.Answer.{wiringOf}
 use Rattle.lent.specs.Lent.{filledWith}
 use Rattle.lent.proofs.Untouched.{Alone, turned-by, wiring-turned, untouched}
-use Rattle.bare.specs.Bare.{feedOf, bareVerdict, bareOf}
+use Rattle.bare.specs.Bare.{feedOfLists, bareVerdict, bareOf}
 
 -- A refused answer is its verdict and nothing else.
 pub bare-turned : (xs ys : List ℤ) (room : ℕ) → Alone (bareOf xs ys room)
 unfolding bareOf
-bare-turned xs ys room = turned-by (accepted (bareVerdict xs ys)) (bareVerdict xs ys) (wiringOf (feedOf xs ys) room) (wiring-turned (feedOf xs ys) room)
+bare-turned xs ys room = turned-by (accepted (bareVerdict xs ys)) (bareVerdict xs ys) (wiringOf (feedOfLists xs ys) room) (wiring-turned (feedOfLists xs ys) room)
 
 -- A refused bare wiring leaves the list as it was.
 pub bare-untouched : (xs ys : List ℤ) (room : ℕ) (lent : List Leg) → accepted (bareOf xs ys room .wiring .verdict) ≡ false → filledWith (bareOf xs ys room) lent ≡ lent

@@ -13,28 +13,27 @@ use Rattle.refusal.proofs.Rows.{passed}
 use Rattle.refusal.proofs.Tests.{either-false, choose-yes, choose-no}
 use Rattle.refusal.specs.declared.Verdict.{Verdict}
 use Rattle.refusal.specs.declared.Verdict.the-variants.{Accepted, ListLengths, NoPins, Outside, PlaceTaken}
-use Rattle.tree.specs.Growth.{allInside}
-use Rattle.wiring.specs.Crowding.{crowded}
+use Rattle.feed.specs.Feeds.{mostPins, allWithin, allApart}
 use Rattle.wiring.specs.Answer.{turnedAway, wiringOf}
-use Rattle.bare.specs.Bare.{most, feedOf, wrongLengths, bareVerdict, bareOf}
+use Rattle.bare.specs.Bare.{feedOfLists, wrongLengths, bareVerdict, bareOf}
 
 module _ (xs ys : List ℤ) where
   -- Where the lengths are not wrong, they are equal and at most 32.
-  pub lengths-right : wrongLengths xs ys ≡ false → (length xs ≡ length ys) × (length xs ≤ most)
+  pub lengths-right : wrongLengths xs ys ≡ false → (length xs ≡ length ys) × (length xs ≤ mostPins)
   unfolding wrongLengths
   lengths-right e =
-      let h = either-false (not (eqb (length xs) (length ys))) (ltb most (length xs)) e in
-      (eqb-true (length xs) (length ys) (not-false _ (h .0)), ltb-false most (length xs) (h .1))
+      let h = either-false (not (eqb (length xs) (length ys))) (ltb mostPins (length xs)) e in
+      (eqb-true (length xs) (length ys) (not-false _ (h .0)), ltb-false mostPins (length xs) (h .1))
 
   -- Accepted lists are alike and few, and their pins are on the board and not too near.
-  pub well : accepted (bareVerdict xs ys) ≡ true → (wrongLengths xs ys ≡ false) × (allInside (feedOf xs ys) ≡ true) × (crowded (feedOf xs ys) ≡ false)
+  pub well : accepted (bareVerdict xs ys) ≡ true → (wrongLengths xs ys ≡ false) × (allWithin (feedOfLists xs ys) ≡ true) × (allApart (feedOfLists xs ys) ≡ true)
   unfolding bareVerdict accepted
   well e =
       let p = passed (wrongLengths xs ys) ListLengths _ refl e in
       let q = passed (eqb (length xs) 0) NoPins _ refl (p .1) in
-      let r = passed (not (allInside (feedOf xs ys))) Outside _ refl (q .1) in
-      let s = passed (crowded (feedOf xs ys)) PlaceTaken _ refl (r .1) in
-      (p .0, not-false (allInside (feedOf xs ys)) (r .0), s .0)
+      let r = passed (not (allWithin (feedOfLists xs ys))) Outside _ refl (q .1) in
+      let s = passed (not (allApart (feedOfLists xs ys))) PlaceTaken _ refl (r .1) in
+      (p .0, not-false (allWithin (feedOfLists xs ys)) (r .0), not-false (allApart (feedOfLists xs ys)) (s .0))
 
   pub lengths-wrong : wrongLengths xs ys ≡ true → ListLengths ≡ bareVerdict xs ys
   unfolding bareVerdict turn choose
@@ -46,15 +45,15 @@ module _ (xs ys : List ℤ) where
     no-pins e = rw (right, eq-eqb (length xs) 0 e)
 
     module _ (some : length xs ≡ 0 → ⊥) where
-      pub one-outside : allInside (feedOf xs ys) ≡ false → Outside ≡ bareVerdict xs ys
+      pub one-outside : allWithin (feedOfLists xs ys) ≡ false → Outside ≡ bareVerdict xs ys
       unfolding bareVerdict turn choose
       one-outside e = rw (right, ne-eqb (length xs) 0 some, e)
 
-      pub two-near : allInside (feedOf xs ys) ≡ true → crowded (feedOf xs ys) ≡ true → PlaceTaken ≡ bareVerdict xs ys
+      pub two-near : allWithin (feedOfLists xs ys) ≡ true → allApart (feedOfLists xs ys) ≡ false → PlaceTaken ≡ bareVerdict xs ys
       unfolding bareVerdict turn choose
       two-near e f = rw (right, ne-eqb (length xs) 0 some, e, f)
 
-      pub all-well : allInside (feedOf xs ys) ≡ true → crowded (feedOf xs ys) ≡ false → Accepted ≡ bareVerdict xs ys
+      pub all-well : allWithin (feedOfLists xs ys) ≡ true → allApart (feedOfLists xs ys) ≡ true → Accepted ≡ bareVerdict xs ys
       unfolding bareVerdict turn choose
       all-well e f = rw (right, ne-eqb (length xs) 0 some, e, f)
 
@@ -68,6 +67,6 @@ module _ (xs ys : List ℤ) (room : ℕ) where
   pub turned : (v : Verdict) → accepted v ≡ false → v ≡ bareVerdict xs ys → turnedAway v ≡ bareOf xs ys room
   turned v n e = ap turnedAway e ∙ refused (ap accepted (sym e) ∙ n)
 
-  pub wired : accepted (bareVerdict xs ys) ≡ true → wiringOf (feedOf xs ys) room ≡ bareOf xs ys room
+  pub wired : accepted (bareVerdict xs ys) ≡ true → wiringOf (feedOfLists xs ys) room ≡ bareOf xs ys room
   unfolding bareOf
   wired e = sym (choose-yes _ _ e)

@@ -9,7 +9,8 @@ use Rattle.refusal.specs.Refusals.{accepted, turn}
 use Rattle.refusal.specs.declared.Verdict.the-variants.{Accepted}
 use Rattle.grid.specs.Place.{difference, larger, sameNumber, onBoard, inside, closer, tooNear, isStraight}
 use Rattle.grid.specs.Weight.{distanceOf, weightOf, pairOf, byPart, byNumber, comesBefore}
-use Rattle.tree.specs.Growth.{allInside, pairAt, sooner, keptIf, pinsFrom, without, runsFrom, between, earliest, earliestOf, next, grown, runsAmong, pinsOf, runsOf}
+use Rattle.feed.specs.Feeds.{within, meets, meetsAny, allWithin, allApart}
+use Rattle.tree.specs.Growth.{pairAt, sooner, keptIf, pinsFrom, without, runsFrom, runsBetween, earliest, earliestOf, nextRun, grown, runsAmong, pinsOf, runsOf}
 use Rattle.tree.specs.Boxes.{belowBoth, under, overlap, boxesShare, isEnd, common, clash, clashAny, boxesMeet}
 use Rattle.tree.specs.Bends.{bent, howMany}
 use Rattle.copper.specs.declared.Shape.the-variants.{Straight, Lower, Upper}
@@ -19,8 +20,7 @@ use Rattle.wiring.specs.declared.Shaped.{Shaped}
 use Rattle.wiring.specs.declared.Wiring.{Wiring}
 use Rattle.wiring.specs.Choices.{bentShapes, shapesOf, withShape, withShapes, choicesOf, legsOfChoice, lengthOfChoice, shortest, shortestOf, bestChoice, weighedAt, weighedOf}
 use Rattle.wiring.specs.Answer.{shaped, shapedRuns, runEntries, legEntries, laidWith, turnedAway, answerWith, wiringVerdict, wiringWith, wiringFavouring, wiringOf}
-use Rattle.wiring.specs.Crowding.{crowd, crowdAny, crowded}
-use Rattle.bare.specs.Bare.{spotsOf, feedOf, wrongLengths, bareVerdict, bareOf}
+use Rattle.bare.specs.Bare.{spotsOf, feedOfLists, wrongLengths, bareVerdict, bareOf}
 
 -- Minus one, minus two, minus three.
 abbrev m1 : ℤ
@@ -78,5 +78,5 @@ answers =
 
 -- W1 to W8.
 pub worked : map (λ (b : Board). bareOf (b .xs) (b .ys) 62 .wiring) boards ≡ answers
-unfolding bareOf bareVerdict wrongLengths feedOf spotsOf crowded crowdAny crowd wiringOf wiringFavouring wiringWith wiringVerdict answerWith turnedAway laidWith legEntries runEntries shapedRuns weighedOf weighedAt howMany bent bestChoice shortestOf shortest lengthOfChoice legsOfChoice choicesOf withShapes withShape shapesOf bentShapes lengthOf different among stepsOfAll stepsOf smaller stepsUp stepsAcross sameStep legsOf lowerCorner upperCorner isStraight boxesMeet clashAny clash common isEnd boxesShare overlap under belowBoth runsOf pinsOf runsAmong grown next earliestOf earliest between runsFrom without pinsFrom keptIf sooner pairAt allInside comesBefore byPart byNumber pairOf weightOf distanceOf difference larger sameNumber onBoard inside closer tooNear accepted turn both either choose
+unfolding bareOf bareVerdict wrongLengths feedOfLists spotsOf within allApart meetsAny meets wiringOf wiringFavouring wiringWith wiringVerdict answerWith turnedAway laidWith legEntries runEntries shapedRuns weighedOf weighedAt howMany bent bestChoice shortestOf shortest lengthOfChoice legsOfChoice choicesOf withShapes withShape shapesOf bentShapes lengthOf different among stepsOfAll stepsOf smaller stepsUp stepsAcross sameStep legsOf lowerCorner upperCorner isStraight boxesMeet clashAny clash common isEnd boxesShare overlap under belowBoth runsOf pinsOf runsAmong grown nextRun earliestOf earliest runsBetween runsFrom without pinsFrom keptIf sooner pairAt allWithin comesBefore byPart byNumber pairOf weightOf distanceOf difference larger sameNumber onBoard inside closer tooNear accepted turn both either choose
 worked = refl

@@ -1,7 +1,8 @@
 // Bare wiring: lists of x and y as a feed, what is turned away, and the wiring of the rest.
 use copper::Leg;
+use feed::PINS;
+use feed::Spot;
 use grid::Place;
-use grid::Spot;
 use lent::fill;
 use lent::wiring_of;
 use refusal::Verdict;
@@ -9,15 +10,10 @@ use wiring::Laid;
 use wiring::Wiring;
 ghost use mathlib.Core.Path.{_≡_};
 ghost use Prim.Native.Nat.{_≤_, _<_};
-ghost use lib.ListN.{length, drop};
-ghost use Rattle.grid.specs.Place.{inside};
-ghost use Rattle.tree.specs.Growth.{placeOf, allInside};
-ghost use Rattle.wiring.specs.Crowding.{crowd, crowdAny, crowded};
+ghost use lib.ListN.{length};
+ghost use Rattle.feed.specs.Feeds.{mostPins};
 ghost use Rattle.lent.specs.Lent.{filledWith};
-ghost use Rattle.bare.specs.Bare.{pinAt, feedOf, wrongLengths, bareOf};
-
-// Lists of x and y have up to this many numbers, as a drawing has pins.
-const MOST: usize = 32;
+ghost use Rattle.bare.specs.Bare.{listedPin, feedOfLists, wrongLengths, bareOf};
 
 // Whether x and y lists differ in length, or exceed 32.
 fn wrong_lengths(xs: &[i32], ys: &[i32]) -> bool
@@ -26,13 +22,13 @@ fn wrong_lengths(xs: &[i32], ys: &[i32]) -> bool
     if xs.len() != ys.len() {
         return true;
     }
-    MOST < xs.len()
+    PINS < xs.len()
 }
 
 // The pin at one position of the lists.
-fn spot_at(xs: &[i32], ys: &[i32], pin: usize) -> Spot
+fn listed_pin(xs: &[i32], ys: &[i32], pin: usize) -> Spot
     requires { ⌜ (pin < length (now xs)) × (pin < length (now ys)) ⌝ }
-    ensures { λ r. ⌜ r ≡ pinAt (now (xs .entry)) (now (ys .entry)) pin ⌝ }
+    ensures { λ r. ⌜ r ≡ listedPin (now (xs .entry)) (now (ys .entry)) pin ⌝ }
 {
     let place = Place {
         x: xs[pin],
@@ -42,86 +38,17 @@ fn spot_at(xs: &[i32], ys: &[i32], pin: usize) -> Spot
 }
 
 // The pins of lists of x and y, numbered by position.
-fn feed_of(xs: &[i32], ys: &[i32]) -> [Spot; 32]
-    requires { ⌜ (length (now xs) ≡ length (now ys)) × (length (now xs) ≤ 32) ⌝ }
-    ensures { λ r. ⌜ r ≡ feedOf (now (xs .entry)) (now (ys .entry)) ⌝ }
+fn feed_of_lists(xs: &[i32], ys: &[i32]) -> [Spot; PINS]
+    requires { ⌜ (length (now xs) ≡ length (now ys)) × (length (now xs) ≤ mostPins) ⌝ }
+    ensures { λ r. ⌜ r ≡ feedOfLists (now (xs .entry)) (now (ys .entry)) ⌝ }
 {
-    let mut feed = [Spot::Absent; 32];
+    let mut feed = [Spot::Absent; PINS];
     let mut pin = 0;
     while pin < xs.len() {
-        feed[pin] = spot_at(xs, ys, pin);
+        feed[pin] = listed_pin(xs, ys, pin);
         pin += 1;
     }
     feed
-}
-
-// Whether a pin, if it is there, is on the board.
-fn is_within(spot: Spot) -> bool
-    ensures { λ r. ⌜ r ≡ inside (placeOf spot) ⌝ }
-{
-    match spot {
-        Spot::Absent => true,
-        Spot::At(place) => grid::is_inside(place),
-    }
-}
-
-// Whether every pin that is there is on the board.
-fn are_inside(feed: [Spot; 32]) -> bool
-    ensures { λ r. ⌜ r ≡ allInside feed ⌝ }
-{
-    let mut pin = 0;
-    while pin < 32 {
-        let spot = feed[pin];
-        if !is_within(spot) {
-            return false;
-        }
-        pin += 1;
-    }
-    true
-}
-
-// Whether two pins are there and too near.
-fn do_crowd(a: Spot, b: Spot) -> bool
-    ensures { λ r. ⌜ r ≡ crowd a b ⌝ }
-{
-    match a {
-        Spot::Absent => false,
-        Spot::At(p) => match b {
-            Spot::Absent => false,
-            Spot::At(q) => grid::too_near(p, q),
-        },
-    }
-}
-
-// Whether a pin is too near one of those numbered `from` and above.
-fn crowds_any(spot: Spot, feed: [Spot; 32], from: usize) -> bool
-    requires { ⌜ from ≤ 32 ⌝ }
-    ensures { λ r. ⌜ r ≡ crowdAny spot (drop from feed) ⌝ }
-{
-    let mut number = from;
-    while number < 32 {
-        let other = feed[number];
-        if do_crowd(spot, other) {
-            return true;
-        }
-        number += 1;
-    }
-    false
-}
-
-// Whether two pins of a feed are too near.
-fn is_crowded(feed: [Spot; 32]) -> bool
-    ensures { λ r. ⌜ r ≡ crowded feed ⌝ }
-{
-    let mut pin = 0;
-    while pin < 32 {
-        let spot = feed[pin];
-        if crowds_any(spot, feed, pin + 1) {
-            return true;
-        }
-        pin += 1;
-    }
-    false
 }
 
 // Wires lists of x and y with room for so many legs, or says why not: 16, 17, 8, 9, 18, 19.
@@ -134,11 +61,11 @@ pub fn wire_bare(xs: &[i32], ys: &[i32], room: usize) -> Laid
     if xs.len() == 0 {
         return wiring::refused(Verdict::NoPins);
     }
-    let feed = feed_of(xs, ys);
-    if !are_inside(feed) {
+    let feed = feed_of_lists(xs, ys);
+    if !feed::are_within(feed) {
         return wiring::refused(Verdict::Outside);
     }
-    if is_crowded(feed) {
+    if !feed::are_apart(feed) {
         return wiring::refused(Verdict::PlaceTaken);
     }
     wiring::wire_feed(feed, room)

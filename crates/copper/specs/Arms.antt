@@ -12,12 +12,12 @@ use Rattle.copper.specs.declared.Tally.{Tally}
 use Rattle.copper.specs.Shapes.{cornerOf, shapeOf}
 
 -- How far b lies beyond a.
-unfoldable pub beyond : ℤ → ℤ → ℕ
-beyond a b = choose (leZ a b) (difference a b) 0
+unfoldable pub stepsBeyond : ℤ → ℤ → ℕ
+stepsBeyond a b = choose (leZ a b) (difference a b) 0
 
 -- The same, where a leg goes that way.
 unfoldable pub reach : Bool → ℤ → ℤ → ℕ
-reach goes a b = choose goes (beyond a b) 0
+reach goes a b = choose goes (stepsBeyond a b) 0
 
 -- The leg from a pin to its tip reaches along the row of the pin, or along its column.
 unfoldable pub armsTo : Place → Place → Arms

@@ -13,12 +13,13 @@ use borrow.Author.Tests.{eq-eqb, ne-eqb}
 use Rattle.refusal.specs.Tests.{either, choose}
 use Rattle.refusal.proofs.Tests.{both-of, opposite}
 use Rattle.grid.specs.declared.Place.{Place}
-use Rattle.grid.specs.declared.Spot.{Spot}
+use Rattle.feed.specs.declared.Spot.{Spot}
 use Rattle.grid.specs.Place.{sameNumber, samePlace}
 use Rattle.grid.proofs.Signed.{off, I32}
 use Rattle.grid.proofs.Flat.{order, Site, span, site, Held}
 use Rattle.tree.specs.declared.Run.{Run}
-use Rattle.tree.specs.Growth.{run, placeOf, spotAt, allInside, pinsOf, runsOf}
+use Rattle.feed.specs.Feeds.{placeOf, spotAt, allWithin}
+use Rattle.tree.specs.Growth.{run, pinsOf, runsOf}
 use Rattle.tree.specs.Boxes.{isEnd, common, boxesMeet}
 use Rattle.tree.proofs.Membership.{Among, first, later}
 use Rattle.tree.proofs.Numbering.{siteAt, keyAt, stands, fits, keyed}
@@ -63,7 +64,7 @@ reacher-far (r ∷ runs) (suc q) l h =
     rw (ne-eqb (farAt runs q) (r .far) (λ z. h 0 (suc q) (omega arith) l (sym z)))
     (ap suc (reacher-far runs q (omega arith) (λ i j a b z. h (suc i) (suc j) (omega arith) (omega arith) z)))
 
-module _ (feed : List Spot) (full : length feed ≡ 32) (ok : allInside feed ≡ true) (f : ℕ) (left : List ℕ) (e : pinsOf feed ≡ f ∷ left) where
+module _ (feed : List Spot) (full : length feed ≡ 32) (ok : allWithin feed ≡ true) (f : ℕ) (left : List ℕ) (e : pinsOf feed ≡ f ∷ left) where
   -- The pin that was reached as the i-th: the first pin, then the far pins of the runs.
   unfoldable pub pinAt : ℕ → ℕ
   pinAt zero = f

@@ -15,7 +15,7 @@ use Rattle.grid.proofs.Flat.{span, site, Held, distance-span}
 use Rattle.copper.specs.declared.Arms.{Arms}
 use Rattle.copper.specs.declared.Tally.{Tally}
 use Rattle.copper.specs.Shapes.{cornerOf, shapeOf}
-use Rattle.copper.specs.Arms.{beyond, reach, armsTo, longest, paidFor, noTally, reachedBy, leadingOn, owed, Fair}
+use Rattle.copper.specs.Arms.{stepsBeyond, reach, armsTo, longest, paidFor, noTally, reachedBy, leadingOn, owed, Fair}
 use Rattle.copper_laws.proofs.Cover.{straight}
 use Rattle.copper_laws.proofs.Sharing.{near-tip, far-tip}
 use Rattle.copper_laws.proofs.Star.{armTo}
@@ -32,7 +32,7 @@ beyond-by true a b p q e = omega (arith, leb-true (off a) (off b) e, difference-
 beyond-by false a b p q e = omega (arith, leb-false (off a) (off b) e)
 
 reach-by : (t : Bool) (a b : ℤ) → I32 a → I32 b → reach t a b ≡ cond t (off b - off a) 0
-unfolding reach beyond choose
+unfolding reach stepsBeyond choose
 reach-by true a b p q = beyond-by (leZ a b) a b p q (sym (leZ-off a b p q))
 reach-by false a b p q = refl
 

@@ -7,12 +7,12 @@ use native.Mathlib.Omega.{arith}
 use borrow.Author.Tests.{not-false}
 use lib.ListN.{length, getD}
 use Rattle.refusal.proofs.Rows.{NoneHolds}
-use Rattle.drawing.specs.Pins.{pins}
+use Rattle.feed.specs.Feeds.{mostPins}
 use Rattle.drawing.specs.Edits.{pinOf}
-use Rattle.journal.specs.Journal.{records, noEdit}
+use Rattle.journal.specs.Journal.{mostRecords, noEdit}
 use Rattle.seats.specs.declared.Seat.{Seat}
 use Rattle.rows.specs.declared.Found.{Found}
-use Rattle.rows.specs.Found.{lookIn}
+use Rattle.rows.specs.Found.{lookAtFound}
 use Rattle.rows.proofs.Rows.{firstRows}
 use Rattle.desk.specs.declared.Desk.{Desk}
 use Rattle.desk.specs.Desk.{seatOf, editsOf, sound}
@@ -21,15 +21,15 @@ use Rattle.desk.proofs.Found.{foundAt, sound-there, seat-there, same-th
 
 module _ (d : Desk) (s : ℕ) {f : Found} (g : f ≡ foundAt d s) where
   -- The used count of a desk that is not broken is in its range.
-  pub used-fits : f .broken ≡ false → d .used ≤ records
+  pub used-fits : f .broken ≡ false → d .used ≤ mostRecords
   unfolding sound
   used-fits k = used-within d (not-false _ (rw g at k))
 
-  module _ (n : NoneHolds (firstRows (lookIn f [] 0))) where
+  module _ (n : NoneHolds (firstRows (lookAtFound f [] 0))) where
     -- Undo: an edit stands, and the seat owns it; its pin is at most 31.
     pub undo-fits : (f .seat .standing ≡ 0 → ⊥)
-        → (d .used ≤ records) × (0 < f .seat .standing) × (f .seat .standing ≤ length (editsOf d s))
-        × (pinOf (getD (editsOf d s) (f .seat .standing - 1) noEdit) < pins)
+        → (d .used ≤ mostRecords) × (0 < f .seat .standing) × (f .seat .standing ≤ length (editsOf d s))
+        × (pinOf (getD (editsOf d s) (f .seat .standing - 1) noEdit) < mostPins)
     undo-fits z =
         let k = sound-there d s g n in
         let h = seat-there d s g n in
@@ -39,7 +39,7 @@ module _ (d : Desk) (s : ℕ) {f : Found} (g : f ≡ foundAt d s) where
 
     -- Redo: the seat owns an edit that does not stand; its pin is at most 31.
     pub redo-fits : f .seat .standing < length (editsOf d s)
-        → (d .used ≤ records) × (f .seat .standing < length (editsOf d s)) × (pinOf (getD (editsOf d s) (f .seat .standing) noEdit) < pins)
+        → (d .used ≤ mostRecords) × (f .seat .standing < length (editsOf d s)) × (pinOf (getD (editsOf d s) (f .seat .standing) noEdit) < mostPins)
     redo-fits z =
         let k = sound-there d s g n in
         let h = seat-there d s g n in

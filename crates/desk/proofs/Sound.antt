@@ -1,37 +1,44 @@
 -- What a sound desk says of its parts: each test that `sound` joins, as a fact. Assumes nothing.
-use mathlib.Core.Path.{_≡_, ap, sym, _∙_}
-use mathlib.Core.Bool.{true, false}
+use mathlib.Core.Path.{_≡_, refl, ap, sym, _∙_}
+use mathlib.Core.Bool.{true, false, not}
 use mathlib.Core.List.{_∷_, reverse, reverse-append}
 use Prim.Native.Nat.{ℕ, suc, _-_, _<_, _≤_}
 use native.Mathlib.Omega.{arith}
-use borrow.Author.Tests.{eqb-true, eqb-false, leb-true, not-true}
+use borrow.Author.Tests.{eqb-true, eqb-false, leb-true, leb-false, not-true, not-false}
+use lib.Dec.{leb}
 use lib.ListN.{length, take, drop, getD}
 use lib.Seq.{take-suc, drop-cons, length-take-le}
+use Rattle.refusal.specs.Refusals.{accepted}
+use Rattle.refusal.specs.declared.Verdict.the-variants.{SeatAbove, NotOpen, DeskBroken}
+use Rattle.refusal.proofs.Rows.{passed}
 use Rattle.refusal.proofs.Tests.{both-left, both-right, choose-yes, choose-no}
-use Rattle.drawing.specs.Pins.{pins, lawful}
+use Rattle.feed.specs.Feeds.{mostPins}
+use Rattle.drawing.specs.Pins.{lawful, feedOf}
+use Rattle.drawing.proofs.Rules.{feed-long}
 use Rattle.drawing.specs.Edits.{pinOf, makeable, made, takeable, unmade}
 use Rattle.drawing.proofs.Making.{makeable-number, takeable-number}
 use Rattle.journal.proofs.Own.{own-length}
 use Rattle.journal.proofs.Turns.{turn-first}
-use Rattle.journal.specs.Journal.{seats, records, noEdit, seated, replayable, takeableAll}
+use Rattle.journal.specs.Journal.{mostSeats, mostRecords, noEdit, seated, replayable, takeableAll}
 use Rattle.seats.proofs.Tests.{seat-among}
 use Rattle.desk.specs.declared.Desk.{Desk}
-use Rattle.desk.specs.Desk.{seatOf, live, editsOf, standingOf, takenBackOf, jobsOf, jobsApart, soundOpen, soundClosed, soundSeat, sound}
+use Rattle.desk.specs.Refusals.{turnedClosing}
+use Rattle.desk.specs.Desk.{seatOf, lookAt, inUse, editsOf, standingOf, takenBackOf, jobsOf, jobsApart, soundOpen, soundClosed, soundSeat, sound}
 
 module _ (d : Desk) (h : sound d ≡ true) where
-  pub eight-seats : length (d .seats) ≡ seats
+  pub eight-seats : length (d .seats) ≡ mostSeats
   unfolding sound
   eight-seats = eqb-true _ _ (both-left _ _ h)
 
-  pub whole-journal : length (d .journal) ≡ records
+  pub whole-journal : length (d .journal) ≡ mostRecords
   unfolding sound
   whole-journal = eqb-true _ _ (both-left _ _ (both-right _ _ h))
 
-  pub used-within : d .used ≤ records
+  pub used-within : d .used ≤ mostRecords
   unfolding sound
   used-within = leb-true _ _ (both-left _ _ (both-right _ _ (both-right _ _ h)))
 
-  pub all-seated : seated (live d) ≡ true
+  pub all-seated : seated (inUse d) ≡ true
   unfolding sound
   all-seated = both-left _ _ (both-right _ _ (both-right _ _ (both-right _ _ h)))
 
@@ -39,25 +46,25 @@ module _ (d : Desk) (h : sound d ≡ true) where
   unfolding sound
   jobs-apart = both-left _ _ (both-right _ _ (both-right _ _ (both-right _ _ (both-right _ _ h))))
 
-  pub seat-sound : (s : ℕ) → s < seats → soundSeat (seatOf d s) (editsOf d s) ≡ true
+  pub seat-sound : (s : ℕ) → s < mostSeats → soundSeat (seatOf d s) (editsOf d s) ≡ true
   unfolding sound
-  seat-sound s k = seat-among (d .seats) (live d) seats s (both-right _ _ (both-right _ _ (both-right _ _ (both-right _ _ (both-right _ _ h))))) k
+  seat-sound s k = seat-among (d .seats) (inUse d) mostSeats s (both-right _ _ (both-right _ _ (both-right _ _ (both-right _ _ (both-right _ _ h))))) k
 
-  pub live-length : length (live d) ≡ d .used
-  live-length =
+  pub in-use-length : length (inUse d) ≡ d .used
+  in-use-length =
       let a : d .used ≤ length (d .journal) = omega (arith, used-within, whole-journal) in
       length-take-le (d .used) (d .journal) a
 
   -- A seat owns no more records than are in use.
   pub owned-within : (s : ℕ) → length (editsOf d s) ≤ d .used
-  owned-within s = omega (arith, own-length s (live d), live-length)
+  owned-within s = omega (arith, own-length s (inUse d), in-use-length)
 
   -- A closed seat owns none.
-  pub closed-owns-none : (s : ℕ) → s < seats → seatOf d s .opened ≡ false → length (editsOf d s) ≡ 0
+  pub closed-owns-none : (s : ℕ) → s < mostSeats → seatOf d s .opened ≡ false → length (editsOf d s) ≡ 0
   unfolding soundSeat soundClosed
   closed-owns-none s k o = eqb-true _ _ (sym (choose-no _ _ o) ∙ seat-sound s k)
 
-  module _ (s : ℕ) (k : s < seats) (o : seatOf d s .opened ≡ true) where
+  module _ (s : ℕ) (k : s < mostSeats) (o : seatOf d s .opened ≡ true) where
     opened : soundOpen (seatOf d s) (editsOf d s) ≡ true
     unfolding soundSeat
     opened = sym (choose-yes _ _ o) ∙ seat-sound s k
@@ -74,7 +81,7 @@ module _ (d : Desk) (h : sound d ≡ true) where
     unfolding soundOpen
     pins-lawful = both-left _ _ (both-right _ _ (both-right _ _ opened))
 
-    pub pins-whole : length (seatOf d s .pins) ≡ pins
+    pub pins-whole : length (seatOf d s .pins) ≡ mostPins
     unfolding lawful
     pins-whole = eqb-true _ _ (both-left _ _ pins-lawful)
 
@@ -86,7 +93,7 @@ module _ (d : Desk) (h : sound d ≡ true) where
     unfolding soundOpen
     taken-back-replayable = both-right _ _ (both-right _ _ (both-right _ _ (both-right _ _ opened)))
 
-    pub standing-small : seatOf d s .standing ≤ records
+    pub standing-small : seatOf d s .standing ≤ mostRecords
     standing-small = omega (arith, standing-within, owned-within s, used-within)
 
     -- The latest standing edit comes first among those that undo takes back; its pin is at most 31.
@@ -99,7 +106,7 @@ module _ (d : Desk) (h : sound d ≡ true) where
         ∙ ap reverse (take-suc (editsOf d s) (seatOf d s .standing - 1) noEdit b)
         ∙ reverse-append (take (seatOf d s .standing - 1) (editsOf d s)) _
 
-    pub undo-numbered : (seatOf d s .standing ≡ 0 → ⊥) → pinOf (getD (editsOf d s) (seatOf d s .standing - 1) noEdit) < pins
+    pub undo-numbered : (seatOf d s .standing ≡ 0 → ⊥) → pinOf (getD (editsOf d s) (seatOf d s .standing - 1) noEdit) < mostPins
     undo-numbered z =
         takeable-number (seatOf d s .pins) _
         (turn-first takeable unmade (seatOf d s .pins) _ _ (rw (latest-first z) at standing-takeable))
@@ -110,7 +117,16 @@ module _ (d : Desk) (h : sound d ≡ true) where
     next-first b = drop-cons (editsOf d s) (seatOf d s .standing) noEdit b
 
     pub redo-numbered : seatOf d s .standing < length (editsOf d s)
-        → pinOf (getD (editsOf d s) (seatOf d s .standing) noEdit) < pins
+        → pinOf (getD (editsOf d s) (seatOf d s .standing) noEdit) < mostPins
     redo-numbered b =
         makeable-number (seatOf d s .pins) _
         (turn-first makeable made (seatOf d s .pins) _ _ (rw (next-first b) at taken-back-replayable))
+
+-- Where 28, 1 and 2 pass, the seat's feed has 32 spots.
+pub feed-whole : (d : Desk) (s : ℕ) → accepted (turnedClosing (lookAt d s)) ≡ true → length (feedOf (seatOf d s .pins)) ≡ mostPins
+unfolding turnedClosing accepted
+feed-whole d s e =
+    let p = passed (not (sound d)) DeskBroken _ refl e in
+    let q = passed (leb mostSeats s) SeatAbove _ refl (p .1) in
+    let r = passed (not (seatOf d s .opened)) NotOpen _ refl (q .1) in
+    feed-long _ (pins-lawful d (not-false _ (p .0)) s (leb-false mostSeats s (q .0)) (not-false _ (r .0)))

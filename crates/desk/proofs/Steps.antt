@@ -11,7 +11,7 @@ use Rattle.refusal.specs.declared.Verdict.{Verdict}
 use Rattle.refusal.specs.declared.Verdict.the-variants.{Accepted, JournalFull}
 use Rattle.drawing.specs.declared.Edit.{Edit}
 use Rattle.journal.specs.declared.Compacted.{Compacted}
-use Rattle.journal.specs.Journal.{records, recorded, kept, compacted}
+use Rattle.journal.specs.Journal.{mostRecords, recorded, kept, compacted}
 use Rattle.journal.proofs.Own.{kept-length, added-length}
 use Rattle.journal.proofs.Filled.{filled-set}
 use Rattle.seats.specs.declared.Seat.{Seat}
@@ -20,8 +20,8 @@ use Rattle.desk.specs.declared.Desk.{Desk}
 use Rattle.desk.specs.declared.Answered.{Answered}
 use Rattle.desk.specs.Calls.{Call}
 use Rattle.desk.specs.Refusals.{full}
-use Rattle.desk.specs.Desk.{seatOf, live, editsOf, lookAt, sound, withSeat, withRecord, freed, edited, entered, effect, answerOf, step}
-use Rattle.desk.proofs.Sound.{used-within, live-length}
+use Rattle.desk.specs.Desk.{seatOf, inUse, editsOf, lookAt, sound, withSeat, withRecord, freed, edited, entered, effect, answerOf, step}
+use Rattle.desk.proofs.Sound.{used-within, in-use-length}
 
 -- A step whose answer is known: refused, the desk as it was; accepted, what the call makes of it.
 module _ (d : Desk) (c : Call) {v : Verdict} (e : answerOf d c ≡ v) where
@@ -34,7 +34,7 @@ module _ (d : Desk) (c : Call) {v : Verdict} (e : answerOf d c ≡ v) where
   step-accepted f g = rw (e, f, g)
 
 -- The desk with what the journal crate leaves of the records.
-pub freed-by : (d : Desk) (s k : ℕ) {x : Compacted} → x ≡ compacted (kept s k (live d))
+pub freed-by : (d : Desk) (s k : ℕ) {x : Compacted} → x ≡ compacted (kept s k (inUse d))
     → _≡_ {A = Desk} (record { seats = d .seats; journal = x .journal; used = x .used }) (freed d s k)
 freed-by d s k e = rw e
 
@@ -47,29 +47,29 @@ module _ (d : Desk) (k : sound d ≡ true) (s : ℕ) (e : Edit) {q : Seat} (i : 
   count-left : x .used ≡ d .used - (length (editsOf d s) - seatOf d s .standing)
   count-left =
       ap (λ (y : Desk). y .used) f
-      ∙ omega (arith, kept-length s (seatOf d s .standing) (live d), live-length d k)
+      ∙ omega (arith, kept-length s (seatOf d s .standing) (inUse d), in-use-length d k)
 
-  pub entered-full : records ≤ x .used → _≡_ {A = Answered} (record { desk = d; verdict = JournalFull }) (entered d s e)
+  pub entered-full : mostRecords ≤ x .used → _≡_ {A = Answered} (record { desk = d; verdict = JournalFull }) (entered d s e)
   unfolding entered turn choose
   entered-full h =
-      let y : records ≤ d .used - (length (editsOf d s) - seatOf d s .standing) = rw count-left at h in
-      rw (eq-eqb (d .used - (length (editsOf d s) - seatOf d s .standing)) records (omega (arith, y, used-within d k)))
+      let y : mostRecords ≤ d .used - (length (editsOf d s) - seatOf d s .standing) = rw count-left at h in
+      rw (eq-eqb (d .used - (length (editsOf d s) - seatOf d s .standing)) mostRecords (omega (arith, y, used-within d k)))
 
-  pub entered-done : {y z : Desk} {t : Seat} → x .used < records → y ≡ withRecord x (recorded s e) → t ≡ editedSeat q e
+  pub entered-done : {y z : Desk} {t : Seat} → x .used < mostRecords → y ≡ withRecord x (recorded s e) → t ≡ editedSeat q e
       → z ≡ withSeat y s t → _≡_ {A = Answered} (record { desk = z; verdict = Accepted }) (entered d s e)
   unfolding entered edited turn choose
   entered-done h a b z =
-      let n : d .used - (length (editsOf d s) - seatOf d s .standing) < records = rw count-left at h in
-      let m : length (kept s (seatOf d s .standing) (live d)) < records = rw f at h in
+      let n : d .used - (length (editsOf d s) - seatOf d s .standing) < mostRecords = rw count-left at h in
+      let m : length (kept s (seatOf d s .standing) (inUse d)) < mostRecords = rw f at h in
       rw (
-        ne-eqb (d .used - (length (editsOf d s) - seatOf d s .standing)) records (λ (u : d .used - (length (editsOf d s) - seatOf d s .standing) ≡ records). omega (arith, n, u)),
+        ne-eqb (d .used - (length (editsOf d s) - seatOf d s .standing)) mostRecords (λ (u : d .used - (length (editsOf d s) - seatOf d s .standing) ≡ mostRecords). omega (arith, n, u)),
         z,
         a,
         b,
         i,
         f,
-        filled-set (kept s (seatOf d s .standing) (live d)) (recorded s e) m,
-        added-length s (seatOf d s .standing) e (live d),
+        filled-set (kept s (seatOf d s .standing) (inUse d)) (recorded s e) m,
+        added-length s (seatOf d s .standing) e (inUse d),
       )
 
 -- An edit that no refusal before 12 meets is a step of the call that makes it.

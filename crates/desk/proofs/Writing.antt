@@ -16,10 +16,10 @@ use Rattle.pinmap.specs.declared.Writing.{Writing}
 use Rattle.pinmap.specs.Map.{mapOf, written, noRoom, writeMap, bufferAfter}
 use Rattle.wiring.specs.declared.Laid.{Laid}
 use Rattle.wiring.specs.Answer.{wiringOf, turnedAway}
-use Rattle.journal.specs.Journal.{seats}
+use Rattle.journal.specs.Journal.{mostSeats}
 use Rattle.seats.specs.declared.Seat.{Seat}
 use Rattle.rows.specs.declared.Found.{Found}
-use Rattle.rows.specs.Found.{lookIn, writingIn, bufferIn, laidIn}
+use Rattle.rows.specs.Found.{lookAtFound, writingIn, bufferIn, laidIn}
 use Rattle.rows.proofs.Rows.{joined, firstRows, first-refusing}
 use Rattle.desk.specs.declared.Desk.{Desk}
 use Rattle.desk.specs.declared.Written.{Written}
@@ -47,7 +47,7 @@ all-accepted = refl
 module _ (d : Desk) (s : ℕ) {f : Found} (g : f ≡ foundAt d s) where
   -- Where 28, 1 and 2 pass what is found, the seat found is the desk's.
   abbrev before : Verdict
-  before = turnedClosing (lookIn f [] 0)
+  before = turnedClosing (lookAtFound f [] 0)
 
   abbrev answer : Verdict
   answer = turnedClosing (lookAt d s)
@@ -125,11 +125,11 @@ module _ (d : Desk) (s : ℕ) {f : Found} (g : f ≡ foundAt d s) where
         )
 
 -- What is found at an open seat of a desk that is not broken keeps the rules.
-lawful-by : (d : Desk) (s : ℕ) (t : Bool) → leb seats s ≡ t → not (sound d) ≡ false → choose t closedSeat (seatOf d s) .opened ≡ true
+lawful-by : (d : Desk) (s : ℕ) (t : Bool) → leb mostSeats s ≡ t → not (sound d) ≡ false → choose t closedSeat (seatOf d s) .opened ≡ true
     → lawful (choose t closedSeat (seatOf d s) .pins) ≡ true
 unfolding choose
 lawful-by d s true e k o = absurd (false≢true o)
-lawful-by d s false e k o = pins-lawful d (not-false _ k) s (leb-false seats s e) o
+lawful-by d s false e k o = pins-lawful d (not-false _ k) s (leb-false mostSeats s e) o
 
 pub found-lawful : (d : Desk) (s : ℕ) {f : Found} → f ≡ foundAt d s → f .broken ≡ false → f .seat .opened ≡ true → lawful (f .seat .pins) ≡ true
 unfolding sound

@@ -15,7 +15,7 @@ use Rattle.copper.specs.declared.Leg.{Leg}
 use Rattle.wiring.specs.Answer.{wiringOf, turnedAway}
 use Rattle.lent.specs.Lent.{filledWith}
 use Rattle.journal.specs.declared.Record.{Record}
-use Rattle.journal.specs.Journal.{seats, records, blank, own, kept, added, filled}
+use Rattle.journal.specs.Journal.{mostSeats, mostRecords, blank, own, kept, added, filled}
 use Rattle.seats.specs.declared.Seat.{Seat}
 use Rattle.seats.specs.Seats.{editedSeat, undoneSeat, redoneSeat}
 use Rattle.desk.specs.declared.Desk.{Desk}
@@ -26,7 +26,7 @@ use Rattle.desk.specs.declared.WiredSeat.{WiredSeat}
 use Rattle.desk.specs.Calls.{Call, seatIn, opening, closing, placing, moving, removing, undoing, redoing, writing, wiring}
 use Rattle.desk.specs.Refusals.{Look, full, verdictOf, turnedClosing}
 pub use Rattle.seats.specs.Seats.{closedSeat, noSeat, openSeat, withPins, jobsIn}
-pub use Rattle.seats.specs.Sound.{standingIn, takenBackIn}
+pub use Rattle.seats.specs.Sound.{standingAmong, takenBackAmong}
 unfoldable pub use Rattle.seats.specs.Seats.{jobOf, jobsApart}
 unfoldable pub use Rattle.seats.specs.Sound.{soundOpen, soundClosed, soundSeat, soundTo, soundAll}
 
@@ -35,20 +35,20 @@ abbrev pub seatOf : Desk → ℕ → Seat
 seatOf d s = getD (d .seats) s noSeat
 
 -- The records in use, all seats mixed, in the order in which they were made.
-abbrev pub live : Desk → List Record
-live d = take (d .used) (d .journal)
+abbrev pub inUse : Desk → List Record
+inUse d = take (d .used) (d .journal)
 
 -- The edits of one seat in order: its standing ones, then those taken back, the next to redo first.
 abbrev pub editsOf : Desk → ℕ → List Edit
-editsOf d s = own s (live d)
+editsOf d s = own s (inUse d)
 
 -- The standing edits of a seat, the latest first.
 abbrev pub standingOf : Desk → ℕ → List Edit
-standingOf d s = standingIn (seatOf d s) (editsOf d s)
+standingOf d s = standingAmong (seatOf d s) (editsOf d s)
 
 -- The taken-back edits of a seat, the most recently taken back first.
 abbrev pub takenBackOf : Desk → ℕ → List Edit
-takenBackOf d s = takenBackIn (seatOf d s) (editsOf d s)
+takenBackOf d s = takenBackAmong (seatOf d s) (editsOf d s)
 
 -- The jobs of all seats.
 abbrev pub jobsOf : Desk → List ℕ
@@ -92,13 +92,13 @@ withRecords d s t l = record { seats = set (d .seats) s t; journal = filled l; u
 
 -- The desk with a seat's records beyond its first k freed.
 abbrev pub freed : Desk → ℕ → ℕ → Desk
-freed d s k = record { seats = d .seats; journal = filled (kept s k (live d)); used = length (kept s k (live d)) }
+freed d s k = record { seats = d .seats; journal = filled (kept s k (inUse d)); used = length (kept s k (inUse d)) }
 
 -- A new edit first frees the taken-back records of its own seat, then takes a record.
 unfoldable pub edited : Desk → ℕ → Edit → Desk
 edited d s e =
     withRecords d s (editedSeat (seatOf d s) e)
-    (added s (seatOf d s .standing) e (live d))
+    (added s (seatOf d s .standing) e (inUse d))
 
 -- An edit that no refusal before 12 meets: turned away where the journal is full, else made and recorded.
 unfoldable pub entered : Desk → ℕ → Edit → Answered
@@ -111,7 +111,7 @@ entered d s e =
 -- What an accepted call makes of the desk.
 unfoldable pub effect : Desk → Call → Desk
 effect d (opening s job map) = withSeat d s (openSeat job (readMap map job .pins))
-effect d (closing s) = withRecords d s closedSeat (kept s 0 (live d))
+effect d (closing s) = withRecords d s closedSeat (kept s 0 (inUse d))
 effect d (placing s p at) = edited d s (placed p at)
 effect d (moving s p at) = edited d s (moved (seatOf d s .pins) p at)
 effect d (removing s p) = edited d s (removed (seatOf d s .pins) p)
@@ -145,7 +145,7 @@ bufferOf d s buffer =
 
 -- The empty desk: eight closed seats, no record in use.
 unfoldable pub emptyDesk : Desk
-emptyDesk = record { seats = replicate seats closedSeat; journal = replicate records blank; used = 0 }
+emptyDesk = record { seats = replicate mostSeats closedSeat; journal = replicate mostRecords blank; used = 0 }
 
 -- Wiring a seat: 28, 1 and 2 as for closing; then the wiring of its drawing's feed, with room for so many legs. The desk as it is.
 unfoldable pub wiredOf : Desk → ℕ → ℕ → Wired

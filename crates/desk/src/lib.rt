@@ -13,9 +13,9 @@ use wiring::Wiring;
 ghost use mathlib.Core.Path.{_≡_};
 ghost use mathlib.Core.Bool.{true};
 ghost use Prim.Native.Nat.{_<_, _≤_};
-ghost use Rattle.drawing.specs.Pins.{pins};
+ghost use Rattle.feed.specs.Feeds.{mostPins};
 ghost use Rattle.drawing.specs.Edits.{pinOf};
-ghost use Rattle.journal.specs.Journal.{seats, records, recorded};
+ghost use Rattle.journal.specs.Journal.{mostSeats, mostRecords, recorded};
 ghost use Rattle.rows.specs.Found.{foundIn};
 ghost use Rattle.desk.specs.Calls.{opening, closing, placing, moving, removing, undoing, redoing};
 ghost use Rattle.desk.specs.Desk.{emptyDesk, seatOf, sound, refused, withSeat, withRecord, freed, entered, step, writtenOf, bufferOf, wiredOf, wiredSeatOf, lentOf};
@@ -98,7 +98,7 @@ impl Desk {
 
     // The desk with one seat changed.
     fn with_seat(self, seat: usize, following: Seat) -> Desk
-        requires { ⌜ seat < seats ⌝ }
+        requires { ⌜ seat < mostSeats ⌝ }
         ensures { λ r. ⌜ r ≡ withSeat self seat following ⌝ }
     {
         let mut d = self;
@@ -108,7 +108,7 @@ impl Desk {
 
     // The desk with a seat's records beyond its first `keep` freed.
     fn freed(self, seat: usize, keep: usize) -> Desk
-        requires { ⌜ self .used ≤ records ⌝ }
+        requires { ⌜ self .used ≤ mostRecords ⌝ }
         ensures { λ r. ⌜ r ≡ freed self seat keep ⌝ }
     {
         let records = self.journal;
@@ -124,7 +124,7 @@ impl Desk {
 
     // The desk with an edit of a seat recorded after all others.
     fn recorded(self, seat: usize, edit: Edit) -> Desk
-        requires { ⌜ self .used < records ⌝ }
+        requires { ⌜ self .used < mostRecords ⌝ }
         ensures { λ r. ⌜ r ≡ withRecord self (recorded seat edit) ⌝ }
     {
         let records = self.journal;
@@ -140,7 +140,7 @@ impl Desk {
 
     // Makes and records an edit of the seat `s` of that number that no refusal before 12 meets, unless the journal is full.
     fn entered(self, seat: usize, s: Seat, edit: Edit) -> Answered
-        requires { ⌜ (sound self ≡ true) × (seat < seats) × (s ≡ seatOf self seat) × (seatOf self seat .opened ≡ true) × (pinOf edit < pins) ⌝ }
+        requires { ⌜ (sound self ≡ true) × (seat < mostSeats) × (s ≡ seatOf self seat) × (seatOf self seat .opened ≡ true) × (pinOf edit < mostPins) ⌝ }
         ensures { λ r. ⌜ r ≡ entered self seat edit ⌝ }
     {
         let left = self.freed(seat, s.standing);
@@ -165,7 +165,7 @@ impl Desk {
     {
         let found = self.find(seat);
         let seats = self.seats;
-        let reading = rows::opening(found, seats, job, map);
+        let reading = rows::map_read(found, seats, job, map);
         let verdict = reading.verdict;
         if refusal::is_accepted(verdict) {
             let pins = reading.pins;
@@ -292,7 +292,7 @@ impl Desk {
         ensures { λ _. ⌜ now (buffer .exit) ≡ bufferOf self seat (now (buffer .entry)) ⌝ }
     {
         let found = self.find(seat);
-        let writing = rows::writing(found, buffer);
+        let writing = rows::map_written(found, buffer);
         let verdict = writing.verdict;
         Written {
             desk: self,
@@ -306,7 +306,7 @@ impl Desk {
         ensures { λ r. ⌜ r ≡ wiredOf self seat room ⌝ }
     {
         let found = self.find(seat);
-        let laid = rows::wiring(found, room);
+        let laid = rows::feed_wired(found, room);
         Wired { desk: self, laid }
     }
 

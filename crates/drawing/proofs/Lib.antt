@@ -1,5 +1,4 @@
 -- The laws of drawings that other crates cite.
-pub mod Places
 pub mod Rules
 pub mod Making
 mod Loops

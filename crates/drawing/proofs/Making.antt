@@ -1,6 +1,6 @@
 -- Edits: one that can be made leaves a drawing that keeps the rules, and taking it back gives the pins before; one that can be taken back
 -- gives the pins again when it is made again. Assumes nothing.
-use mathlib.Core.Path.{_≡_, refl, ap, sym}
+use mathlib.Core.Path.{_≡_, refl, ap, sym, _∙_}
 use mathlib.Core.Bool.{true, false, not}
 use mathlib.Core.List.{List}
 use mathlib.Core.Logic.{⊎-elim}
@@ -19,9 +19,13 @@ use Rattle.drawing.specs.declared.Stand.the-variants.{Absent, There}
 use Rattle.drawing.specs.declared.Pin.{Pin}
 use Rattle.drawing.specs.declared.Edit.{Edit}
 use Rattle.drawing.specs.declared.Edit.the-variants.{Placed, Moved, Removed}
-use Rattle.drawing.specs.Pins.{pins, absent, there, holding, thereIn, isThere, meetsAny, crowded, within, settled, lawful}
+use Rattle.feed.specs.declared.Spot.{Spot}
+use Rattle.feed.specs.declared.Spot.the-variants as spot
+use Rattle.feed.specs.Feeds.{mostPins, within, meetsOther, crowded, settled}
+use Rattle.feed.proofs.Rules.{absent-meets}
+use Rattle.drawing.specs.Pins.{absent, there, holding, thereIn, isThere, samePin, samePins, spotOf, feedOf, lawful}
 use Rattle.drawing.specs.Edits.{pinOf, movedPin, made, unmade, standsIn, standsAt, fits, placeable, movable, makeable, takeable}
-use Rattle.drawing.proofs.Rules.{pin-same, pin-self, pins-same, pins-self, absent-meets, lawful-set, lawful-settled, settled-lawful}
+use Rattle.drawing.proofs.Rules.{pin-same, pin-self, pins-same, pins-self, one-changed, lawful-set, lawful-settled, settled-lawful}
 
 -- The edit that does what taking an edit back does.
 abbrev pub flipped : Edit → Edit
@@ -57,6 +61,15 @@ unmade-is l (Placed p h) = refl
 unmade-is l (Moved p a b) = refl
 unmade-is l (Removed p h) = refl
 
+-- Taken back and made again, an edit gives the same drawing just where it gives the same pin.
+pub remade-same : (l : List Pin) (e : Edit) → pinOf e < length l
+    → samePins (made (unmade l e) e) l ≡ samePin (getD (made (unmade l e) e) (pinOf e) absent) (getD l (pinOf e) absent)
+remade-same l e h =
+    let p = pinOf e in
+    let v = after (was (unmade l e) e) e in
+    let m : made (unmade l e) e ≡ set l p v = made-is (unmade l e) e ∙ ap (λ (z : List Pin). set z p v) (unmade-is l e) ∙ rw set-set in
+    rw m (one-changed l p v h ∙ ap (λ (q : Pin). samePin q (getD l p absent)) (sym (getD-set-same l p v absent h)))
+
 -- ---- an edit that can be made
 
 stand-absent : (s : Stand) → thereIn s ≡ false → s ≡ Absent
@@ -77,18 +90,23 @@ pin-there q a e = let p : q .stand ≡ There (holding a) = stand-there (q .stand
 
 -- What the test says: the number is a pin's, taking back gives the pin as it was, and the pin that is left is on the board with no other too near.
 record Makeable (l : List Pin) (e : Edit) : Type 0 where
-  number : pinOf e < pins
+  number : pinOf e < mostPins
   back : after (after (was l e) e) (flipped e) ≡ was l e
-  board : within (after (was l e) e) ≡ true
-  free : meetsAny (after (was l e) e) (set l (pinOf e) absent) ≡ false
+  board : within (spotOf (after (was l e) e)) ≡ true
+  free : meetsOther (feedOf l) (pinOf e) (spotOf (after (was l e) e)) ≡ false
+
+-- A pin that is absent is near no other.
+absent-free : (feed : List Spot) (p : ℕ) → meetsOther feed p (spotOf absent) ≡ false
+unfolding meetsOther spotOf
+absent-free feed p = absent-meets (set feed p spot.Absent)
 
 parts : (l : List Pin) (e : Edit) → makeable l e ≡ true → Makeable l e
-unfolding makeable placeable movable fits crowded within movedPin
+unfolding makeable placeable movable fits crowded within spotOf movedPin
 parts l (Placed p h) m =
     let t : placeable l p h ≡ true = both-right _ _ m in
     let f : fits l p (h .place) ≡ true = both-right _ _ t in
     record {
-      number = ltb-true p pins (both-left _ _ m);
+      number = ltb-true p mostPins (both-left _ _ m);
       back = sym (pin-absent (getD l p absent) (not-true _ (both-left _ _ t)));
       board = both-left _ _ f;
       free = not-true _ (both-right _ _ f);
@@ -98,17 +116,17 @@ parts l (Moved p a b) m =
     let f : fits l p b ≡ true = both-right _ _ (both-right _ _ t) in
     let q : getD l p absent ≡ there (holding a) = pin-there (getD l p absent) a (both-left _ _ t) in
     record {
-      number = ltb-true p pins (both-left _ _ m);
+      number = ltb-true p mostPins (both-left _ _ m);
       back = rw q;
       board = rw q (both-left _ _ f);
       free = rw q (not-true _ (both-right _ _ f));
     }
 parts l (Removed p h) m =
     record {
-      number = ltb-true p pins (both-left _ _ m);
+      number = ltb-true p mostPins (both-left _ _ m);
       back = sym (pin-same (getD l p absent) (there h) (both-right _ _ m));
       board = refl;
-      free = absent-meets (set l p absent);
+      free = absent-free (feedOf l) p;
     }
 
 -- A change of pin p and the change back.
@@ -120,7 +138,7 @@ there-and-back l p f g e =
 
 module _ (l : List Pin) (e : Edit) (m : makeable l e ≡ true) where
   -- An edit that can be made names a pin from 0 to 31.
-  pub makeable-number : pinOf e < 32
+  pub makeable-number : pinOf e < mostPins
   makeable-number = parts l e m .number
 
   -- Taking back what was made gives the pins before.
@@ -146,7 +164,7 @@ module _ (l : List Pin) (e : Edit) (t : takeable l e ≡ true) where
   unfolding takeable
   unmade-makeable = both-left _ _ t
 
-  pub takeable-number : pinOf e < 32
+  pub takeable-number : pinOf e < mostPins
   takeable-number = makeable-number (unmade l e) e unmade-makeable
 
   -- Making it again gives the pins as they are.
@@ -158,24 +176,24 @@ module _ (l : List Pin) (e : Edit) (t : takeable l e ≡ true) where
   pub unmade-lawful : lawful l ≡ true → lawful (unmade l e) ≡ true
   unfolding takeable
   unmade-lawful k =
-      let s : settled (unmade l e) (pinOf e) ≡ true = both-left _ _ (both-right _ _ t) in
+      let s : settled (feedOf (unmade l e)) (pinOf e) ≡ true = both-left _ _ (both-right _ _ t) in
       rw (unmade-is l e) (settled-lawful l (pinOf e) (after (was l e) (flipped e)) k takeable-number (rw (unmade-is l e) at s))
 
 -- ---- what the refusals 6 to 9 leave
 
-module _ (l : List Pin) (p : ℕ) (n : p < 32) where
+module _ (l : List Pin) (p : ℕ) (n : p < mostPins) where
   -- A pin from 0 to 31 that is not there can be placed on the board where no other is too near.
-  pub placed-makeable : (h : Held) → isThere (getD l p absent) ≡ false → inside (h .place) ≡ true → crowded l p (h .place) ≡ false → makeable l (Placed p h) ≡ true
+  pub placed-makeable : (h : Held) → isThere (getD l p absent) ≡ false → inside (h .place) ≡ true → crowded (feedOf l) p (h .place) ≡ false → makeable l (Placed p h) ≡ true
   unfolding makeable placeable fits
-  placed-makeable h q i c = both-of (lt-ltb p pins n) (both-of (ap not q) (both-of i (ap not c)))
+  placed-makeable h q i c = both-of (lt-ltb p mostPins n) (both-of (ap not q) (both-of i (ap not c)))
 
   module _ (h : Held) (q : getD l p absent ≡ there h) where
     -- A pin that is there can be moved to another place on the board where no other is too near,
-    pub moved-makeable : (to : Place) → samePlace (h .place) to ≡ false → inside to ≡ true → crowded l p to ≡ false → makeable l (Moved p (h .place) to) ≡ true
+    pub moved-makeable : (to : Place) → samePlace (h .place) to ≡ false → inside to ≡ true → crowded (feedOf l) p to ≡ false → makeable l (Moved p (h .place) to) ≡ true
     unfolding makeable movable fits standsAt
-    moved-makeable to s i c = both-of (lt-ltb p pins n) (both-of (rw q (place-self (h .place))) (both-of (ap not s) (both-of i (ap not c))))
+    moved-makeable to s i c = both-of (lt-ltb p mostPins n) (both-of (rw q (place-self (h .place))) (both-of (ap not s) (both-of i (ap not c))))
 
     -- and removed.
     pub removed-makeable : makeable l (Removed p h) ≡ true
     unfolding makeable
-    removed-makeable = both-of (lt-ltb p pins n) (rw q (pin-self (there h)))
+    removed-makeable = both-of (lt-ltb p mostPins n) (rw q (pin-self (there h)))

@@ -14,7 +14,8 @@ use Rattle.drawing.specs.declared.Stand.the-variants.{Absent, There}
 use Rattle.drawing.specs.declared.Pin.{Pin}
 use Rattle.drawing.specs.declared.Edit.{Edit}
 use Rattle.drawing.specs.declared.Edit.the-variants.{Placed, Moved, Removed}
-use Rattle.drawing.specs.Pins.{pins, absent, there, holding, isThere, samePin, samePins, crowded, settled}
+use Rattle.feed.specs.Feeds.{mostPins, crowded, settled}
+use Rattle.drawing.specs.Pins.{absent, there, holding, isThere, samePin, samePins, feedOf}
 
 -- The number of the pin that an edit names.
 abbrev pub pinOf : Edit → ℕ
@@ -54,7 +55,7 @@ standsAt q at = standsIn (q .stand) at
 
 -- Pin p could stand at that place: it is on the board, and no other pin is too near.
 unfoldable pub fits : List Pin → ℕ → Place → Bool
-fits l p at = both (inside at) (not (crowded l p at))
+fits l p at = both (inside at) (not (crowded (feedOf l) p at))
 
 -- A pin that is not there can be placed where it fits.
 unfoldable pub placeable : List Pin → ℕ → Held → Bool
@@ -66,14 +67,14 @@ movable l p a b = both (standsAt (getD l p absent) a) (both (not (samePlace a b)
 
 -- An edit can be made on these pins.
 unfoldable pub makeable : List Pin → Edit → Bool
-makeable l (Placed p h) = both (ltb p pins) (placeable l p h)
-makeable l (Moved p a b) = both (ltb p pins) (movable l p a b)
-makeable l (Removed p h) = both (ltb p pins) (samePin (getD l p absent) (there h))
+makeable l (Placed p h) = both (ltb p mostPins) (placeable l p h)
+makeable l (Moved p a b) = both (ltb p mostPins) (movable l p a b)
+makeable l (Removed p h) = both (ltb p mostPins) (samePin (getD l p absent) (there h))
 
 -- An edit that stands on these pins could have been made: with it taken back, it can be made, its pin is settled, and making it gives
 -- these pins.
 unfoldable pub takeable : List Pin → Edit → Bool
-takeable l e = both (makeable (unmade l e) e) (both (settled (unmade l e) (pinOf e)) (samePins (made (unmade l e) e) l))
+takeable l e = both (makeable (unmade l e) e) (both (settled (feedOf (unmade l e)) (pinOf e)) (samePins (made (unmade l e) e) l))
 
 -- What stands in for the place of a pin that is not there.
 abbrev pub nowhere : Place

@@ -1,22 +1,18 @@
 -- The pins of a drawing and the rules that they keep.
-use mathlib.Core.Bool.{Bool, true, false, not}
+use mathlib.Core.Bool.{Bool, true, false}
 use mathlib.Core.List.{List, [], _∷_, map}
-use Prim.Native.Nat.{ℕ}
 use lib.Dec.{eqb}
-use lib.ListN.{length, getD, set}
-use Rattle.refusal.specs.Tests.{both, either}
+use lib.ListN.{length}
+use Rattle.refusal.specs.Tests.{both}
 use Rattle.grid.specs.declared.Place.{Place}
-use Rattle.grid.specs.declared.Spot.{Spot}
-use Rattle.grid.specs.declared.Spot.the-variants as spot
-use Rattle.grid.specs.Place.{inside, tooNear, samePlace}
+use Rattle.feed.specs.declared.Spot.{Spot}
+use Rattle.feed.specs.declared.Spot.the-variants as spot
+use Rattle.grid.specs.Place.{samePlace}
 use Rattle.drawing.specs.declared.Held.{Held}
 use Rattle.drawing.specs.declared.Stand.{Stand}
 use Rattle.drawing.specs.declared.Stand.the-variants.{Absent, There}
 use Rattle.drawing.specs.declared.Pin.{Pin}
-
--- Pins are numbered 0 to 31.
-abbrev pub pins : ℕ
-pins = 32
+use Rattle.feed.specs.Feeds.{mostPins, allWithin, allApart}
 
 -- A pin that is absent holds nothing else.
 abbrev pub absent : Pin
@@ -61,52 +57,6 @@ samePins [] (r ∷ m) = false
 samePins (q ∷ l) [] = false
 samePins (q ∷ l) (r ∷ m) = both (samePin q r) (samePins l m)
 
--- Both stand there, and are too near each other.
-abbrev pub meetIn : Stand → Stand → Bool
-meetIn Absent t = false
-meetIn (There h) Absent = false
-meetIn (There h) (There k) = tooNear (h .place) (k .place)
-
--- Two pins are both there, and too near each other.
-unfoldable pub meets : Pin → Pin → Bool
-meets q r = meetIn (q .stand) (r .stand)
-
--- A pin is too near one of these.
-unfoldable pub meetsAny : Pin → List Pin → Bool
-meetsAny q [] = false
-meetsAny q (r ∷ l) = either (meets q r) (meetsAny q l)
-
--- A pin other than pin p stands too near to the place.
-unfoldable pub crowded : List Pin → ℕ → Place → Bool
-crowded l p at = meetsAny (there (holding at)) (set l p absent)
-
--- A pin that stands there is on the board.
-abbrev pub withinIn : Stand → Bool
-withinIn Absent = true
-withinIn (There h) = inside (h .place)
-
--- A pin, if it is there, is on the board.
-unfoldable pub within : Pin → Bool
-within q = withinIn (q .stand)
-
--- Pin p, if it is there, is on the board, and no other pin is too near to it.
-unfoldable pub settled : List Pin → ℕ → Bool
-settled l p = both (within (getD l p absent)) (not (meetsAny (getD l p absent) (set l p absent)))
-
--- Every pin that is there is on the board.
-unfoldable pub allWithin : List Pin → Bool
-allWithin [] = true
-allWithin (q ∷ l) = both (within q) (allWithin l)
-
--- No two pins have the same place, nor are too near.
-unfoldable pub allApart : List Pin → Bool
-allApart [] = true
-allApart (q ∷ l) = both (not (meetsAny q l)) (allApart l)
-
--- The rules of a drawing's pins: 32 numbers, each pin that is there on the board, no two too near.
-unfoldable pub lawful : List Pin → Bool
-lawful l = both (eqb (length l) pins) (both (allWithin l) (allApart l))
-
 -- Where a pin stands, as a feed has it.
 abbrev pub spotIn : Stand → Spot
 spotIn Absent = spot.Absent
@@ -119,3 +69,7 @@ spotOf q = spotIn (q .stand)
 -- All pins of a drawing are one feed.
 unfoldable pub feedOf : List Pin → List Spot
 feedOf l = map spotOf l
+
+-- The rules of a drawing's pins: 32 numbers, each pin that is there on the board, no two too near.
+unfoldable pub lawful : List Pin → Bool
+lawful l = both (eqb (length l) mostPins) (both (allWithin (feedOf l)) (allApart (feedOf l)))

@@ -22,12 +22,6 @@ pub struct Place {
     pub y: i32,
 }
 
-// What stands at a pin's number in a feed: nothing, or a pin at a place.
-pub enum Spot {
-    Absent,
-    At(Place),
-}
-
 // The weight of a pair of pins: the distance, minus the difference in y, minus the larger x.
 pub struct Weight {
     pub distance: i32,

@@ -15,7 +15,7 @@ use Rattle.drawing.specs.declared.Pin.{Pin}
 use Rattle.drawing.specs.declared.Edit.{Edit}
 use Rattle.drawing.specs.Edits.{made, unmade, makeable, takeable}
 use Rattle.drawing.proofs.Making.{made-unmade, unmade-made}
-use Rattle.journal.specs.Journal.{seats, noEdit}
+use Rattle.journal.specs.Journal.{mostSeats, noEdit}
 use Rattle.journal.proofs.Turns.{turn-first}
 use Rattle.seats.specs.declared.Seat.{Seat}
 use Rattle.desk.specs.declared.Desk.{Desk}
@@ -28,13 +28,13 @@ use Rattle.history.proofs.Untouched.{accepted-takes-effect}
 use Rattle.history.proofs.Sounding.{sound-step}
 
 -- Undo and redo are accepted where no row applies.
-undo-accepted : (l : Look) → l .broken ≡ false → l .seat < seats → l .opened ≡ true → (l .standing ≡ 0 → ⊥) → turnedUndoing l ≡ Accepted
+undo-accepted : (l : Look) → l .broken ≡ false → l .seat < mostSeats → l .opened ≡ true → (l .standing ≡ 0 → ⊥) → turnedUndoing l ≡ Accepted
 unfolding turnedUndoing turn choose
-undo-accepted l a b c n = rw (a, lt-leb seats (l .seat) b, c, ne-eqb _ _ n)
+undo-accepted l a b c n = rw (a, lt-leb mostSeats (l .seat) b, c, ne-eqb _ _ n)
 
-redo-accepted : (l : Look) → l .broken ≡ false → l .seat < seats → l .opened ≡ true → (l .takenBack ≡ 0 → ⊥) → turnedRedoing l ≡ Accepted
+redo-accepted : (l : Look) → l .broken ≡ false → l .seat < mostSeats → l .opened ≡ true → (l .takenBack ≡ 0 → ⊥) → turnedRedoing l ≡ Accepted
 unfolding turnedRedoing turn choose
-redo-accepted l a b c n = rw (a, lt-leb seats (l .seat) b, c, ne-eqb _ _ n)
+redo-accepted l a b c n = rw (a, lt-leb mostSeats (l .seat) b, c, ne-eqb _ _ n)
 
 -- A step that is accepted.
 step-is : (d : Desk) (c : Call) → answerOf d c ≡ Accepted → step d c ≡ record { desk = effect d c; verdict = Accepted }
@@ -50,7 +50,7 @@ desk-back d s r q e =
     let p : set (set (d .seats) s r) s q ≡ d .seats = rw (set-set, e, set-getD) in
     λ i. record { seats = p i; journal = d .journal; used = d .used }
 
-module _ (d : Desk) (s : ℕ) (h : sound d ≡ true) (k : s < seats) (o : seatOf d s .opened ≡ true) where
+module _ (d : Desk) (s : ℕ) (h : sound d ≡ true) (k : s < mostSeats) (o : seatOf d s .opened ≡ true) where
   abbrev latest : Edit
   latest = getD (editsOf d s) (seatOf d s .standing - 1) noEdit
 

@@ -6,11 +6,11 @@ use mathlib.Core.List.{List, [], _∷_}
 use Prim.Native.Nat.{ℕ, _<_}
 use native.Mathlib.Omega.{arith}
 use lib.ListN.{length-replicate, getD-replicate}
-use Rattle.journal.specs.Journal.{seats, records, blank, own, seated}
+use Rattle.journal.specs.Journal.{mostSeats, mostRecords, blank, own, seated}
 use Rattle.desk.specs.declared.Desk.{Desk}
 use Rattle.desk.specs.Calls.{Call}
 use Rattle.desk.specs.Desk.{closedSeat, noSeat, seatOf, editsOf, standingOf, takenBackOf, sound, step, emptyDesk}
-use Rattle.history.specs.History.{Told, shut, isOpen, jobIn, pinsIn, standingIn, takenBackIn, sum, toldOf, usedIn, tell, nothing, history, after, answers, answersIn}
+use Rattle.history.specs.History.{Past, closed, isOpen, jobIn, pinsIn, standingIn, takenBackIn, sum, pastOf, usedIn, pastAfter, nothing, history, after, answers, answersIn}
 use Rattle.history.proofs.Sane.{Sane, sane-tell, sane-nothing, sane-history}
 use Rattle.history.proofs.Simulation.{At, Agrees, used-same, shown-open, shown-job, shown-pins, shown-standing, shown-takenBack}
 use Rattle.history.proofs.Steps.{agrees-sound, step-answer, step-agrees}
@@ -20,31 +20,31 @@ agrees-empty : Agrees emptyDesk nothing
 unfolding emptyDesk own seated sum At
 agrees-empty =
     record {
-      whole = length-replicate records blank;
+      whole = length-replicate mostRecords blank;
       room = omega arith;
       holds =
           record {
-            eight = length-replicate seats closedSeat;
+            eight = length-replicate mostSeats closedSeat;
             named = refl;
-            told = length-replicate seats shut;
+            told = length-replicate mostSeats closed;
             sized = refl;
-            at = λ s k. rw (getD-replicate seats s closedSeat noSeat k, getD-replicate seats s shut shut k) (refl, refl);
+            at = λ s k. rw (getD-replicate mostSeats s closedSeat noSeat k, getD-replicate mostSeats s closed closed k) (refl, refl);
           };
     }
 
-pub agrees-after : (calls : List Call) (d : Desk) (h : List Told) → Agrees d h → Sane h → Agrees (after d calls) (history h calls)
+pub agrees-after : (calls : List Call) (d : Desk) (h : List Past) → Agrees d h → Sane h → Agrees (after d calls) (history h calls)
 unfolding after history
 agrees-after [] d h g f = g
-agrees-after (c ∷ calls) d h g f = agrees-after calls (step d c .desk) (tell h c) (step-agrees d h g f c) (sane-tell h f c)
+agrees-after (c ∷ calls) d h g f = agrees-after calls (step d c .desk) (pastAfter h c) (step-agrees d h g f c) (sane-tell h f c)
 
-pub answers-after : (calls : List Call) (d : Desk) (h : List Told) → Agrees d h → Sane h → answers d calls ≡ answersIn h calls
+pub answers-after : (calls : List Call) (d : Desk) (h : List Past) → Agrees d h → Sane h → answers d calls ≡ answersIn h calls
 unfolding answers answersIn
 answers-after [] d h g f = refl
 answers-after (c ∷ calls) d h g f =
-    rw (step-answer d h g f c, answers-after calls (step d c .desk) (tell h c) (step-agrees d h g f c) (sane-tell h f c))
+    rw (step-answer d h g f c, answers-after calls (step d c .desk) (pastAfter h c) (step-agrees d h g f c) (sane-tell h f c))
 
 -- A seat is as told: open exactly when told open, then with the job and the pins told; its standing and taken-back edits are those told.
-pub record AsTold (d : Desk) (s : ℕ) (t : Told) : Type 0 where
+pub record AsTold (d : Desk) (s : ℕ) (t : Past) : Type 0 where
   pub opened : seatOf d s .opened ≡ isOpen t
   pub job : isOpen t ≡ true → seatOf d s .job ≡ jobIn t
   pub pins : isOpen t ≡ true → seatOf d s .pins ≡ pinsIn t
@@ -52,18 +52,18 @@ pub record AsTold (d : Desk) (s : ℕ) (t : Told) : Type 0 where
   pub takenBack : takenBackOf d s ≡ takenBackIn t
 
 -- A desk is as a history tells: sound, every seat as told, the used count the sum over the seats of standing and taken-back edits.
-pub record DeskAsTold (d : Desk) (h : List Told) : Type 0 where
+pub record DeskAsTold (d : Desk) (h : List Past) : Type 0 where
   pub unbroken : sound d ≡ true
   pub used : d .used ≡ usedIn h
-  pub seat : (s : ℕ) → s < seats → AsTold d s (toldOf h s)
+  pub seat : (s : ℕ) → s < mostSeats → AsTold d s (pastOf h s)
 
-pub seats-as-told : (d : Desk) (h : List Told) → Agrees d h → Sane h → DeskAsTold d h
+pub seats-as-told : (d : Desk) (h : List Past) → Agrees d h → Sane h → DeskAsTold d h
 seats-as-told d h g f =
     record {
       unbroken = agrees-sound d h g f;
       used = used-same d h g;
       seat = λ s k.
-          let a : At (seatOf d s) (editsOf d s) (toldOf h s) = g .holds .at s k in
+          let a : At (seatOf d s) (editsOf d s) (pastOf h s) = g .holds .at s k in
           record {
             opened = shown-open _ _ _ a;
             job = shown-job _ _ _ a;

@@ -14,7 +14,7 @@ use Rattle.drawing.specs.declared.Pin.{Pin}
 use Rattle.pinmap.specs.declared.Record.{Record}
 use Rattle.pinmap.specs.declared.Reading.{Reading}
 use Rattle.pinmap.specs.Record.{recordSize, recordOf, otherJob, pinAbove, notBlank, outside, notAbove, placeTaken, judged}
-use Rattle.pinmap.specs.Map.{noPins, refusedBy, withRecord, readFrom, wrongLength, readMap}
+use Rattle.pinmap.specs.Map.{noPins, refusedBy, withPinOf, readFrom, wrongLength, readMap}
 use Rattle.history.proofs.Ascending.{rank, Ascending}
 
 -- A record's pin is above 31 or not above the one before, byte 3 is not zero, a place is outside, or a place is that of an earlier record.
@@ -30,7 +30,7 @@ recordRows (suc left) map job number next earlier =
     given (otherJob job (recordOf (take recordSize map))) (OtherJob number)
     ∷ given (faulty next earlier (recordOf (take recordSize map))) (FaultyRecord number)
     ∷ recordRows left (drop recordSize map) job (number + 1) (recordOf (take recordSize map) .pin + 1)
-    (withRecord earlier (recordOf (take recordSize map)))
+    (withPinOf earlier (recordOf (take recordSize map)))
 
 -- 13, then the first faulty record, 14 before 15.
 abbrev pub mapRows : List ℕ → ℕ → List Row
@@ -69,8 +69,8 @@ records-first (suc left) map job number next earlier =
     rw (
       judged-is job number next earlier (recordOf (take recordSize map)),
       judged-then (otherJob job (recordOf (take recordSize map))) (faulty next earlier (recordOf (take recordSize map))) number
-          (readFrom left (drop recordSize map) job (number + 1) (recordOf (take recordSize map) .pin + 1) (withRecord earlier (recordOf (take recordSize map)))),
-      records-first left (drop recordSize map) job (number + 1) (recordOf (take recordSize map) .pin + 1) (withRecord earlier (recordOf (take recordSize map))),
+          (readFrom left (drop recordSize map) job (number + 1) (recordOf (take recordSize map) .pin + 1) (withPinOf earlier (recordOf (take recordSize map)))),
+      records-first left (drop recordSize map) job (number + 1) (recordOf (take recordSize map) .pin + 1) (withPinOf earlier (recordOf (take recordSize map))),
     )
 
 length-first : (b : Bool) (x : Reading) (w : Verdict) → w ≡ x .verdict → turn b MapLength w ≡ choose b (refusedBy MapLength) x .verdict

@@ -17,7 +17,7 @@ use Rattle.drawing.specs.declared.Pin.{Pin}
 use Rattle.pinmap.specs.Map.{readAs, readMap, mapOf, written}
 use Rattle.pinmap.proofs.Records.{Bytes}
 use Rattle.pinmap.proofs.RoundTrip.{map-opens, same-bytes}
-use Rattle.journal.specs.Journal.{seats}
+use Rattle.journal.specs.Journal.{mostSeats}
 use Rattle.seats.specs.declared.Seat.{Seat}
 use Rattle.desk.specs.declared.Desk.{Desk}
 use Rattle.desk.specs.declared.Answered.{Answered}
@@ -64,11 +64,11 @@ taking-low : (e : Desk) (t job : ℕ) → NoneHolds (takingRows (lookAt e t) job
 unfolding NoneHolds
 taking-low e t job n =
     let h : sound e ≡ true = not-false _ (n .0) in
-    let k : t < seats = leb-false _ _ (n .1 .0) in
+    let k : t < mostSeats = leb-false _ _ (n .1 .0) in
     omega (arith, eight-seats e h)
 
 -- The map of an open seat of a sound desk opens under its job at any seat of any desk that can take it (28, 1, 3, 4 and 5 do not apply), with the same pins.
-pub map-of-a-seat-opens : (d e : Desk) (s t : ℕ) → sound d ≡ true → s < seats → seatOf d s .opened ≡ true → seatOf d s .job < 65536
+pub map-of-a-seat-opens : (d e : Desk) (s t : ℕ) → sound d ≡ true → s < mostSeats → seatOf d s .opened ≡ true → seatOf d s .job < 65536
     → NoneHolds (takingRows (lookAt e t) (seatOf d s .job))
     → step e (opening t (seatOf d s .job) (mapOf (seatOf d s .job) (seatOf d s .pins)))
     ≡ record { desk = withSeat e t (openSeat (seatOf d s .job) (seatOf d s .pins)); verdict = Accepted }

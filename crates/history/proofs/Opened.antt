@@ -14,14 +14,14 @@ use Rattle.refusal.specs.Refusals.{accepted}
 use Rattle.drawing.specs.declared.Pin.{Pin}
 use Rattle.drawing.specs.declared.Edit.{Edit}
 use Rattle.pinmap.specs.Map.{readMap}
-use Rattle.journal.specs.Journal.{seats, own, kept}
+use Rattle.journal.specs.Journal.{mostSeats, own, kept}
 use Rattle.journal.proofs.Own.{own-kept}
 use Rattle.journal.proofs.Filled.{take-filled}
 use Rattle.seats.specs.declared.Seat.{Seat}
 use Rattle.desk.specs.declared.Desk.{Desk}
 use Rattle.desk.specs.Calls.{Call, seatIn, opening, closing, placing, moving, removing, undoing, redoing, writing, wiring}
 use Rattle.desk.specs.Refusals.{verdictOf}
-use Rattle.desk.specs.Desk.{closedSeat, noSeat, seatOf, live, editsOf, standingOf, takenBackOf, openSeat, withPins, sound, lookAt, edited, effect, answerOf, step, emptyDesk}
+use Rattle.desk.specs.Desk.{closedSeat, noSeat, seatOf, inUse, editsOf, standingOf, takenBackOf, openSeat, withPins, sound, lookAt, edited, effect, answerOf, step, emptyDesk}
 use Rattle.desk.proofs.Sound.{eight-seats, closed-owns-none}
 use Rattle.history.specs.History.{after}
 use Rattle.history.proofs.Passed.{Opens, opens, closes, places, moves, removes, undoes, redoes, writes, wires}
@@ -242,7 +242,7 @@ closed-seat d s z =
     let r = closes (lookAt d s) z in
     let k : s < length (d .seats) = omega (arith, eight-seats d (not-false _ (r .unbroken)), r .low) in (
       here-is d (closing s) z ∙ getD-set-same (d .seats) s closedSeat noSeat k,
-      ap (λ (x : Desk). editsOf x s) (accepted-takes-effect d (closing s) z) ∙ ap (own s) (take-filled (kept s 0 (live d))) ∙ own-kept s 0 (live d),
+      ap (λ (x : Desk). editsOf x s) (accepted-takes-effect d (closing s) z) ∙ ap (own s) (take-filled (kept s 0 (inUse d))) ∙ own-kept s 0 (inUse d),
     )
 
 -- ---- a job has two bytes
@@ -292,4 +292,4 @@ no-job (suc n) (suc t) = no-job n t
 -- After such calls from the empty desk each seat's job has two bytes.
 pub job-fits : (calls : List Call) → JobsFit calls → (s : ℕ) → seatOf (after emptyDesk calls) s .job < 65536
 unfolding emptyDesk
-job-fits calls j = job-after calls emptyDesk j (λ t. rw (no-job seats t) (omega arith))
+job-fits calls j = job-after calls emptyDesk j (λ t. rw (no-job mostSeats t) (omega arith))

@@ -18,11 +18,12 @@ use Rattle.drawing.specs.declared.Stand.{Stand}
 use Rattle.drawing.specs.declared.Stand.the-variants.{Absent, There}
 use Rattle.drawing.specs.declared.Pin.{Pin}
 use Rattle.drawing.specs.declared.Edit.{Edit}
-use Rattle.drawing.specs.Pins.{pins, there, thereIn, isThere}
+use Rattle.feed.specs.Feeds.{mostPins}
+use Rattle.drawing.specs.Pins.{there, thereIn, isThere}
 use Rattle.drawing.specs.Edits.{heldIn, heldBy, standsIn, standsAt, makeable, placed, moved, removed}
 use Rattle.drawing.proofs.Making.{placed-makeable, moved-makeable, removed-makeable}
 use Rattle.pinmap.specs.Map.{readMap, mapOf}
-use Rattle.journal.specs.Journal.{seats}
+use Rattle.journal.specs.Journal.{mostSeats}
 use Rattle.desk.specs.Calls.{Call, opening, closing, placing, moving, removing, undoing, redoing, writing, wiring}
 use Rattle.desk.specs.Refusals.{Look, seatAbove, jobAmong, pinAt, notThere, full, turnedOpening, turnedClosing, turnedPlacing, turnedMoving, turnedRemoving, turnedUndoing, turnedRedoing, turnedWriting, turnedWiring, verdictOf}
 
@@ -34,7 +35,7 @@ row b v w e n = passed b v w n e
 -- The rows 28, 1 and 2 are passed: the desk is sound, the seat is one of the desk's, and open.
 pub record Reached (l : Look) : Type 0 where
   pub unbroken : l .broken ≡ false
-  pub low : l .seat < seats
+  pub low : l .seat < mostSeats
   pub shown : l .opened ≡ true
 
 reached : (l : Look) (w : Verdict) → accepted (turn (l .broken) DeskBroken (turn (seatAbove l) SeatAbove (turn (not (l .opened)) NotOpen w))) ≡ true
@@ -48,7 +49,7 @@ reached l w e =
 -- An accepted opening: the seat is closed, the job is not 0 and open nowhere, and the map is read.
 pub record Opens (l : Look) (job : ℕ) (map : List ℕ) : Type 0 where
   pub unbroken : l .broken ≡ false
-  pub low : l .seat < seats
+  pub low : l .seat < mostSeats
   pub shown : l .opened ≡ false
   pub set : job ≡ 0 → ⊥
   pub fresh : jobAmong job (l .jobs) ≡ false
@@ -92,7 +93,7 @@ places l p at e =
     let g = row _ _ _ (f .1) refl in
     record {
       reaches = a .0;
-      fits = placed-makeable (l .pins) p (leb-false pins p (b .0)) _ (c .0) (not-false _ (d .0)) (f .0);
+      fits = placed-makeable (l .pins) p (leb-false mostPins p (b .0)) _ (c .0) (not-false _ (d .0)) (f .0);
       room = g .0;
     }
 
@@ -114,8 +115,8 @@ unfolding isThere heldBy standsAt
 pin-elsewhere q at e n = stand-elsewhere (q .stand) at e n
 
 -- The row 6 is passed: the pin is there.
-is-there : (l : Look) (p : ℕ) → notThere l p ≡ false → (p < pins) × (isThere (pinAt l p) ≡ true)
-is-there l p e = (leb-false pins p (either-false (leb pins p) _ e .0), not-false _ (either-false (leb pins p) _ e .1))
+is-there : (l : Look) (p : ℕ) → notThere l p ≡ false → (p < mostPins) × (isThere (pinAt l p) ≡ true)
+is-there l p e = (leb-false mostPins p (either-false (leb mostPins p) _ e .0), not-false _ (either-false (leb mostPins p) _ e .1))
 
 pub moves : (l : Look) (p : ℕ) (at : Place) → accepted (turnedMoving l p at) ≡ true → Enters l (moved (l .pins) p at)
 unfolding turnedMoving
@@ -169,7 +170,7 @@ unfolding turnedWiring
 wires l room e = reached l _ e .0
 
 -- Every accepted call names one of the desk's seats.
-pub seat-low : (l : Look) (c : Call) → accepted (verdictOf l c) ≡ true → l .seat < seats
+pub seat-low : (l : Look) (c : Call) → accepted (verdictOf l c) ≡ true → l .seat < mostSeats
 unfolding verdictOf
 seat-low l (opening s job map) e = opens l job map e .low
 seat-low l (closing s) e = closes l e .low

@@ -15,7 +15,8 @@ use Rattle.refusal.specs.declared.Verdict.the-variants.{Accepted, SeatAbove, No
 use Rattle.refusal.proofs.Rows.{Row, firstOf, Given, NoneHolds, refusalAt, unlike, distinct, Exactly, exactly, given, numberOf, unlike-first}
 use Rattle.grid.specs.declared.Place.{Place}
 use Rattle.grid.specs.Place.{inside}
-use Rattle.drawing.specs.Pins.{pins, isThere, crowded, feedOf}
+use Rattle.feed.specs.Feeds.{mostPins, crowded}
+use Rattle.drawing.specs.Pins.{isThere, feedOf}
 use Rattle.drawing.specs.Edits.{standsAt}
 use Rattle.pinmap.specs.Map.{mapOf}
 use Rattle.desk.specs.declared.Desk.{Desk}
@@ -52,10 +53,10 @@ placingRows l p at =
     given (l .broken) DeskBroken
     ∷ given (seatAbove l) SeatAbove
     ∷ given (not (l .opened)) NotOpen
-    ∷ given (leb pins p) NoSuchPin
+    ∷ given (leb mostPins p) NoSuchPin
     ∷ given (isThere (pinAt l p)) PinThere
     ∷ given (not (inside at)) Outside
-    ∷ given (crowded (l .pins) p at) PlaceTaken
+    ∷ given (crowded (feedOf (l .pins)) p at) PlaceTaken
     ∷ given (full l) JournalFull
     ∷ []
 
@@ -67,7 +68,7 @@ movingRows l p at =
     ∷ given (not (l .opened)) NotOpen
     ∷ given (notThere l p) NoSuchPin
     ∷ given (not (inside at)) Outside
-    ∷ given (either (standsAt (pinAt l p) at) (crowded (l .pins) p at)) PlaceTaken
+    ∷ given (either (standsAt (pinAt l p) at) (crowded (feedOf (l .pins)) p at)) PlaceTaken
     ∷ given (full l) JournalFull
     ∷ []
 

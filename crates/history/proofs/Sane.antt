@@ -16,12 +16,12 @@ use Rattle.drawing.specs.declared.Edit.{Edit}
 use Rattle.drawing.specs.Pins.{lawful}
 use Rattle.drawing.specs.Edits.{makeable, made, placed, moved, removed}
 use Rattle.pinmap.proofs.RoundTrip.{read-lawful}
-use Rattle.journal.specs.Journal.{seats, replayable}
+use Rattle.journal.specs.Journal.{mostSeats, replayable}
 use Rattle.journal.proofs.Turns.{turn-nil, turn-first, turn-rest, turn-cons}
 use Rattle.desk.specs.Calls.{Call, seatIn, opening, closing, placing, moving, removing, undoing, redoing, writing, wiring}
 use Rattle.desk.specs.Refusals.{sameJob, jobAmong, verdictOf}
 use Rattle.desk.specs.Desk.{jobsApart}
-use Rattle.history.specs.History.{Told, shut, opened, pinsBy, jobIn, pinsIn, toldOf, lookIn, anew, undone, redone, next, answerIn, tell, nothing, history}
+use Rattle.history.specs.History.{Past, closed, opened, pinsBy, jobIn, pinsIn, pastOf, lookIn, anew, undone, redone, next, answerIn, pastAfter, nothing, history}
 use Rattle.history.proofs.Passed.{opens, places, moves, removes, seat-low}
 use Rattle.history.proofs.Jobs.{none-among, apart-set}
 use Rattle.history.proofs.Stood.{stood}
@@ -33,26 +33,26 @@ pub record Drawn (job : ℕ) (first : List Pin) (standing takenBack : List Edit)
   pub stands : stood first standing
   pub redoes : replayable (pinsBy first standing) takenBack ≡ true
 
-unfoldable pub sane : Told → Type 0
-sane shut = Unit {0}
+unfoldable pub sane : Past → Type 0
+sane closed = Unit {0}
 sane (opened job first standing takenBack) = Drawn job first standing takenBack
 
-pub record Sane (h : List Told) : Type 0 where
-  pub eight : length h ≡ seats
-  pub each : (s : ℕ) → sane (toldOf h s)
+pub record Sane (h : List Past) : Type 0 where
+  pub eight : length h ≡ mostSeats
+  pub each : (s : ℕ) → sane (pastOf h s)
   pub jobs : jobsApart (map jobIn h) ≡ true
 
 -- ---- one seat
 
-sane-anew : (e : Edit) (t : Told) → sane t → makeable (pinsIn t) e ≡ true → sane (anew e t)
+sane-anew : (e : Edit) (t : Past) → sane t → makeable (pinsIn t) e ≡ true → sane (anew e t)
 unfolding sane anew stood
-sane-anew e shut g m = tt
+sane-anew e closed g m = tt
 sane-anew e (opened job first standing takenBack) g m =
     record { numbered = g .numbered; start = g .start; stands = (m, g .stands); redoes = turn-nil makeable made _ }
 
-sane-undone : (t : Told) → sane t → sane (undone t)
+sane-undone : (t : Past) → sane t → sane (undone t)
 unfolding sane undone stood pinsBy
-sane-undone shut g = tt
+sane-undone closed g = tt
 sane-undone (opened job first [] takenBack) g = g
 sane-undone (opened job first (e ∷ standing) takenBack) g =
     record {
@@ -62,9 +62,9 @@ sane-undone (opened job first (e ∷ standing) takenBack) g =
       redoes = turn-cons makeable made (pinsBy first standing) e takenBack (g .stands .0) (g .redoes);
     }
 
-sane-redone : (t : Told) → sane t → sane (redone t)
+sane-redone : (t : Past) → sane t → sane (redone t)
 unfolding sane redone stood pinsBy
-sane-redone shut g = tt
+sane-redone closed g = tt
 sane-redone (opened job first standing []) g = g
 sane-redone (opened job first standing (e ∷ takenBack)) g =
     record {
@@ -74,20 +74,20 @@ sane-redone (opened job first standing (e ∷ takenBack)) g =
       redoes = turn-rest makeable made (pinsBy first standing) e takenBack (g .redoes);
     }
 
-pub job-anew : (e : Edit) (t : Told) → jobIn (anew e t) ≡ jobIn t
+pub job-anew : (e : Edit) (t : Past) → jobIn (anew e t) ≡ jobIn t
 unfolding anew
-job-anew e shut = refl
+job-anew e closed = refl
 job-anew e (opened job first standing takenBack) = refl
 
-pub job-undone : (t : Told) → jobIn (undone t) ≡ jobIn t
+pub job-undone : (t : Past) → jobIn (undone t) ≡ jobIn t
 unfolding undone
-job-undone shut = refl
+job-undone closed = refl
 job-undone (opened job first [] takenBack) = refl
 job-undone (opened job first (e ∷ standing) takenBack) = refl
 
-pub job-redone : (t : Told) → jobIn (redone t) ≡ jobIn t
+pub job-redone : (t : Past) → jobIn (redone t) ≡ jobIn t
 unfolding redone
-job-redone shut = refl
+job-redone closed = refl
 job-redone (opened job first standing []) = refl
 job-redone (opened job first standing (e ∷ takenBack)) = refl
 
@@ -98,75 +98,75 @@ map-set f [] s a = refl
 map-set f (r ∷ l) zero a = refl
 map-set f (r ∷ l) (suc s) a = ap (λ (m : List _). f r ∷ m) (map-set f l s a)
 
-module _ (h : List Told) (g : Sane h) where
+module _ (h : List Past) (g : Sane h) where
   -- What the call makes of its own seat.
-  sane-next : (c : Call) → accepted (answerIn h c) ≡ true → sane (next c (toldOf h (seatIn c)))
+  sane-next : (c : Call) → accepted (answerIn h c) ≡ true → sane (next c (pastOf h (seatIn c)))
   unfolding next answerIn verdictOf sane stood
   sane-next (opening s job map) z =
       record { numbered = opens (lookIn h s) job map z .set; start = read-lawful job map; stands = tt; redoes = turn-nil makeable made _ }
   sane-next (closing s) z = tt
-  sane-next (placing s p at) z = sane-anew (placed p at) (toldOf h s) (g .each s) (places (lookIn h s) p at z .fits)
-  sane-next (moving s p at) z = sane-anew (moved (pinsIn (toldOf h s)) p at) (toldOf h s) (g .each s) (moves (lookIn h s) p at z .fits)
-  sane-next (removing s p) z = sane-anew (removed (pinsIn (toldOf h s)) p) (toldOf h s) (g .each s) (removes (lookIn h s) p z .fits)
-  sane-next (undoing s) z = sane-undone (toldOf h s) (g .each s)
-  sane-next (redoing s) z = sane-redone (toldOf h s) (g .each s)
+  sane-next (placing s p at) z = sane-anew (placed p at) (pastOf h s) (g .each s) (places (lookIn h s) p at z .fits)
+  sane-next (moving s p at) z = sane-anew (moved (pinsIn (pastOf h s)) p at) (pastOf h s) (g .each s) (moves (lookIn h s) p at z .fits)
+  sane-next (removing s p) z = sane-anew (removed (pinsIn (pastOf h s)) p) (pastOf h s) (g .each s) (removes (lookIn h s) p z .fits)
+  sane-next (undoing s) z = sane-undone (pastOf h s) (g .each s)
+  sane-next (redoing s) z = sane-redone (pastOf h s) (g .each s)
   sane-next (writing s room) z = g .each s
   sane-next (wiring s room) z = g .each s
 
-  jobs-kept : (s : ℕ) (t : Told) → jobIn t ≡ jobIn (toldOf h s) → jobsApart (map jobIn (set h s t)) ≡ true
-  jobs-kept s t e = rw (map-set-same jobIn h s t shut e) (g .jobs)
+  jobs-kept : (s : ℕ) (t : Past) → jobIn t ≡ jobIn (pastOf h s) → jobsApart (map jobIn (set h s t)) ≡ true
+  jobs-kept s t e = rw (map-set-same jobIn h s t closed e) (g .jobs)
 
-  jobs-set : (s : ℕ) (t : Told) → jobAmong (jobIn t) (map jobIn h) ≡ false → jobsApart (map jobIn (set h s t)) ≡ true
+  jobs-set : (s : ℕ) (t : Past) → jobAmong (jobIn t) (map jobIn h) ≡ false → jobsApart (map jobIn (set h s t)) ≡ true
   jobs-set s t e = rw (map-set jobIn h s t) (apart-set (jobIn t) (map jobIn h) s (g .jobs) e)
 
-  jobs-next : (c : Call) → accepted (answerIn h c) ≡ true → jobsApart (map jobIn (set h (seatIn c) (next c (toldOf h (seatIn c))))) ≡ true
+  jobs-next : (c : Call) → accepted (answerIn h c) ≡ true → jobsApart (map jobIn (set h (seatIn c) (next c (pastOf h (seatIn c))))) ≡ true
   unfolding next answerIn verdictOf
   jobs-next (opening s job map) z = jobs-set s _ (opens (lookIn h s) job map z .fresh)
   jobs-next (closing s) z = jobs-set s _ (none-among _)
-  jobs-next (placing s p at) z = jobs-kept s _ (job-anew _ (toldOf h s))
-  jobs-next (moving s p at) z = jobs-kept s _ (job-anew _ (toldOf h s))
-  jobs-next (removing s p) z = jobs-kept s _ (job-anew _ (toldOf h s))
-  jobs-next (undoing s) z = jobs-kept s _ (job-undone (toldOf h s))
-  jobs-next (redoing s) z = jobs-kept s _ (job-redone (toldOf h s))
+  jobs-next (placing s p at) z = jobs-kept s _ (job-anew _ (pastOf h s))
+  jobs-next (moving s p at) z = jobs-kept s _ (job-anew _ (pastOf h s))
+  jobs-next (removing s p) z = jobs-kept s _ (job-anew _ (pastOf h s))
+  jobs-next (undoing s) z = jobs-kept s _ (job-undone (pastOf h s))
+  jobs-next (redoing s) z = jobs-kept s _ (job-redone (pastOf h s))
   jobs-next (writing s room) z = jobs-kept s _ refl
   jobs-next (wiring s room) z = jobs-kept s _ refl
 
-  each-next : (c : Call) → accepted (answerIn h c) ≡ true → seatIn c < seats → (t : ℕ)
-      → sane (toldOf (set h (seatIn c) (next c (toldOf h (seatIn c)))) t)
+  each-next : (c : Call) → accepted (answerIn h c) ≡ true → seatIn c < mostSeats → (t : ℕ)
+      → sane (pastOf (set h (seatIn c) (next c (pastOf h (seatIn c)))) t)
   each-next c z k t =
       let w : seatIn c < length h = omega (arith, g .eight) in
       ⊎-elim
-      (λ (e : t ≡ seatIn c). rw (e, getD-set-same h (seatIn c) (next c (toldOf h (seatIn c))) shut w) (sane-next c z))
-      (λ (d : t ≡ seatIn c → ⊥). rw (getD-set-other h (seatIn c) t (next c (toldOf h (seatIn c))) shut d) (g .each t))
+      (λ (e : t ≡ seatIn c). rw (e, getD-set-same h (seatIn c) (next c (pastOf h (seatIn c))) closed w) (sane-next c z))
+      (λ (d : t ≡ seatIn c → ⊥). rw (getD-set-other h (seatIn c) t (next c (pastOf h (seatIn c))) closed d) (g .each t))
       (same-or-not t (seatIn c))
 
-  low : (c : Call) → accepted (answerIn h c) ≡ true → seatIn c < seats
+  low : (c : Call) → accepted (answerIn h c) ≡ true → seatIn c < mostSeats
   unfolding answerIn
   low c z = seat-low (lookIn h (seatIn c)) c z
 
-  sane-by : (c : Call) (b : Bool) → accepted (answerIn h c) ≡ b → Sane (choose b (set h (seatIn c) (next c (toldOf h (seatIn c)))) h)
+  sane-by : (c : Call) (b : Bool) → accepted (answerIn h c) ≡ b → Sane (choose b (set h (seatIn c) (next c (pastOf h (seatIn c)))) h)
   unfolding choose
   sane-by c true z = record { eight = length-set h (seatIn c) _ ∙ g .eight; each = λ t. each-next c z (low c z) t; jobs = jobs-next c z }
   sane-by c false z = g
 
   -- A call keeps a history sane.
-  pub sane-tell : (c : Call) → Sane (tell h c)
-  unfolding tell
+  pub sane-tell : (c : Call) → Sane (pastAfter h c)
+  unfolding pastAfter
   sane-tell c = sane-by c (accepted (answerIn h c)) refl
 
 -- ---- any calls
 
-shut-at : (n s : ℕ) → getD (replicate n shut) s shut ≡ shut
+shut-at : (n s : ℕ) → getD (replicate n closed) s closed ≡ closed
 shut-at zero s = refl
 shut-at (suc n) zero = refl
 shut-at (suc n) (suc s) = shut-at n s
 
 pub sane-nothing : Sane nothing
 unfolding sane jobsApart jobAmong sameJob both either
-sane-nothing = record { eight = length-replicate seats shut; each = λ s. rw (shut-at seats s) tt; jobs = refl }
+sane-nothing = record { eight = length-replicate mostSeats closed; each = λ s. rw (shut-at mostSeats s) tt; jobs = refl }
 
 -- Any calls keep a history sane.
-pub sane-history : (calls : List Call) (h : List Told) → Sane h → Sane (history h calls)
+pub sane-history : (calls : List Call) (h : List Past) → Sane h → Sane (history h calls)
 unfolding history
 sane-history [] h g = g
-sane-history (c ∷ calls) h g = sane-history calls (tell h c) (sane-tell h g c)
+sane-history (c ∷ calls) h g = sane-history calls (pastAfter h c) (sane-tell h g c)

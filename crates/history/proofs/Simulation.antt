@@ -14,12 +14,12 @@ use Rattle.grid.proofs.Flat.{same-or-not}
 use Rattle.drawing.specs.declared.Pin.{Pin}
 use Rattle.drawing.specs.declared.Edit.{Edit}
 use Rattle.journal.specs.declared.Record.{Record}
-use Rattle.journal.specs.Journal.{seats, records, noEdit, own, seated}
+use Rattle.journal.specs.Journal.{mostSeats, mostRecords, noEdit, own, seated}
 use Rattle.journal.proofs.Filled.{take-filled, filled-length}
 use Rattle.seats.specs.declared.Seat.{Seat}
 use Rattle.desk.specs.declared.Desk.{Desk}
-use Rattle.desk.specs.Desk.{noSeat, live, jobOf, jobsOf, withSeat, withRecords}
-use Rattle.history.specs.History.{Told, shut, opened, pinsBy, isOpen, jobIn, pinsIn, standingIn, takenBackIn, editsIn, sum, toldOf, usedIn}
+use Rattle.desk.specs.Desk.{noSeat, inUse, jobOf, jobsOf, withSeat, withRecords}
+use Rattle.history.specs.History.{Past, closed, opened, pinsBy, isOpen, jobIn, pinsIn, standingIn, takenBackIn, editsIn, sum, pastOf, usedIn}
 
 -- An open seat with its own edits of the journal holds what is told of it.
 pub record Held (q : Seat) (l : List Edit) (j : ℕ) (p : List Pin) (standing takenBack : List Edit) : Type 0 where
@@ -30,23 +30,23 @@ pub record Held (q : Seat) (l : List Edit) (j : ℕ) (p : List Pin) (standing ta
   pub edits : l ≡ reverseAux standing takenBack
 
 -- A seat holds what is told of it; a closed one owns no records.
-unfoldable pub At : Seat → List Edit → Told → Type 0
-At q l shut = (q .opened ≡ false) × (l ≡ [])
+unfoldable pub At : Seat → List Edit → Past → Type 0
+At q l closed = (q .opened ≡ false) × (l ≡ [])
 At q l (opened job first standing takenBack) = Held q l job (pinsBy first standing) standing takenBack
 
 -- Seats and records in use hold a history.
-pub record Holds (q : List Seat) (l : List Record) (h : List Told) : Type 0 where
-  pub eight : length q ≡ seats
+pub record Holds (q : List Seat) (l : List Record) (h : List Past) : Type 0 where
+  pub eight : length q ≡ mostSeats
   pub named : seated l ≡ true
-  pub told : length h ≡ seats
+  pub told : length h ≡ mostSeats
   pub sized : length l ≡ usedIn h
-  pub at : (s : ℕ) → s < seats → At (getD q s noSeat) (own s l) (toldOf h s)
+  pub at : (s : ℕ) → s < mostSeats → At (getD q s noSeat) (own s l) (pastOf h s)
 
 -- A desk agrees with a history.
-pub record Agrees (d : Desk) (h : List Told) : Type 0 where
-  pub whole : length (d .journal) ≡ records
-  pub room : d .used ≤ records
-  pub holds : Holds (d .seats) (live d) h
+pub record Agrees (d : Desk) (h : List Past) : Type 0 where
+  pub whole : length (d .journal) ≡ mostRecords
+  pub room : d .used ≤ mostRecords
+  pub holds : Holds (d .seats) (inUse d) h
 
 -- ---- what a seat shows
 
@@ -60,46 +60,46 @@ zip-drop l st bk n e f = rw (e ∙ reverseAux-eq st bk) (drop-at (reverse st) bk
 pub zip-at : (l st bk : List Edit) (x : Edit) (n : ℕ) → l ≡ reverseAux st (x ∷ bk) → n ≡ length st → getD l n noEdit ≡ x
 zip-at l st bk x n e f = rw (e ∙ reverseAux-eq st (x ∷ bk)) (getD-at (reverse st) x bk noEdit n (length-reverse st ∙ sym f))
 
-pub shown-open : (q : Seat) (l : List Edit) (t : Told) → At q l t → q .opened ≡ isOpen t
+pub shown-open : (q : Seat) (l : List Edit) (t : Past) → At q l t → q .opened ≡ isOpen t
 unfolding At
-shown-open q l shut a = a .0
+shown-open q l closed a = a .0
 shown-open q l (opened job first standing takenBack) a = a .shown
 
-pub shown-job : (q : Seat) (l : List Edit) (t : Told) → At q l t → isOpen t ≡ true → q .job ≡ jobIn t
+pub shown-job : (q : Seat) (l : List Edit) (t : Past) → At q l t → isOpen t ≡ true → q .job ≡ jobIn t
 unfolding At
-shown-job q l shut a o = cc
+shown-job q l closed a o = cc
 shown-job q l (opened job first standing takenBack) a o = a .job
 
-pub shown-pins : (q : Seat) (l : List Edit) (t : Told) → At q l t → isOpen t ≡ true → q .pins ≡ pinsIn t
+pub shown-pins : (q : Seat) (l : List Edit) (t : Past) → At q l t → isOpen t ≡ true → q .pins ≡ pinsIn t
 unfolding At
-shown-pins q l shut a o = cc
+shown-pins q l closed a o = cc
 shown-pins q l (opened job first standing takenBack) a o = a .pins
 
-pub shown-count : (q : Seat) (l : List Edit) (t : Told) → At q l t → isOpen t ≡ true → q .standing ≡ length (standingIn t)
+pub shown-count : (q : Seat) (l : List Edit) (t : Past) → At q l t → isOpen t ≡ true → q .standing ≡ length (standingIn t)
 unfolding At
-shown-count q l shut a o = cc
+shown-count q l closed a o = cc
 shown-count q l (opened job first standing takenBack) a o = a .count
 
-pub shown-standing : (q : Seat) (l : List Edit) (t : Told) → At q l t → reverse (take (q .standing) l) ≡ standingIn t
+pub shown-standing : (q : Seat) (l : List Edit) (t : Past) → At q l t → reverse (take (q .standing) l) ≡ standingIn t
 unfolding At
-shown-standing q l shut a = rw (a .1, take-nil (q .standing))
+shown-standing q l closed a = rw (a .1, take-nil (q .standing))
 shown-standing q l (opened job first standing takenBack) a =
     ap reverse (zip-take l standing takenBack (q .standing) (a .edits) (a .count)) ∙ reverse-reverse standing
 
-pub shown-takenBack : (q : Seat) (l : List Edit) (t : Told) → At q l t → drop (q .standing) l ≡ takenBackIn t
+pub shown-takenBack : (q : Seat) (l : List Edit) (t : Past) → At q l t → drop (q .standing) l ≡ takenBackIn t
 unfolding At
-shown-takenBack q l shut a = rw (a .1, drop-nil (q .standing))
+shown-takenBack q l closed a = rw (a .1, drop-nil (q .standing))
 shown-takenBack q l (opened job first standing takenBack) a = zip-drop l standing takenBack (q .standing) (a .edits) (a .count)
 
 -- A seat owns a record for each standing and each taken-back edit.
-pub shown-length : (q : Seat) (l : List Edit) (t : Told) → At q l t → length l ≡ editsIn t
+pub shown-length : (q : Seat) (l : List Edit) (t : Past) → At q l t → length l ≡ editsIn t
 unfolding At
-shown-length q l shut a = rw (a .1)
+shown-length q l closed a = rw (a .1)
 shown-length q l (opened job first standing takenBack) a = ap length (a .edits) ∙ length-reverseAux standing takenBack
 
-pub shown-jobOf : (q : Seat) (l : List Edit) (t : Told) → At q l t → jobOf q ≡ jobIn t
+pub shown-jobOf : (q : Seat) (l : List Edit) (t : Past) → At q l t → jobOf q ≡ jobIn t
 unfolding At jobOf
-shown-jobOf q l shut a = choose-no _ _ (a .0)
+shown-jobOf q l closed a = choose-no _ _ (a .0)
 shown-jobOf q l (opened job first standing takenBack) a = choose-yes _ _ (a .shown) ∙ a .job
 
 -- The records of an edit that stands, taken before the new one is appended.
@@ -109,22 +109,22 @@ standing-kept q l standing takenBack j p a = zip-take l standing takenBack (q .s
 
 -- ---- one seat changed
 
-sum-set : (h : List Told) (s : ℕ) (t : Told) → s < length h → usedIn (set h s t) + editsIn (toldOf h s) ≡ usedIn h + editsIn t
+sum-set : (h : List Past) (s : ℕ) (t : Past) → s < length h → usedIn (set h s t) + editsIn (pastOf h s) ≡ usedIn h + editsIn t
 unfolding sum
 sum-set [] s t k = absurd (omega arith)
 sum-set (r ∷ h) zero t k = omega arith
 sum-set (r ∷ h) (suc s) t k = omega (arith, sum-set h s t (omega arith))
 
-module _ (q : List Seat) (l m : List Record) (h : List Told) (s : ℕ) (r : Seat) (t : Told) (g : Holds q l h) (k : s < seats)
-    (n : seated m ≡ true) (o : (u : ℕ) → (u ≡ s → ⊥) → own u m ≡ own u l) (z : length m + editsIn (toldOf h s) ≡ length l + editsIn t)
+module _ (q : List Seat) (l m : List Record) (h : List Past) (s : ℕ) (r : Seat) (t : Past) (g : Holds q l h) (k : s < mostSeats)
+    (n : seated m ≡ true) (o : (u : ℕ) → (u ≡ s → ⊥) → own u m ≡ own u l) (z : length m + editsIn (pastOf h s) ≡ length l + editsIn t)
     (a : At r (own s m) t) where
-  at-set : (u : ℕ) → u < seats → At (getD (set q s r) u noSeat) (own u m) (toldOf (set h s t) u)
+  at-set : (u : ℕ) → u < mostSeats → At (getD (set q s r) u noSeat) (own u m) (pastOf (set h s t) u)
   at-set u i =
       let w : s < length q = omega (arith, g .eight) in
       let v : s < length h = omega (arith, g .told) in
       ⊎-elim
-      (λ (e : u ≡ s). rw (e, getD-set-same q s r noSeat w, getD-set-same h s t shut v) a)
-      (λ (d : u ≡ s → ⊥). rw (getD-set-other q s u r noSeat d, getD-set-other h s u t shut d, o u d) (g .at u i))
+      (λ (e : u ≡ s). rw (e, getD-set-same q s r noSeat w, getD-set-same h s t closed v) a)
+      (λ (d : u ≡ s → ⊥). rw (getD-set-other q s u r noSeat d, getD-set-other h s u t closed d, o u d) (g .at u i))
       (same-or-not u s)
 
   pub holds-set : Holds (set q s r) m (set h s t)
@@ -137,31 +137,31 @@ module _ (q : List Seat) (l m : List Record) (h : List Told) (s : ℕ) (r : Seat
         at = at-set;
       }
 
-pub used-live : (d : Desk) (h : List Told) → Agrees d h → length (live d) ≡ d .used
-used-live d h g = let w : d .used ≤ length (d .journal) = omega (arith, g .whole, g .room) in length-take-le (d .used) (d .journal) w
+pub used-in-use : (d : Desk) (h : List Past) → Agrees d h → length (inUse d) ≡ d .used
+used-in-use d h g = let w : d .used ≤ length (d .journal) = omega (arith, g .whole, g .room) in length-take-le (d .used) (d .journal) w
 
 -- With the journal as it was, and with another.
-module _ (d : Desk) (h : List Told) (s : ℕ) (r : Seat) (t : Told) (g : Agrees d h) (k : s < seats) where
-  pub agrees-seat : editsIn t ≡ editsIn (toldOf h s) → At r (own s (live d)) t → Agrees (withSeat d s r) (set h s t)
+module _ (d : Desk) (h : List Past) (s : ℕ) (r : Seat) (t : Past) (g : Agrees d h) (k : s < mostSeats) where
+  pub agrees-seat : editsIn t ≡ editsIn (pastOf h s) → At r (own s (inUse d)) t → Agrees (withSeat d s r) (set h s t)
   agrees-seat z a =
       record {
         whole = g .whole;
         room = g .room;
-        holds = holds-set (d .seats) (live d) (live d) h s r t (g .holds) k (g .holds .named) (λ u e. refl) (omega arith) a;
+        holds = holds-set (d .seats) (inUse d) (inUse d) h s r t (g .holds) k (g .holds .named) (λ u e. refl) (omega arith) a;
       }
 
-  pub agrees-records : (m : List Record) → length m ≤ records → seated m ≡ true → ((u : ℕ) → (u ≡ s → ⊥) → own u m ≡ own u (live d))
-      → length m + editsIn (toldOf h s) ≡ length (live d) + editsIn t → At r (own s m) t → Agrees (withRecords d s r m) (set h s t)
+  pub agrees-records : (m : List Record) → length m ≤ mostRecords → seated m ≡ true → ((u : ℕ) → (u ≡ s → ⊥) → own u m ≡ own u (inUse d))
+      → length m + editsIn (pastOf h s) ≡ length (inUse d) + editsIn t → At r (own s m) t → Agrees (withRecords d s r m) (set h s t)
   agrees-records m i n o z a =
       record {
         whole = filled-length m i;
         room = i;
-        holds = rw (take-filled m) (holds-set (d .seats) (live d) m h s r t (g .holds) k n o z a);
+        holds = rw (take-filled m) (holds-set (d .seats) (inUse d) m h s r t (g .holds) k n o z a);
       }
 
 -- ---- what the seats show together
 
-module _ (d : Desk) (h : List Told) (g : Agrees d h) where
+module _ (d : Desk) (h : List Past) (g : Agrees d h) where
   -- The jobs that are open.
   pub jobs-same : jobsOf d ≡ map jobIn h
   unfolding jobOf choose
@@ -170,8 +170,8 @@ module _ (d : Desk) (h : List Told) (g : Agrees d h) where
       (length-map (d .seats) jobOf ∙ g .holds .eight ∙ sym (length-map h jobIn ∙ g .holds .told))
       (λ i k. List·getD-map jobOf (d .seats) i noSeat
       ∙ shown-jobOf _ _ _ (g .holds .at i (omega (arith, k, length-map (d .seats) jobOf, g .holds .eight)))
-      ∙ sym (List·getD-map jobIn h i shut))
+      ∙ sym (List·getD-map jobIn h i closed))
 
   -- The used count is the sum, over the seats, of standing and taken-back edits.
   pub used-same : d .used ≡ usedIn h
-  used-same = sym (used-live d h g) ∙ g .holds .sized
+  used-same = sym (used-in-use d h g) ∙ g .holds .sized

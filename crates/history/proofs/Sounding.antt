@@ -10,13 +10,13 @@ use lib.ListN.{length, take, length-append, length-reverse, take-append-drop, Li
 use lib.Seq.{getD-at, length-take-le}
 use Rattle.refusal.specs.Tests.{choose}
 use Rattle.grid.proofs.Flat.{order, same-or-not}
-use Rattle.journal.specs.Journal.{seats, ownedBelow}
+use Rattle.journal.specs.Journal.{mostSeats, ownedBelow}
 use Rattle.journal.proofs.Seated.{owned-all}
 use Rattle.desk.specs.declared.Desk.{Desk}
 use Rattle.desk.specs.Calls.{Call}
-use Rattle.desk.specs.Desk.{seatOf, live, editsOf, standingOf, takenBackOf, sound, step}
+use Rattle.desk.specs.Desk.{seatOf, inUse, editsOf, standingOf, takenBackOf, sound, step}
 use Rattle.desk.proofs.Sound.{eight-seats, whole-journal, used-within, all-seated, jobs-apart, closed-owns-none, job-not-zero, standing-within, pins-lawful, standing-takeable, taken-back-replayable}
-use Rattle.history.specs.History.{Told, shut, opened, editsIn, sum, toldOf, usedIn, tell, history, after, answers, answersIn}
+use Rattle.history.specs.History.{Past, closed, opened, editsIn, sum, pastOf, usedIn, pastAfter, history, after, answers, answersIn}
 use Rattle.history.proofs.Stood.{pinsBefore, Traced, traced}
 use Rattle.history.proofs.Sane.{sane, Sane, sane-tell, sane-history}
 use Rattle.history.proofs.Simulation.{At, Agrees, shown-length, jobs-same}
@@ -25,26 +25,26 @@ use Rattle.history.proofs.Opened.{nil-of}
 use Rattle.history.proofs.Demand.{DeskAsTold, seats-as-told, agrees-after, answers-after}
 
 -- What a seat of a desk tells: the pins before its standing edits, these edits, and those taken back.
-unfoldable pub toldBy : Desk → ℕ → Told
+unfoldable pub toldBy : Desk → ℕ → Past
 toldBy d s =
     choose (seatOf d s .opened)
-    (opened (seatOf d s .job) (pinsBefore (seatOf d s .pins) (standingOf d s)) (standingOf d s) (takenBackOf d s)) shut
+    (opened (seatOf d s .job) (pinsBefore (seatOf d s .pins) (standingOf d s)) (standingOf d s) (takenBackOf d s)) closed
 
 -- What the first n seats tell.
-unfoldable pub toldTo : ℕ → Desk → List Told
+unfoldable pub toldTo : ℕ → Desk → List Past
 toldTo zero d = []
 toldTo (suc n) d = toldTo n d ++ (toldBy d n ∷ [])
 
 -- The history that a desk has.
-abbrev pub historyOf : Desk → List Told
-historyOf d = toldTo seats d
+abbrev pub historyOf : Desk → List Past
+historyOf d = toldTo mostSeats d
 
 -- ---- one seat
 
-module _ (d : Desk) (h : sound d ≡ true) (s : ℕ) (k : s < seats) where
+module _ (d : Desk) (h : sound d ≡ true) (s : ℕ) (k : s < mostSeats) where
   told-by : (b : Bool) → seatOf d s .opened ≡ b
-      → At (seatOf d s) (editsOf d s) (choose b (opened (seatOf d s .job) (pinsBefore (seatOf d s .pins) (standingOf d s)) (standingOf d s) (takenBackOf d s)) shut)
-      × sane (choose b (opened (seatOf d s .job) (pinsBefore (seatOf d s .pins) (standingOf d s)) (standingOf d s) (takenBackOf d s)) shut)
+      → At (seatOf d s) (editsOf d s) (choose b (opened (seatOf d s .job) (pinsBefore (seatOf d s .pins) (standingOf d s)) (standingOf d s) (takenBackOf d s)) closed)
+      × sane (choose b (opened (seatOf d s .job) (pinsBefore (seatOf d s .pins) (standingOf d s)) (standingOf d s) (takenBackOf d s)) closed)
   unfolding choose At sane
   told-by true o =
       let n : seatOf d s .standing ≤ length (editsOf d s) = standing-within d h s k o in
@@ -80,25 +80,25 @@ unfolding toldTo
 told-length zero d = refl
 told-length (suc n) d = length-append (toldTo n d) _ ∙ omega (arith, told-length n d)
 
-told-seat : (n : ℕ) (d : Desk) (s : ℕ) → s < n → toldOf (toldTo n d) s ≡ toldBy d s
+told-seat : (n : ℕ) (d : Desk) (s : ℕ) → s < n → pastOf (toldTo n d) s ≡ toldBy d s
 unfolding toldTo
 told-seat zero d s k = absurd (omega arith)
 told-seat (suc n) d s k =
     ⊎-elim
-    (λ (e : s ≡ n). rw e (getD-at (toldTo n d) (toldBy d n) [] shut n (told-length n d)))
+    (λ (e : s ≡ n). rw e (getD-at (toldTo n d) (toldBy d n) [] closed n (told-length n d)))
     (λ (a : s ≡ n → ⊥).
     let m : s < n = omega arith in
     let w : s < length (toldTo n d) = omega (arith, told-length n d) in
-    List·getD-append (toldTo n d) (toldBy d n ∷ []) shut s w ∙ told-seat n d s m)
+    List·getD-append (toldTo n d) (toldBy d n ∷ []) closed s w ∙ told-seat n d s m)
     (same-or-not s n)
 
-used-more : (h : List Told) (t : Told) → usedIn (h ++ (t ∷ [])) ≡ usedIn h + editsIn t
+used-more : (h : List Past) (t : Past) → usedIn (h ++ (t ∷ [])) ≡ usedIn h + editsIn t
 unfolding sum
 used-more [] t = omega arith
 used-more (r ∷ h) t = omega (arith, used-more h t)
 
 module _ (d : Desk) (h : sound d ≡ true) where
-  told-used : (n : ℕ) → n ≤ seats → usedIn (toldTo n d) ≡ ownedBelow n (live d)
+  told-used : (n : ℕ) → n ≤ mostSeats → usedIn (toldTo n d) ≡ ownedBelow n (inUse d)
   unfolding toldTo ownedBelow sum
   told-used zero k = refl
   told-used (suc n) k =
@@ -119,9 +119,9 @@ module _ (d : Desk) (h : sound d ≡ true) where
             record {
               eight = eight-seats d h;
               named = all-seated d h;
-              told = told-length seats d;
-              sized = sym (told-used seats (omega arith) ∙ owned-all (live d) (all-seated d h));
-              at = λ s k. rw (told-seat seats d s k) (told-at d h s k);
+              told = told-length mostSeats d;
+              sized = sym (told-used mostSeats (omega arith) ∙ owned-all (inUse d) (all-seated d h));
+              at = λ s k. rw (told-seat mostSeats d s k) (told-at d h s k);
             };
       }
 
@@ -129,20 +129,20 @@ module _ (d : Desk) (h : sound d ≡ true) where
   unfolding sane
   sound-sane =
       record {
-        eight = told-length seats d;
+        eight = told-length mostSeats d;
         each = λ s.
             ⊎-elim
-            (λ (k : seats ≤ s).
-            let w : length (historyOf d) ≤ s = omega (arith, told-length seats d) in
-            rw (List·getD-eq-default (historyOf d) shut w) tt)
-            (λ (k : s < seats). rw (told-seat seats d s k) (told-sane d h s k)) (order seats s);
+            (λ (k : mostSeats ≤ s).
+            let w : length (historyOf d) ≤ s = omega (arith, told-length mostSeats d) in
+            rw (List·getD-eq-default (historyOf d) closed w) tt)
+            (λ (k : s < mostSeats). rw (told-seat mostSeats d s k) (told-sane d h s k)) (order mostSeats s);
         jobs = rw (← jobs-same d (historyOf d) sound-agrees) (jobs-apart d h);
       }
 
   -- No call breaks a desk that is sound.
   pub sound-step : (c : Call) → sound (step d c .desk) ≡ true
   sound-step c =
-      agrees-sound (step d c .desk) (tell (historyOf d) c) (step-agrees d (historyOf d) sound-agrees sound-sane c)
+      agrees-sound (step d c .desk) (pastAfter (historyOf d) c) (step-agrees d (historyOf d) sound-agrees sound-sane c)
       (sane-tell (historyOf d) sound-sane c)
 
   -- Any calls from any sound desk leave a desk as the history tells that goes on from the one that the desk has.

@@ -18,35 +18,35 @@ use Rattle.drawing.specs.declared.Edit.{Edit}
 use Rattle.drawing.specs.Edits.{made, unmade, placed, moved, removed}
 use Rattle.drawing.proofs.Making.{unmade-made}
 use Rattle.pinmap.specs.Map.{readMap}
-use Rattle.journal.specs.Journal.{seats, records, noEdit, kept, added}
+use Rattle.journal.specs.Journal.{mostSeats, mostRecords, noEdit, kept, added}
 use Rattle.journal.proofs.Own.{own-kept, own-other, own-added, other-added, added-length, kept-length}
 use Rattle.journal.proofs.Seated.{seated-kept, seated-added}
 use Rattle.seats.specs.declared.Seat.{Seat}
 use Rattle.desk.specs.declared.Desk.{Desk}
 use Rattle.desk.specs.Calls.{Call, seatIn, opening, closing, placing, moving, removing, undoing, redoing, writing, wiring}
 use Rattle.desk.specs.Refusals.{Look, full, turnedOpening, turnedClosing, turnedPlacing, turnedMoving, turnedRemoving, turnedUndoing, turnedRedoing, turnedWriting, turnedWiring, verdictOf}
-use Rattle.desk.specs.Desk.{closedSeat, noSeat, seatOf, live, editsOf, openSeat, withPins, soundOpen, soundClosed, soundSeat, soundTo, sound, lookAt, edited, effect, answerOf, step}
-use Rattle.history.specs.History.{Told, shut, opened, pinsBy, isOpen, pinsIn, standingIn, takenBackIn, editsIn, toldOf, usedIn, lookIn, anew, undone, redone, next, answerIn, tell}
+use Rattle.desk.specs.Desk.{closedSeat, noSeat, seatOf, inUse, editsOf, openSeat, withPins, soundOpen, soundClosed, soundSeat, soundTo, sound, lookAt, edited, effect, answerOf, step}
+use Rattle.history.specs.History.{Past, closed, opened, pinsBy, isOpen, pinsIn, standingIn, takenBackIn, editsIn, pastOf, usedIn, lookIn, anew, undone, redone, next, answerIn, pastAfter}
 use Rattle.history.proofs.Passed.{Enters, opens, closes, places, moves, removes, undoes, redoes}
 use Rattle.history.proofs.Stood.{stood, stood-lawful, stood-takeable}
 use Rattle.history.proofs.Sane.{sane, Sane}
-use Rattle.history.proofs.Simulation.{At, Agrees, zip-at, standing-kept, shown-open, shown-job, shown-pins, shown-count, shown-standing, shown-takenBack, shown-length, agrees-seat, agrees-records, used-live, jobs-same, used-same}
+use Rattle.history.proofs.Simulation.{At, Agrees, zip-at, standing-kept, shown-open, shown-job, shown-pins, shown-count, shown-standing, shown-takenBack, shown-length, agrees-seat, agrees-records, used-in-use, jobs-same, used-same}
 
 -- ---- one seat after each call
 
-at-opened : (q : Seat) (l : List Edit) (t : Told) (job : ℕ) (p : List Pin) → At q l t → isOpen t ≡ false → At (openSeat job p) l (opened job p [] [])
+at-opened : (q : Seat) (l : List Edit) (t : Past) (job : ℕ) (p : List Pin) → At q l t → isOpen t ≡ false → At (openSeat job p) l (opened job p [] [])
 unfolding At pinsBy
-at-opened q l shut job p a o = record { shown = refl; job = refl; pins = refl; count = refl; edits = a .1 }
+at-opened q l closed job p a o = record { shown = refl; job = refl; pins = refl; count = refl; edits = a .1 }
 at-opened q l (opened i first standing takenBack) job p a o = absurd (true≢false o)
 
-edits-opened : (t : Told) → isOpen t ≡ false → 0 ≡ editsIn t
-edits-opened shut o = refl
+edits-opened : (t : Past) → isOpen t ≡ false → 0 ≡ editsIn t
+edits-opened closed o = refl
 edits-opened (opened i first standing takenBack) o = cc
 
-at-anew : (e : Edit) (q : Seat) (l : List Edit) (t : Told) → At q l t → isOpen t ≡ true
+at-anew : (e : Edit) (q : Seat) (l : List Edit) (t : Past) → At q l t → isOpen t ≡ true
     → At (withPins q (made (q .pins) e) (q .standing + 1)) (take (q .standing) l ++ (e ∷ [])) (anew e t)
 unfolding At anew pinsBy
-at-anew e q l shut a o = absurd (false≢true o)
+at-anew e q l closed a o = absurd (false≢true o)
 at-anew e q l (opened job first standing takenBack) a o =
     record {
       shown = a .shown;
@@ -56,15 +56,15 @@ at-anew e q l (opened job first standing takenBack) a o =
       edits = rw (standing-kept q l standing takenBack _ _ a) (sym (reverseAux-eq standing (e ∷ [])));
     }
 
-edits-anew : (e : Edit) (t : Told) → isOpen t ≡ true → editsIn (anew e t) + length (takenBackIn t) ≡ editsIn t + 1
+edits-anew : (e : Edit) (t : Past) → isOpen t ≡ true → editsIn (anew e t) + length (takenBackIn t) ≡ editsIn t + 1
 unfolding anew
-edits-anew e shut o = cc
+edits-anew e closed o = cc
 edits-anew e (opened job first standing takenBack) o = omega arith
 
-at-undone : (q : Seat) (l : List Edit) (t : Told) → At q l t → sane t → (length (standingIn t) ≡ 0 → ⊥)
+at-undone : (q : Seat) (l : List Edit) (t : Past) → At q l t → sane t → (length (standingIn t) ≡ 0 → ⊥)
     → At (withPins q (unmade (q .pins) (getD l (q .standing - 1) noEdit)) (q .standing - 1)) l (undone t)
 unfolding At sane undone stood pinsBy
-at-undone q l shut a g n = absurd (n refl)
+at-undone q l closed a g n = absurd (n refl)
 at-undone q l (opened job first [] takenBack) a g n = absurd (n refl)
 at-undone q l (opened job first (e ∷ standing) takenBack) a g n =
     let k : q .standing - 1 ≡ length standing = omega (arith, a .count) in
@@ -76,16 +76,16 @@ at-undone q l (opened job first (e ∷ standing) takenBack) a g n =
       edits = a .edits;
     }
 
-edits-undone : (t : Told) → editsIn (undone t) ≡ editsIn t
+edits-undone : (t : Past) → editsIn (undone t) ≡ editsIn t
 unfolding undone
-edits-undone shut = refl
+edits-undone closed = refl
 edits-undone (opened job first [] takenBack) = refl
 edits-undone (opened job first (e ∷ standing) takenBack) = omega arith
 
-at-redone : (q : Seat) (l : List Edit) (t : Told) → At q l t → (length (takenBackIn t) ≡ 0 → ⊥)
+at-redone : (q : Seat) (l : List Edit) (t : Past) → At q l t → (length (takenBackIn t) ≡ 0 → ⊥)
     → At (withPins q (made (q .pins) (getD l (q .standing) noEdit)) (q .standing + 1)) l (redone t)
 unfolding At redone pinsBy
-at-redone q l shut a n = absurd (n refl)
+at-redone q l closed a n = absurd (n refl)
 at-redone q l (opened job first standing []) a n = absurd (n refl)
 at-redone q l (opened job first standing (e ∷ takenBack)) a n =
     record {
@@ -96,29 +96,29 @@ at-redone q l (opened job first standing (e ∷ takenBack)) a n =
       edits = a .edits;
     }
 
-edits-redone : (t : Told) → editsIn (redone t) ≡ editsIn t
+edits-redone : (t : Past) → editsIn (redone t) ≡ editsIn t
 unfolding redone
-edits-redone shut = refl
+edits-redone closed = refl
 edits-redone (opened job first standing []) = refl
 edits-redone (opened job first standing (e ∷ takenBack)) = omega arith
 
-at-shut : (l : List Edit) → l ≡ [] → At closedSeat l shut
+at-shut : (l : List Edit) → l ≡ [] → At closedSeat l closed
 unfolding At
 at-shut l e = (refl, e)
 
 -- ---- such a desk is sound
 
-module _ (d : Desk) (h : List Told) (g : Agrees d h) (f : Sane h) where
-  module _ (s : ℕ) (k : s < seats) where
-    here : At (seatOf d s) (editsOf d s) (toldOf h s)
+module _ (d : Desk) (h : List Past) (g : Agrees d h) (f : Sane h) where
+  module _ (s : ℕ) (k : s < mostSeats) where
+    here : At (seatOf d s) (editsOf d s) (pastOf h s)
     here = g .holds .at s k
 
-  seat-by : (s : ℕ) (t : Told) → At (seatOf d s) (editsOf d s) t → sane t → soundSeat (seatOf d s) (editsOf d s) ≡ true
+  seat-by : (s : ℕ) (t : Past) → At (seatOf d s) (editsOf d s) t → sane t → soundSeat (seatOf d s) (editsOf d s) ≡ true
   unfolding soundSeat soundOpen soundClosed sane choose
-  seat-by s shut a e =
-      rw (shown-open (seatOf d s) (editsOf d s) shut a) (eq-eqb _ _ (shown-length (seatOf d s) (editsOf d s) shut a))
+  seat-by s closed a e =
+      rw (shown-open (seatOf d s) (editsOf d s) closed a) (eq-eqb _ _ (shown-length (seatOf d s) (editsOf d s) closed a))
   seat-by s (opened job first standing takenBack) a e =
-      let t : Told = opened job first standing takenBack in
+      let t : Past = opened job first standing takenBack in
       let n : seatOf d s .standing ≤ length (editsOf d s) =
       omega (arith, shown-length (seatOf d s) (editsOf d s) t a, shown-count (seatOf d s) (editsOf d s) t a refl) in
       rw (
@@ -133,10 +133,10 @@ module _ (d : Desk) (h : List Told) (g : Agrees d h) (f : Sane h) where
       (both-of (stood-lawful first standing (e .start) (e .stands))
       (both-of (stood-takeable first standing (e .start) (e .stands)) (e .redoes)))))
 
-  seats-sound : (n : ℕ) → n ≤ seats → soundTo n (d .seats) (live d) ≡ true
+  seats-sound : (n : ℕ) → n ≤ mostSeats → soundTo n (d .seats) (inUse d) ≡ true
   unfolding soundTo
   seats-sound zero k = refl
-  seats-sound (suc n) k = both-of (seats-sound n (omega arith)) (seat-by n (toldOf h n) (here n k) (f .each n))
+  seats-sound (suc n) k = both-of (seats-sound n (omega arith)) (seat-by n (pastOf h n) (here n k) (f .each n))
 
   pub agrees-sound : sound d ≡ true
   unfolding sound
@@ -145,7 +145,7 @@ module _ (d : Desk) (h : List Told) (g : Agrees d h) (f : Sane h) where
       (both-of (eq-eqb _ _ (g .whole))
       (both-of (le-leb _ _ (g .room))
       (both-of (g .holds .named)
-      (both-of (rw (jobs-same d h g) (f .jobs)) (seats-sound seats (omega arith))))))
+      (both-of (rw (jobs-same d h g) (f .jobs)) (seats-sound mostSeats (omega arith))))))
 
 -- ---- it answers as the history does
 
@@ -163,20 +163,20 @@ closed-verdict k m (redoing s) a b e o p j = rw (a, b, e, o, p)
 closed-verdict k m (writing s room) a b e o p j = rw (a, b, e, o, p)
 closed-verdict k m (wiring s room) a b e o p j = rw (a, b, e, o, p)
 
-module _ (d : Desk) (h : List Told) (g : Agrees d h) (f : Sane h) where
+module _ (d : Desk) (h : List Past) (g : Agrees d h) (f : Sane h) where
   unbroken : not (sound d) ≡ false
   unbroken = ap not (agrees-sound d h g f)
 
   -- What a call looks at at an open seat.
-  pub look-same : (s : ℕ) → s < seats → isOpen (toldOf h s) ≡ true → lookAt d s ≡ lookIn h s
+  pub look-same : (s : ℕ) → s < mostSeats → isOpen (pastOf h s) ≡ true → lookAt d s ≡ lookIn h s
   look-same s k o =
-      let a : At (seatOf d s) (editsOf d s) (toldOf h s) = g .holds .at s k in
-      let p = shown-open (seatOf d s) (editsOf d s) (toldOf h s) a in
-      let q = shown-job (seatOf d s) (editsOf d s) (toldOf h s) a o in
-      let r = shown-pins (seatOf d s) (editsOf d s) (toldOf h s) a o in
-      let c = shown-count (seatOf d s) (editsOf d s) (toldOf h s) a o in
-      let b : length (editsOf d s) - seatOf d s .standing ≡ length (takenBackIn (toldOf h s)) =
-      omega (arith, shown-length (seatOf d s) (editsOf d s) (toldOf h s) a, c) in
+      let a : At (seatOf d s) (editsOf d s) (pastOf h s) = g .holds .at s k in
+      let p = shown-open (seatOf d s) (editsOf d s) (pastOf h s) a in
+      let q = shown-job (seatOf d s) (editsOf d s) (pastOf h s) a o in
+      let r = shown-pins (seatOf d s) (editsOf d s) (pastOf h s) a o in
+      let c = shown-count (seatOf d s) (editsOf d s) (pastOf h s) a o in
+      let b : length (editsOf d s) - seatOf d s .standing ≡ length (takenBackIn (pastOf h s)) =
+      omega (arith, shown-length (seatOf d s) (editsOf d s) (pastOf h s) a, c) in
       let j = jobs-same d h g in
       let u = used-same d h g in
       let z = unbroken in
@@ -192,95 +192,95 @@ module _ (d : Desk) (h : List Told) (g : Agrees d h) (f : Sane h) where
         used = u i;
       }
 
-  answer-open : (c : Call) → seatIn c < seats → (b : Bool) → isOpen (toldOf h (seatIn c)) ≡ b → answerOf d c ≡ answerIn h c
+  answer-open : (c : Call) → seatIn c < mostSeats → (b : Bool) → isOpen (pastOf h (seatIn c)) ≡ b → answerOf d c ≡ answerIn h c
   unfolding answerOf answerIn
   answer-open c k true o = ap (λ (l : Look). verdictOf l c) (look-same (seatIn c) k o)
   answer-open c k false o =
       closed-verdict (lookAt d (seatIn c)) (lookIn h (seatIn c)) c unbroken refl refl
-      (shown-open (seatOf d (seatIn c)) (editsOf d (seatIn c)) (toldOf h (seatIn c)) (g .holds .at (seatIn c) k) ∙ o) o (jobs-same d h g)
+      (shown-open (seatOf d (seatIn c)) (editsOf d (seatIn c)) (pastOf h (seatIn c)) (g .holds .at (seatIn c) k) ∙ o) o (jobs-same d h g)
 
   -- No seat above 7 is open.
-  answer-above : (c : Call) → seats ≤ seatIn c → answerOf d c ≡ answerIn h c
+  answer-above : (c : Call) → mostSeats ≤ seatIn c → answerOf d c ≡ answerIn h c
   unfolding answerOf answerIn
   answer-above c k =
       let n : length (d .seats) ≤ seatIn c = omega (arith, g .holds .eight) in
       let m : length h ≤ seatIn c = omega (arith, g .holds .told) in
       closed-verdict (lookAt d (seatIn c)) (lookIn h (seatIn c)) c unbroken refl refl
-      (ap (λ (q : Seat). q .opened) (List·getD-eq-default (d .seats) noSeat n)) (ap isOpen (List·getD-eq-default h shut m)) (jobs-same d h g)
+      (ap (λ (q : Seat). q .opened) (List·getD-eq-default (d .seats) noSeat n)) (ap isOpen (List·getD-eq-default h closed m)) (jobs-same d h g)
 
   pub answer-same : (c : Call) → answerOf d c ≡ answerIn h c
   answer-same c =
-      ⊎-elim (λ k. answer-above c k) (λ k. answer-open c k (isOpen (toldOf h (seatIn c))) refl) (order seats (seatIn c))
+      ⊎-elim (λ k. answer-above c k) (λ k. answer-open c k (isOpen (pastOf h (seatIn c))) refl) (order mostSeats (seatIn c))
 
 -- ---- it agrees after the call
 
-module _ (d : Desk) (h : List Told) (g : Agrees d h) (f : Sane h) where
-  module _ (s : ℕ) (k : s < seats) where
-    at-seat : At (seatOf d s) (editsOf d s) (toldOf h s)
+module _ (d : Desk) (h : List Past) (g : Agrees d h) (f : Sane h) where
+  module _ (s : ℕ) (k : s < mostSeats) where
+    at-seat : At (seatOf d s) (editsOf d s) (pastOf h s)
     at-seat = g .holds .at s k
 
     -- A new edit takes one record, after those taken back were freed.
-    edited-length : (e : Edit) → isOpen (toldOf h s) ≡ true
-        → length (added s (seatOf d s .standing) e (live d)) + length (takenBackIn (toldOf h s)) ≡ length (live d) + 1
+    edited-length : (e : Edit) → isOpen (pastOf h s) ≡ true
+        → length (added s (seatOf d s .standing) e (inUse d)) + length (takenBackIn (pastOf h s)) ≡ length (inUse d) + 1
     edited-length e o =
-        let n = shown-length (seatOf d s) (editsOf d s) (toldOf h s) at-seat in
-        let c = shown-count (seatOf d s) (editsOf d s) (toldOf h s) at-seat o in
-        omega (arith, added-length s (seatOf d s .standing) e (live d), kept-length s (seatOf d s .standing) (live d), n, c)
+        let n = shown-length (seatOf d s) (editsOf d s) (pastOf h s) at-seat in
+        let c = shown-count (seatOf d s) (editsOf d s) (pastOf h s) at-seat o in
+        omega (arith, added-length s (seatOf d s .standing) e (inUse d), kept-length s (seatOf d s .standing) (inUse d), n, c)
 
-    agrees-edited : (e : Edit) → isOpen (toldOf h s) ≡ true → full (lookIn h s) ≡ false → Agrees (edited d s e) (set h s (anew e (toldOf h s)))
+    agrees-edited : (e : Edit) → isOpen (pastOf h s) ≡ true → full (lookIn h s) ≡ false → Agrees (edited d s e) (set h s (anew e (pastOf h s)))
     unfolding edited
     agrees-edited e o z =
-        let n : usedIn h - length (takenBackIn (toldOf h s)) ≡ records → ⊥ = eqb-false _ _ z in
-        let r : usedIn h - length (takenBackIn (toldOf h s)) < records = omega (arith, n, used-same d h g, g .room) in
-        agrees-records d h s _ _ g k (added s (seatOf d s .standing) e (live d))
+        let n : usedIn h - length (takenBackIn (pastOf h s)) ≡ mostRecords → ⊥ = eqb-false _ _ z in
+        let r : usedIn h - length (takenBackIn (pastOf h s)) < mostRecords = omega (arith, n, used-same d h g, g .room) in
+        agrees-records d h s _ _ g k (added s (seatOf d s .standing) e (inUse d))
         (omega (arith, edited-length e o, r, g .holds .sized))
-        (seated-added s (seatOf d s .standing) e (live d) k (g .holds .named))
-        (other-added s (seatOf d s .standing) e (live d))
-        (omega (arith, edited-length e o, edits-anew e (toldOf h s) o))
-        (rw (own-added s (seatOf d s .standing) e (live d)) (at-anew e (seatOf d s) (editsOf d s) (toldOf h s) at-seat o))
+        (seated-added s (seatOf d s .standing) e (inUse d) k (g .holds .named))
+        (other-added s (seatOf d s .standing) e (inUse d))
+        (omega (arith, edited-length e o, edits-anew e (pastOf h s) o))
+        (rw (own-added s (seatOf d s .standing) e (inUse d)) (at-anew e (seatOf d s) (editsOf d s) (pastOf h s) at-seat o))
 
-    agrees-closed : Agrees (effect d (closing s)) (set h s shut)
+    agrees-closed : Agrees (effect d (closing s)) (set h s closed)
     unfolding effect
     agrees-closed =
-        agrees-records d h s _ _ g k (kept s 0 (live d))
-        (omega (arith, kept-length s 0 (live d), used-live d h g, g .room))
-        (seated-kept s 0 (live d) (g .holds .named))
-        (λ u e. own-other s u e 0 (live d))
-        (omega (arith, kept-length s 0 (live d), shown-length (seatOf d s) (editsOf d s) (toldOf h s) at-seat))
-        (at-shut _ (own-kept s 0 (live d)))
+        agrees-records d h s _ _ g k (kept s 0 (inUse d))
+        (omega (arith, kept-length s 0 (inUse d), used-in-use d h g, g .room))
+        (seated-kept s 0 (inUse d) (g .holds .named))
+        (λ u e. own-other s u e 0 (inUse d))
+        (omega (arith, kept-length s 0 (inUse d), shown-length (seatOf d s) (editsOf d s) (pastOf h s) at-seat))
+        (at-shut _ (own-kept s 0 (inUse d)))
 
-    pins-same : isOpen (toldOf h s) ≡ true → seatOf d s .pins ≡ pinsIn (toldOf h s)
-    pins-same o = shown-pins (seatOf d s) (editsOf d s) (toldOf h s) at-seat o
+    pins-same : isOpen (pastOf h s) ≡ true → seatOf d s .pins ≡ pinsIn (pastOf h s)
+    pins-same o = shown-pins (seatOf d s) (editsOf d s) (pastOf h s) at-seat o
 
-  agrees-entered : (s : ℕ) (e : Edit) → Enters (lookIn h s) e → Agrees (edited d s e) (set h s (anew e (toldOf h s)))
+  agrees-entered : (s : ℕ) (e : Edit) → Enters (lookIn h s) e → Agrees (edited d s e) (set h s (anew e (pastOf h s)))
   agrees-entered s e p = agrees-edited s (p .reaches .low) e (p .reaches .shown) (p .room)
 
-  agrees-next : (c : Call) → accepted (answerIn h c) ≡ true → Agrees (effect d c) (set h (seatIn c) (next c (toldOf h (seatIn c))))
+  agrees-next : (c : Call) → accepted (answerIn h c) ≡ true → Agrees (effect d c) (set h (seatIn c) (next c (pastOf h (seatIn c))))
   unfolding effect next answerIn verdictOf
   agrees-next (opening s job map) z =
       let o = opens (lookIn h s) job map z in
-      agrees-seat d h s _ _ g (o .low) (edits-opened (toldOf h s) (o .shown))
-      (at-opened _ _ (toldOf h s) job (readMap map job .pins) (at-seat s (o .low)) (o .shown))
+      agrees-seat d h s _ _ g (o .low) (edits-opened (pastOf h s) (o .shown))
+      (at-opened _ _ (pastOf h s) job (readMap map job .pins) (at-seat s (o .low)) (o .shown))
   agrees-next (closing s) z = agrees-closed s (closes (lookIn h s) z .low)
   agrees-next (placing s p at) z = agrees-entered s (placed p at) (places (lookIn h s) p at z)
   agrees-next (moving s p at) z =
       let m = moves (lookIn h s) p at z in
-      rw (pins-same s (m .reaches .low) (m .reaches .shown)) (agrees-entered s (moved (pinsIn (toldOf h s)) p at) m)
+      rw (pins-same s (m .reaches .low) (m .reaches .shown)) (agrees-entered s (moved (pinsIn (pastOf h s)) p at) m)
   agrees-next (removing s p) z =
       let m = removes (lookIn h s) p z in
-      rw (pins-same s (m .reaches .low) (m .reaches .shown)) (agrees-entered s (removed (pinsIn (toldOf h s)) p) m)
+      rw (pins-same s (m .reaches .low) (m .reaches .shown)) (agrees-entered s (removed (pinsIn (pastOf h s)) p) m)
   agrees-next (undoing s) z =
       let m = undoes (lookIn h s) z in
-      agrees-seat d h s _ _ g (m .0 .low) (edits-undone (toldOf h s))
-      (at-undone _ _ (toldOf h s) (at-seat s (m .0 .low)) (f .each s) (m .1))
+      agrees-seat d h s _ _ g (m .0 .low) (edits-undone (pastOf h s))
+      (at-undone _ _ (pastOf h s) (at-seat s (m .0 .low)) (f .each s) (m .1))
   agrees-next (redoing s) z =
       let m = redoes (lookIn h s) z in
-      agrees-seat d h s _ _ g (m .0 .low) (edits-redone (toldOf h s)) (at-redone _ _ (toldOf h s) (at-seat s (m .0 .low)) (m .1))
-  agrees-next (writing s room) z = rw (set-getD h s shut) g
-  agrees-next (wiring s room) z = rw (set-getD h s shut) g
+      agrees-seat d h s _ _ g (m .0 .low) (edits-redone (pastOf h s)) (at-redone _ _ (pastOf h s) (at-seat s (m .0 .low)) (m .1))
+  agrees-next (writing s room) z = rw (set-getD h s closed) g
+  agrees-next (wiring s room) z = rw (set-getD h s closed) g
 
   agrees-by : (c : Call) (b : Bool) → accepted (answerIn h c) ≡ b
-      → Agrees (choose b (effect d c) d) (choose b (set h (seatIn c) (next c (toldOf h (seatIn c)))) h)
+      → Agrees (choose b (effect d c) d) (choose b (set h (seatIn c) (next c (pastOf h (seatIn c)))) h)
   unfolding choose
   agrees-by c true z = agrees-next c z
   agrees-by c false z = g
@@ -290,6 +290,6 @@ module _ (d : Desk) (h : List Told) (g : Agrees d h) (f : Sane h) where
   unfolding step
   step-answer c = answer-same d h g f c
 
-  pub step-agrees : (c : Call) → Agrees (step d c .desk) (tell h c)
-  unfolding step tell
+  pub step-agrees : (c : Call) → Agrees (step d c .desk) (pastAfter h c)
+  unfolding step pastAfter
   step-agrees c = rw (answer-same d h g f c) (agrees-by c (accepted (answerIn h c)) refl)

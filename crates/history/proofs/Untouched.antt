@@ -15,7 +15,7 @@ use Rattle.journal.proofs.Filled.{take-filled}
 use Rattle.seats.specs.declared.Seat.{Seat}
 use Rattle.desk.specs.declared.Desk.{Desk}
 use Rattle.desk.specs.Calls.{Call, seatIn, opening, closing, placing, moving, removing, undoing, redoing, writing, wiring}
-use Rattle.desk.specs.Desk.{noSeat, seatOf, live, editsOf, standingOf, takenBackOf, withSeat, withRecords, edited, effect, answerOf, step, writtenOf, bufferOf, wiredOf}
+use Rattle.desk.specs.Desk.{noSeat, seatOf, inUse, editsOf, standingOf, takenBackOf, withSeat, withRecords, edited, effect, answerOf, step, writtenOf, bufferOf, wiredOf}
 
 -- A seat of a desk is the same on another: open or closed, job, pins and number of standing edits; and so are its edits, standing and taken back.
 pub record Untouched (d e : Desk) (t : ℕ) : Type 0 where
@@ -31,17 +31,17 @@ module _ (d : Desk) (s t : ℕ) (apart : t ≡ s → ⊥) where
   other-seat : (r : Seat) → Untouched d (withSeat d s r) t
   other-seat r = untouched-by d (withSeat d s r) t (getD-set-other (d .seats) s t r noSeat apart) refl
 
-  other-records : (r : Seat) (m : List Record) → own t m ≡ own t (live d) → Untouched d (withRecords d s r m) t
+  other-records : (r : Seat) (m : List Record) → own t m ≡ own t (inUse d) → Untouched d (withRecords d s r m) t
   other-records r m e =
       untouched-by d (withRecords d s r m) t (getD-set-other (d .seats) s t r noSeat apart) (ap (own t) (take-filled m) ∙ e)
 
 other-effect : (d : Desk) (c : Call) (t : ℕ) → (t ≡ seatIn c → ⊥) → Untouched d (effect d c) t
 unfolding effect edited
 other-effect d (opening s job map) t n = other-seat d s t n _
-other-effect d (closing s) t n = other-records d s t n _ _ (own-other s t n 0 (live d))
-other-effect d (placing s p at) t n = other-records d s t n _ _ (other-added s (seatOf d s .standing) _ (live d) t n)
-other-effect d (moving s p at) t n = other-records d s t n _ _ (other-added s (seatOf d s .standing) _ (live d) t n)
-other-effect d (removing s p) t n = other-records d s t n _ _ (other-added s (seatOf d s .standing) _ (live d) t n)
+other-effect d (closing s) t n = other-records d s t n _ _ (own-other s t n 0 (inUse d))
+other-effect d (placing s p at) t n = other-records d s t n _ _ (other-added s (seatOf d s .standing) _ (inUse d) t n)
+other-effect d (moving s p at) t n = other-records d s t n _ _ (other-added s (seatOf d s .standing) _ (inUse d) t n)
+other-effect d (removing s p) t n = other-records d s t n _ _ (other-added s (seatOf d s .standing) _ (inUse d) t n)
 other-effect d (undoing s) t n = other-seat d s t n _
 other-effect d (redoing s) t n = other-seat d s t n _
 other-effect d (writing s room) t n = untouched-by d d t refl refl

@@ -14,10 +14,10 @@ use Rattle.refusal.specs.declared.Verdict.the-variants.{Accepted, BoxesMeet}
 use Rattle.refusal.proofs.Rows.{Row, firstOf, Given, refusalAt, numberOf, unlike, unlike-first, distinct, Exactly}
 use Rattle.drawing.specs.declared.Pin.{Pin}
 use Rattle.drawing.specs.Pins.{lawful, feedOf}
-use Rattle.drawing.proofs.Rules.{feed-long}
+use Rattle.drawing.proofs.Rules.{lawful-parts, feed-long}
 use Rattle.pinmap.specs.Record.{recordSize}
 use Rattle.pinmap.specs.Map.{noPins}
-use Rattle.journal.specs.Journal.{seats}
+use Rattle.journal.specs.Journal.{mostSeats}
 use Rattle.tree.proofs.Apart.{never-meet}
 use Rattle.copper.specs.declared.Shape.the-variants.{Straight}
 use Rattle.copper.specs.declared.Leg.{Leg}
@@ -30,7 +30,6 @@ use Rattle.desk.specs.Calls.{Call, opening, closing, placing, moving, removing,
 use Rattle.desk.specs.Refusals.{turnedOpening, turnedClosing, turnedPlacing, turnedMoving, turnedRemoving, turnedUndoing, turnedRedoing, turnedWriting, turnedWiring, verdictOf}
 use Rattle.desk.specs.Desk.{seatOf, lookAt, answerOf, step, wiredOf, wiredSeatOf, lentOf}
 use Rattle.desk.proofs.Sound.{pins-lawful}
-use Rattle.rows.proofs.Feed.{feed-on-board}
 use Rattle.history.proofs.MapRows.{recordRows, map-first}
 use Rattle.history.proofs.Refused.{openingRows, closingRows, placingRows, movingRows, removingRows, undoingRows, redoingRows, writingRows, wiringRows, exactly-wiring, each-refusal-exactly}
 
@@ -66,8 +65,8 @@ wiring-never-18 : (d : Desk) (s room : ℕ) → step d (wiring s room) .verdict 
 unfolding refusalAt Given
 wiring-never-18 d s room e =
     let g = each-refusal-exactly d (wiring s room) .refused 4 (omega arith) .0 e in
-    let l : lawful (seatOf d s .pins) ≡ true = pins-lawful d (not-false _ (g .0)) s (leb-false seats s (g .1 .0)) (not-false _ (g .1 .1 .0)) in
-    true≢false (sym (g .1 .1 .1 .1) ∙ never-meet (feedOf (seatOf d s .pins)) (feed-long _ l) (feed-on-board _ l))
+    let l : lawful (seatOf d s .pins) ≡ true = pins-lawful d (not-false _ (g .0)) s (leb-false mostSeats s (g .1 .0)) (not-false _ (g .1 .1 .0)) in
+    true≢false (sym (g .1 .1 .1 .1) ∙ never-meet (feedOf (seatOf d s .pins)) (feed-long _ l) (lawful-parts _ l .board))
 
 -- 18 NEVER COMES: no call on any desk is answered so,
 pub never-18 : (d : Desk) (c : Call) → step d c .verdict ≡ BoxesMeet → ⊥

@@ -10,7 +10,7 @@ use Rattle.drawing.specs.declared.Pin.{Pin}
 use Rattle.drawing.specs.declared.Edit.{Edit}
 use Rattle.drawing.specs.Edits.{made, placed, moved, removed}
 use Rattle.pinmap.specs.Map.{readMap}
-use Rattle.journal.specs.Journal.{seats}
+use Rattle.journal.specs.Journal.{mostSeats}
 use Rattle.desk.specs.declared.Desk.{Desk}
 use Rattle.desk.specs.Calls.{Call, seatIn, opening, closing, placing, moving, removing, undoing, redoing, writing, wiring}
 use Rattle.desk.specs.Refusals.{Look, verdictOf}
@@ -18,9 +18,9 @@ use Rattle.desk.specs.Desk.{step}
 
 -- A seat is closed, or open with the job and the pins of its latest opening, its standing edits (the latest first) and its
 -- taken-back edits (the most recently taken back first).
-pub data Told : Type 0 where
-  shut : Told
-  opened : ℕ → List Pin → List Edit → List Edit → Told
+pub data Past : Type 0 where
+  closed : Past
+  opened : ℕ → List Pin → List Edit → List Edit → Past
 
 -- The pins of an opening with the standing edits made in order.
 unfoldable pub pinsBy : List Pin → List Edit → List Pin
@@ -28,32 +28,32 @@ pinsBy first [] = first
 pinsBy first (e ∷ earlier) = made (pinsBy first earlier) e
 
 -- The seat is open.
-abbrev pub isOpen : Told → Bool
-isOpen shut = false
+abbrev pub isOpen : Past → Bool
+isOpen closed = false
 isOpen (opened job first standing takenBack) = true
 
 -- The job of an open seat, 0 for a closed one.
-abbrev pub jobIn : Told → ℕ
-jobIn shut = 0
+abbrev pub jobIn : Past → ℕ
+jobIn closed = 0
 jobIn (opened job first standing takenBack) = job
 
 -- The pins of an open seat: those of its latest opening, with its standing edits made in order.
-abbrev pub pinsIn : Told → List Pin
-pinsIn shut = []
+abbrev pub pinsIn : Past → List Pin
+pinsIn closed = []
 pinsIn (opened job first standing takenBack) = pinsBy first standing
 
 -- The standing edits of a seat, the latest first; a closed one has none.
-abbrev pub standingIn : Told → List Edit
-standingIn shut = []
+abbrev pub standingIn : Past → List Edit
+standingIn closed = []
 standingIn (opened job first standing takenBack) = standing
 
 -- The taken-back edits of a seat, the most recently taken back first; a closed one has none.
-abbrev pub takenBackIn : Told → List Edit
-takenBackIn shut = []
+abbrev pub takenBackIn : Past → List Edit
+takenBackIn closed = []
 takenBackIn (opened job first standing takenBack) = takenBack
 
 -- Standing and taken-back edits both occupy records.
-abbrev pub editsIn : Told → ℕ
+abbrev pub editsIn : Past → ℕ
 editsIn t = length (standingIn t) + length (takenBackIn t)
 
 -- The sum of some numbers.
@@ -62,49 +62,49 @@ sum [] = 0
 sum (n ∷ l) = n + sum l
 
 -- What is told of a seat; nothing is open above 7.
-abbrev pub toldOf : List Told → ℕ → Told
-toldOf h s = getD h s shut
+abbrev pub pastOf : List Past → ℕ → Past
+pastOf h s = getD h s closed
 
 -- The used count is the sum, over open seats, of standing and taken-back edits.
-abbrev pub usedIn : List Told → ℕ
+abbrev pub usedIn : List Past → ℕ
 usedIn h = sum (map editsIn h)
 
 -- What a call looks at, as the history gives it. A history is never broken.
-abbrev pub lookIn : List Told → ℕ → Look
+abbrev pub lookIn : List Past → ℕ → Look
 lookIn h s =
     record {
       broken = false;
       seat = s;
-      opened = isOpen (toldOf h s);
-      job = jobIn (toldOf h s);
-      pins = pinsIn (toldOf h s);
-      standing = length (standingIn (toldOf h s));
-      takenBack = length (takenBackIn (toldOf h s));
+      opened = isOpen (pastOf h s);
+      job = jobIn (pastOf h s);
+      pins = pinsIn (pastOf h s);
+      standing = length (standingIn (pastOf h s));
+      takenBack = length (takenBackIn (pastOf h s));
       jobs = map jobIn h;
       used = usedIn h;
     }
 
 -- A new edit stands, and discards those taken back.
-unfoldable pub anew : Edit → Told → Told
-anew e shut = shut
+unfoldable pub anew : Edit → Past → Past
+anew e closed = closed
 anew e (opened job first standing takenBack) = opened job first (e ∷ standing) []
 
 -- Undo takes back the latest standing edit.
-unfoldable pub undone : Told → Told
-undone shut = shut
+unfoldable pub undone : Past → Past
+undone closed = closed
 undone (opened job first [] takenBack) = opened job first [] takenBack
 undone (opened job first (e ∷ standing) takenBack) = opened job first standing (e ∷ takenBack)
 
 -- Redo makes the most recently taken-back edit stand again.
-unfoldable pub redone : Told → Told
-redone shut = shut
+unfoldable pub redone : Past → Past
+redone closed = closed
 redone (opened job first standing []) = opened job first standing []
 redone (opened job first standing (e ∷ takenBack)) = opened job first (e ∷ standing) takenBack
 
 -- What an accepted call makes of its own seat.
-unfoldable pub next : Call → Told → Told
+unfoldable pub next : Call → Past → Past
 next (opening s job map) t = opened job (readMap map job .pins) [] []
-next (closing s) t = shut
+next (closing s) t = closed
 next (placing s p at) t = anew (placed p at) t
 next (moving s p at) t = anew (moved (pinsIn t) p at) t
 next (removing s p) t = anew (removed (pinsIn t) p) t
@@ -114,21 +114,21 @@ next (writing s room) t = t
 next (wiring s room) t = t
 
 -- What a call is answered by the history.
-unfoldable pub answerIn : List Told → Call → Verdict
+unfoldable pub answerIn : List Past → Call → Verdict
 answerIn h c = verdictOf (lookIn h (seatIn c)) c
 
 -- An accepted call changes its own seat, and nothing else; a refused one changes nothing.
-unfoldable pub tell : List Told → Call → List Told
-tell h c = choose (accepted (answerIn h c)) (set h (seatIn c) (next c (toldOf h (seatIn c)))) h
+unfoldable pub pastAfter : List Past → Call → List Past
+pastAfter h c = choose (accepted (answerIn h c)) (set h (seatIn c) (next c (pastOf h (seatIn c)))) h
 
 -- Before any call all seats are closed.
-abbrev pub nothing : List Told
-nothing = replicate seats shut
+abbrev pub nothing : List Past
+nothing = replicate mostSeats closed
 
 -- The history after any calls, the first call first.
-unfoldable pub history : List Told → List Call → List Told
+unfoldable pub history : List Past → List Call → List Past
 history h [] = h
-history h (c ∷ calls) = history (tell h c) calls
+history h (c ∷ calls) = history (pastAfter h c) calls
 
 -- The desk after any calls.
 unfoldable pub after : Desk → List Call → Desk
@@ -141,6 +141,6 @@ answers d [] = []
 answers d (c ∷ calls) = step d c .verdict ∷ answers (step d c .desk) calls
 
 -- What any calls are answered by the history.
-unfoldable pub answersIn : List Told → List Call → List Verdict
+unfoldable pub answersIn : List Past → List Call → List Verdict
 answersIn h [] = []
-answersIn h (c ∷ calls) = answerIn h c ∷ answersIn (tell h c) calls
+answersIn h (c ∷ calls) = answerIn h c ∷ answersIn (pastAfter h c) calls

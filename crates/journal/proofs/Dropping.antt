@@ -6,7 +6,7 @@ use native.Mathlib.Omega.{arith}
 use lib.ListN.{length, take, drop, getD, set, replicate, length-append}
 use Rattle.journal.specs.declared.Record.{Record}
 use Rattle.journal.specs.declared.Compacted.{Compacted}
-use Rattle.journal.specs.Journal.{records, blank, kept, filled, compacted}
+use Rattle.journal.specs.Journal.{mostRecords, blank, kept, filled, compacted}
 use Rattle.journal.proofs.Own.{kept-nil, kept-here, kept-none, kept-past}
 use Rattle.journal.proofs.Filled.{filled-nil, filled-set}
 use Rattle.journal.proofs.Passing.{next, none-left}
@@ -18,15 +18,15 @@ pub record Dropping (l : List Record) (s keep i : ℕ) (out : List Record) (w k 
   pub sized : w ≡ length done
   pub whole : kept s keep l ≡ done ++ kept s k (drop i l)
 
-pub drop-start : (l : List Record) (s keep : ℕ) (b : Record) → b ≡ blank → Dropping l s keep 0 (replicate records b) 0 keep
+pub drop-start : (l : List Record) (s keep : ℕ) (b : Record) → b ≡ blank → Dropping l s keep 0 (replicate mostRecords b) 0 keep
 drop-start l s keep b e = record { done = []; shown = rw e (sym filled-nil); sized = refl; whole = refl }
 
 module _ (j : List Record) (u s keep i : ℕ) (out : List Record) (w k : ℕ) (f : u ≤ length j) (h : i < u) (p : Dropping (take u j) s keep i out w k) where
   -- The record is written.
-  write : (n : ℕ) → w < records → kept s k (drop i (take u j)) ≡ getD j i blank ∷ kept s n (drop (i + 1) (take u j))
+  write : (n : ℕ) → w < mostRecords → kept s k (drop i (take u j)) ≡ getD j i blank ∷ kept s n (drop (i + 1) (take u j))
       → Dropping (take u j) s keep (i + 1) (set out w (getD j i blank)) (w + 1) n
   write n o e =
-      let g : length (p .done) < records = omega (arith, p .sized) in
+      let g : length (p .done) < mostRecords = omega (arith, p .sized) in
       record {
         done = p .done ++ (getD j i blank ∷ []);
         shown = rw (p .shown, p .sized) (filled-set (p .done) (getD j i blank) g);
@@ -38,13 +38,13 @@ module _ (j : List Record) (u s keep i : ℕ) (out : List Record) (w k : ℕ) (f
   left-one z = omega arith
 
   -- One of the seat's, within those to keep.
-  pub drop-keep : w < records → getD j i blank .seat ≡ s → 0 < k → Dropping (take u j) s keep (i + 1) (set out w (getD j i blank)) (w + 1) (k - 1)
+  pub drop-keep : w < mostRecords → getD j i blank .seat ≡ s → 0 < k → Dropping (take u j) s keep (i + 1) (set out w (getD j i blank)) (w + 1) (k - 1)
   drop-keep o e z =
       write (k - 1) o
       (rw (next j u i f h) (ap (λ (n : ℕ). kept s n (getD j i blank ∷ drop (i + 1) (take u j))) (left-one z) ∙ kept-here s (getD j i blank) _ (k - 1) e))
 
   -- One of another seat.
-  pub drop-other : w < records → (getD j i blank .seat ≡ s → ⊥) → Dropping (take u j) s keep (i + 1) (set out w (getD j i blank)) (w + 1) k
+  pub drop-other : w < mostRecords → (getD j i blank .seat ≡ s → ⊥) → Dropping (take u j) s keep (i + 1) (set out w (getD j i blank)) (w + 1) k
   drop-other o d = write k o (rw (next j u i f h) (kept-past s (getD j i blank) _ k d))
 
   -- One of the seat's, beyond those to keep.

@@ -7,7 +7,7 @@ use native.Mathlib.Omega.{arith}
 use lib.ListN.{length, take, set, replicate, length-append, length-replicate}
 use lib.Seq.{take-append-seam, set-at}
 use Rattle.journal.specs.declared.Record.{Record}
-use Rattle.journal.specs.Journal.{records, blank, filled}
+use Rattle.journal.specs.Journal.{mostRecords, blank, filled}
 
 -- The records in use are those that it was filled from.
 pub take-filled : (l : List Record) → take (length l) (filled l) ≡ l
@@ -15,12 +15,12 @@ unfolding filled
 take-filled l = take-append-seam l _
 
 -- It has room for all records.
-pub filled-length : (l : List Record) → length l ≤ records → length (filled l) ≡ records
+pub filled-length : (l : List Record) → length l ≤ mostRecords → length (filled l) ≡ mostRecords
 unfolding filled
-filled-length l h = length-append l _ ∙ omega (arith, length-replicate (records - length l) blank)
+filled-length l h = length-append l _ ∙ omega (arith, length-replicate (mostRecords - length l) blank)
 
 -- Without records it is blank.
-pub filled-nil : filled [] ≡ replicate records blank
+pub filled-nil : filled [] ≡ replicate mostRecords blank
 unfolding filled
 filled-nil = refl
 
@@ -29,14 +29,14 @@ blank-first zero h = absurd (omega arith)
 blank-first (suc n) h = rw sub-one
 
 -- A record stored after those in use is in use after them.
-pub filled-set : (l : List Record) (r : Record) → length l < records → set (filled l) (length l) r ≡ filled (l ++ (r ∷ []))
+pub filled-set : (l : List Record) (r : Record) → length l < mostRecords → set (filled l) (length l) r ≡ filled (l ++ (r ∷ []))
 unfolding filled
 filled-set l r h =
-    let k : 0 < records - length l = omega arith in
-    let e : records - (length l + 1) ≡ records - length l - 1 = omega arith in
+    let k : 0 < mostRecords - length l = omega arith in
+    let e : mostRecords - (length l + 1) ≡ mostRecords - length l - 1 = omega arith in
     rw (
-      blank-first (records - length l) k,
-      set-at l blank (replicate (records - length l - 1) blank) r (length l) refl,
+      blank-first (mostRecords - length l) k,
+      set-at l blank (replicate (mostRecords - length l - 1) blank) r (length l) refl,
       length-append,
       e,
     )

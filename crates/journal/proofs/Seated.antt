@@ -11,12 +11,12 @@ use Rattle.refusal.proofs.Tests.{both-left, both-right, both-of, both-yes, both
 use Rattle.grid.proofs.Flat.{same-or-not}
 use Rattle.drawing.specs.declared.Edit.{Edit}
 use Rattle.journal.specs.declared.Record.{Record}
-use Rattle.journal.specs.Journal.{seats, recorded, kept, added, seated, ownedBelow}
+use Rattle.journal.specs.Journal.{mostSeats, recorded, kept, added, seated, ownedBelow}
 use Rattle.journal.proofs.Own.{own-nil, own-here, own-past, kept-nil, kept-here, kept-none, kept-past}
 
 -- One record more at the front.
 module _ (r : Record) (l : List Record) where
-  pub seated-first : seated (r ∷ l) ≡ true → r .seat < seats
+  pub seated-first : seated (r ∷ l) ≡ true → r .seat < mostSeats
   unfolding seated
   seated-first h = ltb-true _ _ (both-left _ _ h)
 
@@ -24,16 +24,16 @@ module _ (r : Record) (l : List Record) where
   unfolding seated
   seated-rest h = both-right _ _ h
 
-  pub seated-cons : r .seat < seats → seated l ≡ true → seated (r ∷ l) ≡ true
+  pub seated-cons : r .seat < mostSeats → seated l ≡ true → seated (r ∷ l) ≡ true
   unfolding seated
   seated-cons p q = both-of (lt-ltb _ _ p) q
 
   -- The first record decides: where it passes, what is left are the others; where it fails, all is said.
-  pub seated-yes : r .seat < seats → seated (r ∷ l) ≡ seated l
+  pub seated-yes : r .seat < mostSeats → seated (r ∷ l) ≡ seated l
   unfolding seated
   seated-yes p = both-yes _ (lt-ltb _ _ p)
 
-  pub seated-no : seats ≤ r .seat → seated (r ∷ l) ≡ false
+  pub seated-no : mostSeats ≤ r .seat → seated (r ∷ l) ≡ false
   unfolding seated
   seated-no p = both-no _ (le-ltb _ _ p)
 
@@ -62,7 +62,7 @@ seated-kept s (suc k) (r ∷ l) h =
     (same-or-not (r .seat) s)
 
 -- A new edit of one of the desk's seats keeps them so.
-pub seated-added : (s k : ℕ) (e : Edit) (l : List Record) → s < seats → seated l ≡ true → seated (added s k e l) ≡ true
+pub seated-added : (s k : ℕ) (e : Edit) (l : List Record) → s < mostSeats → seated l ≡ true → seated (added s k e l) ≡ true
 seated-added s k e l p h = seated-append (kept s k l) _ (seated-kept s k l h) (seated-cons (recorded s e) [] p seated-nil)
 
 owned-nil : (n : ℕ) → ownedBelow n [] ≡ 0
@@ -86,7 +86,7 @@ owned-here (suc n) r l h =
     (same-or-not (r .seat) n)
 
 -- The seats own all records together: their edits' numbers add up to the number of records.
-pub owned-all : (l : List Record) → seated l ≡ true → ownedBelow seats l ≡ length l
-owned-all [] h = owned-nil seats
+pub owned-all : (l : List Record) → seated l ≡ true → ownedBelow mostSeats l ≡ length l
+owned-all [] h = owned-nil mostSeats
 owned-all (r ∷ l) h =
-    omega (arith, owned-here seats r l (seated-first r l h), owned-all l (seated-rest r l h))
+    omega (arith, owned-here mostSeats r l (seated-first r l h), owned-all l (seated-rest r l h))

@@ -14,12 +14,12 @@ use Rattle.journal.specs.declared.Record.{Record}
 use Rattle.journal.specs.declared.Compacted.{Compacted}
 
 -- All seats share a journal of 256 records.
-abbrev pub records : ℕ
-records = 256
+abbrev pub mostRecords : ℕ
+mostRecords = 256
 
 -- A desk has eight seats, 0 to 7.
-abbrev pub seats : ℕ
-seats = 8
+abbrev pub mostSeats : ℕ
+mostSeats = 8
 
 -- The edit of a record that is not in use.
 abbrev pub noEdit : Edit
@@ -50,7 +50,7 @@ added s k e l = kept s k l ++ (recorded s e ∷ [])
 
 -- A journal whose records in use are these: blank ones fill it up.
 unfoldable pub filled : List Record → List Record
-filled l = l ++ replicate (records - length l) blank
+filled l = l ++ replicate (mostRecords - length l) blank
 
 -- The journal with these records in use, and their number.
 abbrev pub compacted : List Record → Compacted
@@ -59,7 +59,7 @@ compacted l = record { journal = filled l; used = length l }
 -- The seat of every record is one of the desk's.
 unfoldable pub seated : List Record → Bool
 seated [] = true
-seated (r ∷ l) = both (ltb (r .seat) seats) (seated l)
+seated (r ∷ l) = both (ltb (r .seat) mostSeats) (seated l)
 
 -- How many records the seats below n own together.
 unfoldable pub ownedBelow : ℕ → List Record → ℕ

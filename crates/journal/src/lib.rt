@@ -1,14 +1,14 @@
 // The journal: the records of all seats, counting and finding a seat's own, dropping and appending, and whether a seat's edits can be redone and taken back.
 use drawing::Edit;
 use drawing::Held;
-use drawing::PINS;
 use drawing::Pin;
+use feed::PINS;
 use grid::Place;
 ghost use mathlib.Core.Path.{_≡_};
 ghost use Prim.Native.Nat.{_<_, _≤_};
 ghost use mathlib.Core.List.{reverse};
 ghost use lib.ListN.{drop, getD, length, set, take};
-ghost use Rattle.journal.specs.Journal.{records, noEdit, blank, own, kept, compacted, seated, replayable, takeableAll};
+ghost use Rattle.journal.specs.Journal.{mostRecords, noEdit, blank, own, kept, compacted, seated, replayable, takeableAll};
 
 // All seats share a journal of this many records.
 pub const RECORDS: usize = 256;
@@ -50,7 +50,7 @@ pub fn blank_record() -> Record
 
 // How many of the first `used` records are the seat's.
 pub fn count_of(journal: [Record; RECORDS], used: usize, seat: usize) -> usize
-    requires { ⌜ used ≤ records ⌝ }
+    requires { ⌜ used ≤ mostRecords ⌝ }
     ensures { λ r. ⌜ r ≡ length (own seat (take used journal)) ⌝ }
 {
     let mut count: usize = 0;
@@ -67,7 +67,7 @@ pub fn count_of(journal: [Record; RECORDS], used: usize, seat: usize) -> usize
 
 // The seat's edit that has `later` of its edits after it: with none, the newest of that seat.
 pub fn edit_of(journal: [Record; RECORDS], used: usize, seat: usize, later: usize) -> Edit
-    requires { ⌜ used ≤ records ⌝ }
+    requires { ⌜ used ≤ mostRecords ⌝ }
     ensures { λ r. ⌜ r ≡ getD (reverse (own seat (take used journal))) later noEdit ⌝ }
 {
     let mut left: usize = later;
@@ -88,7 +88,7 @@ pub fn edit_of(journal: [Record; RECORDS], used: usize, seat: usize, later: usiz
 
 // The journal without the seat's records beyond its first `keep`: those behind move up, and blank records follow.
 pub fn compact(journal: [Record; RECORDS], used: usize, seat: usize, keep: usize) -> Compacted
-    requires { ⌜ used ≤ records ⌝ }
+    requires { ⌜ used ≤ mostRecords ⌝ }
     ensures { λ r. ⌜ r ≡ compacted (kept seat keep (take used journal)) ⌝ }
 {
     let b = blank_record();
@@ -118,7 +118,7 @@ pub fn compact(journal: [Record; RECORDS], used: usize, seat: usize, keep: usize
 
 // The journal with its latest record after those in use.
 pub fn append(journal: [Record; RECORDS], used: usize, latest: Record) -> [Record; RECORDS]
-    requires { ⌜ used < records ⌝ }
+    requires { ⌜ used < mostRecords ⌝ }
     ensures { λ r. ⌜ r ≡ set journal used latest ⌝ }
 {
     let mut out = journal;
@@ -128,7 +128,7 @@ pub fn append(journal: [Record; RECORDS], used: usize, latest: Record) -> [Recor
 
 // Whether the seat of every record in use is one of the desk's.
 pub fn all_seated(journal: [Record; RECORDS], used: usize) -> bool
-    requires { ⌜ used ≤ records ⌝ }
+    requires { ⌜ used ≤ mostRecords ⌝ }
     ensures { λ r. ⌜ r ≡ seated (take used journal) ⌝ }
 {
     let mut i: usize = 0;
@@ -151,7 +151,7 @@ pub fn can_redo_all(
     seat: usize,
     standing: usize,
 ) -> bool
-    requires { ⌜ used ≤ records ⌝ }
+    requires { ⌜ used ≤ mostRecords ⌝ }
     ensures { λ r. ⌜ r ≡ replayable pins (drop standing (own seat (take used journal))) ⌝ }
 {
     let mut q = pins;
@@ -186,7 +186,7 @@ pub fn can_take_back_all(
     owned: usize,
     standing: usize,
 ) -> bool
-    requires { ⌜ (used ≤ records) × (owned ≡ length (own seat (take used journal))) × (standing ≤ owned) ⌝ }
+    requires { ⌜ (used ≤ mostRecords) × (owned ≡ length (own seat (take used journal))) × (standing ≤ owned) ⌝ }
     ensures { λ r. ⌜ r ≡ takeableAll pins (reverse (take standing (own seat (take used journal)))) ⌝ }
 {
     let mut q = pins;

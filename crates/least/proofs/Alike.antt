@@ -6,7 +6,7 @@ use native.Mathlib.Nat.{sub-zero}
 use native.Mathlib.Omega.{arith}
 use Rattle.grid.specs.declared.Place.{Place}
 use Rattle.copper.specs.declared.Tally.{Tally}
-use Rattle.least.specs.Asking.{doubledIf, isBent, bentInto, firstTally, nextTally, pinCost, pinOf, weighedFrom, weighedOf, foundTree}
+use Rattle.least.specs.Asking.{doubledIf, isBent, isBentInto, firstTally, nextTally, pinCost, pinBest, weighedFrom, weighedBelow, leastOfTree}
 
 -- Two trees of n runs are told alike.
 pub record Alike (at bt : ℕ → Place) (near neat : ℕ → ℕ) (n : ℕ) : Type 0 where
@@ -60,8 +60,8 @@ module _ (at bt : ℕ → Place) (near neat : ℕ → ℕ) (n : ℕ) (alike : Al
       )
 
   -- What is found for them is the same.
-  pub found-alike : (favoured : Bool) → foundTree at near favoured n ≡ foundTree bt neat favoured n
-  unfolding foundTree pinOf weighedOf firstTally bentInto
+  pub found-alike : (favoured : Bool) → leastOfTree at near favoured n ≡ leastOfTree bt neat favoured n
+  unfolding leastOfTree pinBest weighedBelow firstTally isBentInto
   found-alike favoured =
       let z : n + 0 ≤ n = omega arith in
       rw (sub-zero n)

@@ -19,8 +19,8 @@ use Rattle.copper.specs.declared.Tally.{Tally}
 use Rattle.copper.specs.Shapes.{shapeOf}
 use Rattle.copper.specs.Arms.{reachedBy}
 use Rattle.least.specs.declared.Asked.{Asked}
-use Rattle.least.specs.declared.Found.{Found}
-use Rattle.least.specs.Asking.{placeAt, nearAt, markOf, isBent, bentInto, firstTally, pinOf, runOf, choicesFrom, weighedFrom, weighedOf, askedPin, askedRun, found, sizeFrom, Known, Weighable, Askable}
+use Rattle.least.specs.declared.Least.{Least}
+use Rattle.least.specs.Asking.{placeAt, nearAt, markOf, isBent, isBentInto, firstTally, pinBest, runBest, choicesFrom, weighedFrom, weighedBelow, askedPin, askedRun, leastFrom, sizeFrom, Known, Weighable, Askable}
 use Rattle.least.proofs.Reading.{mark-small}
 use Rattle.least.proofs.Modesty.{modest-first}
 use Rattle.least.proofs.Stepping.{choices-sum, weighed-split, weighed-on, weighed-past, weighed-end, size-on, size-past}
@@ -36,12 +36,12 @@ pub record Collected (xs ys : List ℤ) (near : List ℕ) (favoured : Bool) (n i
   pub to : r ≤ n
   pub small : sizeFrom (nearAt near) (n - r) i r ≤ 31
   pub known : (q : ℕ) → q < r → i ≤ q → nearAt near q ≡ i
-      → (getD lower q 0 ≡ runOf (placeAt xs ys) (nearAt near) favoured n q false) × (getD upper q 0 ≡ runOf (placeAt xs ys) (nearAt near) favoured n q true)
+      → (getD lower q 0 ≡ runBest (placeAt xs ys) (nearAt near) favoured n q false) × (getD upper q 0 ≡ runBest (placeAt xs ys) (nearAt near) favoured n q true)
   pub sum : weighed + weighedFrom (placeAt xs ys) (nearAt near) (n - r) i r 0 ≡ weighedFrom (placeAt xs ys) (nearAt near) (n - i) i i 0
 
 -- Before a straight run it does not matter which shape is asked for.
-one-shape : (at : ℕ → Place) (near : ℕ → ℕ) (i : ℕ) → bentInto at near i ≡ false → firstTally at near i true ≡ firstTally at near i false
-unfolding bentInto firstTally isBent reachedBy shapeOf choose
+one-shape : (at : ℕ → Place) (near : ℕ → ℕ) (i : ℕ) → isBentInto at near i ≡ false → firstTally at near i true ≡ firstTally at near i false
+unfolding isBentInto firstTally isBent reachedBy shapeOf choose
 one-shape at near zero e = refl
 one-shape at near (suc r) e = rw (not-false (isStraight (at (near r)) (at (suc r))) e)
 
@@ -64,10 +64,10 @@ module _ (xs ys : List ℤ) (near : List ℕ) (favoured : Bool) (n i : ℕ) wher
       let q : (n - i) * 2 ^ (n - i) ≤ 31 * 2 ^ 31 = mul-le-mul k p in
       omega (arith, below-most at on (n - i) i i, q)
 
-  few-here : Askable xs ys near n i → (f : Found) (s : Tally) → f ≡ found at on favoured n i i s → f .weighed ≤ 2147483648
-  unfolding found
+  few-here : Askable xs ys near n i → (f : Least) (s : Tally) → f ≡ leastFrom at on favoured n i i s → f .weighed ≤ 2147483648
+  unfolding leastFrom
   few-here a f s g =
-      let c : f .weighed ≡ choicesFrom at on (n - i) i i 1 = ap (λ (z : Found). z .weighed) g in
+      let c : f .weighed ≡ choicesFrom at on (n - i) i i 1 = ap (λ (z : Least). z .weighed) g in
       let k : n - i ≤ 31 = omega (arith, a .tree .few) in
       let p : 2 ^ (n - i) ≤ 2 ^ 31 = pow-mono k in
       omega (arith, c, choices-most at on (n - i) i i, p)
@@ -97,20 +97,20 @@ module _ (xs ys : List ℤ) (near : List ℕ) (favoured : Bool) (n i : ℕ) wher
         }
       where
         go : (q : ℕ) → q < r + 1 → i ≤ q → on q ≡ i → (t : Bool) → eqb q r ≡ t
-            → (getD l q 0 ≡ runOf at on favoured n q false) × (getD u q 0 ≡ runOf at on favoured n q true)
+            → (getD l q 0 ≡ runBest at on favoured n q false) × (getD u q 0 ≡ runBest at on favoured n q true)
         go q b k z true y = absurd (e (ap on (sym (eqb-true q r y)) ∙ z))
         go q b k z false y = let ne : q ≡ r → ⊥ = eqb-false q r y in c .known q (omega (arith, ne)) k z
 
     module _ (h : r < n) (e : on r ≡ i) (a : Asked) (g : a ≡ askedRun at on favoured n r) where
-      lower-is : a .lower ≡ runOf at on favoured n r false
+      lower-is : a .lower ≡ runBest at on favoured n r false
       unfolding askedRun
       lower-is = ap (λ (z : Asked). z .lower) g
 
-      upper-is : a .upper ≡ runOf at on favoured n r true
+      upper-is : a .upper ≡ runBest at on favoured n r true
       unfolding askedRun
       upper-is = ap (λ (z : Asked). z .upper) g
 
-      weighed-is : a .weighed ≡ weighedOf at on n (r + 1)
+      weighed-is : a .weighed ≡ weighedBelow at on n (r + 1)
       unfolding askedRun
       weighed-is = ap (λ (z : Asked). z .weighed) g
 
@@ -131,7 +131,7 @@ module _ (xs ys : List ℤ) (near : List ℕ) (favoured : Bool) (n i : ℕ) wher
           }
         where
           go : (q : ℕ) → q < r + 1 → i ≤ q → on q ≡ i → (t : Bool) → eqb q r ≡ t
-              → (getD (set l r (a .lower)) q 0 ≡ runOf at on favoured n q false) × (getD (set u r (a .upper)) q 0 ≡ runOf at on favoured n q true)
+              → (getD (set l r (a .lower)) q 0 ≡ runBest at on favoured n q false) × (getD (set u r (a .upper)) q 0 ≡ runBest at on favoured n q true)
           go q b k z true y =
               let s : q ≡ r = eqb-true q r y in
               let p : r < length l = omega (arith, c .low-long, room h) in
@@ -157,37 +157,37 @@ module _ (xs ys : List ℤ) (near : List ℕ) (favoured : Bool) (n i : ℕ) wher
             small = c .ask .small;
           }
 
-      module _ (f : Found) (s : Tally) (es : s ≡ firstTally at on i false) (ef : f ≡ found at on favoured n i i s) where
+      module _ (f : Least) (s : Tally) (es : s ≡ firstTally at on i false) (ef : f ≡ leastFrom at on favoured n i i s) where
         pub fits-one : w + f .weighed < 18446744073709551616
         fits-one = omega (arith, at-end, few-below (c .ask), few-here (c .ask) f s ef)
 
         -- A pin that a straight run reached, or none.
-        pub answer-straight : (b : Bool) → b ≡ bentInto at on i → not b ≡ true
+        pub answer-straight : (b : Bool) → b ≡ isBentInto at on i → not b ≡ true
             → record { lower = f .cost; upper = f .cost; weighed = w + f .weighed } ≡ askedPin at on favoured n i
-        unfolding askedPin pinOf weighedOf found
+        unfolding askedPin pinBest weighedBelow leastFrom
         answer-straight b eb no′ =
-            let k : bentInto at on i ≡ false = sym eb ∙ not-true b no′ in
+            let k : isBentInto at on i ≡ false = sym eb ∙ not-true b no′ in
             let z : weighedFrom at on (n - i) i i 1 ≡ w + choicesFrom at on (n - i) i i 1 = omega (arith, weighed-split at on (n - i) i i 1, at-end) in
-            rw (ef, es, doubled-straight (bentInto at on i) k, z, one-shape at on i k)
+            rw (ef, es, doubled-straight (isBentInto at on i) k, z, one-shape at on i k)
 
         -- A pin that a bent run reached.
-        module _ (g : Found) (v : Tally) (ev : v ≡ firstTally at on i true) (eg : g ≡ found at on favoured n i i v) where
+        module _ (g : Least) (v : Tally) (ev : v ≡ firstTally at on i true) (eg : g ≡ leastFrom at on favoured n i i v) where
           pub fits-two : w + f .weighed + g .weighed < 18446744073709551616
           fits-two = omega (arith, at-end, few-below (c .ask), few-here (c .ask) f s ef, few-here (c .ask) g v eg)
 
-          pub answer-bent : (b : Bool) → b ≡ bentInto at on i → not b ≡ false
+          pub answer-bent : (b : Bool) → b ≡ isBentInto at on i → not b ≡ false
               → record { lower = f .cost; upper = g .cost; weighed = w + f .weighed + g .weighed } ≡ askedPin at on favoured n i
-          unfolding askedPin pinOf weighedOf found
+          unfolding askedPin pinBest weighedBelow leastFrom
           answer-bent b eb yes′ =
-              let k : bentInto at on i ≡ true = sym eb ∙ not-false b yes′ in
+              let k : isBentInto at on i ≡ true = sym eb ∙ not-false b yes′ in
               let z : weighedFrom at on (n - i) i i (1 + 1) ≡ w + choicesFrom at on (n - i) i i 1 + choicesFrom at on (n - i) i i 1 =
               omega (arith, weighed-split at on (n - i) i i (1 + 1), choices-sum at on (n - i) i i 1 1, at-end) in
-              rw (ef, es, eg, ev, doubled-bent (bentInto at on i) k, z)
+              rw (ef, es, eg, ev, doubled-bent (isBentInto at on i) k, z)
 
   -- The run that reaches pin i + 1 asks it.
   module _ (a : Askable xs ys near n (i + 1)) (f : Asked) (e : f ≡ askedPin at on favoured n (i + 1)) where
-    pin-most : (v : Bool) → pinOf at on favoured n (i + 1) v ≤ 31 * each + most
-    unfolding pinOf
+    pin-most : (v : Bool) → pinBest at on favoured n (i + 1) v ≤ 31 * each + most
+    unfolding pinBest
     pin-most v =
         omega (
           arith,
@@ -198,16 +198,16 @@ module _ (xs ys : List ℤ) (near : List ℕ) (favoured : Bool) (n i : ℕ) wher
     pub fits-lower : (m : ℕ) → m ≡ markOf favoured i false → m + f .lower < 18446744073709551616
     unfolding askedPin
     fits-lower m em =
-        let z : f .lower ≡ pinOf at on favoured n (i + 1) false = ap (λ (y : Asked). y .lower) e in
+        let z : f .lower ≡ pinBest at on favoured n (i + 1) false = ap (λ (y : Asked). y .lower) e in
         omega (arith, z, pin-most false, mark-small favoured false i)
 
     pub fits-upper : (m : ℕ) → m ≡ markOf favoured i true → m + f .upper < 18446744073709551616
     unfolding askedPin
     fits-upper m em =
-        let z : f .upper ≡ pinOf at on favoured n (i + 1) true = ap (λ (y : Asked). y .upper) e in
+        let z : f .upper ≡ pinBest at on favoured n (i + 1) true = ap (λ (y : Asked). y .upper) e in
         omega (arith, z, pin-most true, mark-small favoured true i)
 
     pub run-answer : (m o : ℕ) → m ≡ markOf favoured i false → o ≡ markOf favoured i true
         → record { lower = m + f .lower; upper = o + f .upper; weighed = f .weighed } ≡ askedRun at on favoured n i
-    unfolding askedRun askedPin runOf
+    unfolding askedRun askedPin runBest
     run-answer m o em eo = rw (em, eo, e)

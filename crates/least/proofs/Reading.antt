@@ -11,7 +11,7 @@ use Rattle.grid.specs.declared.Place.{Place}
 use Rattle.grid.specs.Place.{isStraight}
 use Rattle.copper.specs.declared.Tally.{Tally}
 use Rattle.copper.specs.Arms.{noTally, reachedBy, leadingOn}
-use Rattle.least.specs.Asking.{differs, markOf, isBent, bentInto, firstTally, nextTally}
+use Rattle.least.specs.Asking.{differs, markOf, isBent, isBentInto, firstTally, nextTally}
 
 -- One mark of the mask, as a shifted 1, and its bound.
 pub bit : (r : ℕ) → ((1 * 2 ^ (30 - r)) % 18446744073709551616 ≡ 2 ^ (30 - r)) × (2 ^ (30 - r) ≤ 1073741824)
@@ -48,13 +48,13 @@ module _ (at : ℕ → Place) (near : ℕ → ℕ) where
   unfolding isBent
   bent-is r e p q = rw (e, p, q, add-one r)
 
-  pub into-first : (i : ℕ) → i ≡ 0 → false ≡ bentInto at near i
-  unfolding bentInto
+  pub into-first : (i : ℕ) → i ≡ 0 → false ≡ isBentInto at near i
+  unfolding isBentInto
   into-first zero e = refl
   into-first (suc r) e = absurd (omega arith)
 
-  pub into-later : (i : ℕ) → (i ≡ 0 → ⊥) → isBent at near (i - 1) ≡ bentInto at near i
-  unfolding bentInto
+  pub into-later : (i : ℕ) → (i ≡ 0 → ⊥) → isBent at near (i - 1) ≡ isBentInto at near i
+  unfolding isBentInto
   into-later zero n = absurd (n refl)
   into-later (suc r) n = ap (isBent at near) (let z : suc r - 1 ≡ r = omega arith in z)
 

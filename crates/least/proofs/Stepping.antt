@@ -11,7 +11,7 @@ use Rattle.refusal.specs.Tests.{choose}
 use Rattle.grid.specs.declared.Place.{Place}
 use Rattle.copper.specs.declared.Tally.{Tally}
 use Rattle.copper.specs.Arms.{owed}
-use Rattle.least.specs.Asking.{base, lesserOf, doubledIf, isBent, bentInto, nextTally, pinCost, pinOf, runOf, choicesFrom, weighedFrom, weighedOf, sizeFrom}
+use Rattle.least.specs.Asking.{base, lesserOf, doubledIf, isBent, isBentInto, nextTally, pinCost, pinBest, runBest, choicesFrom, weighedFrom, weighedBelow, sizeFrom}
 
 -- With one more run to come.
 more : (n next : ℕ) → next < n → n - next ≡ suc (n - (next + 1))
@@ -79,8 +79,8 @@ module _ (at : ℕ → Place) (near : ℕ → ℕ) where
       unfolding choicesFrom choose
       choices-on c = rw (more n next l, eq-eqb (near next) i h, add-one next)
 
-      pub weighed-on : weighedFrom at near (n - next) i next 0 ≡ weighedOf at near n (next + 1) + weighedFrom at near (n - (next + 1)) i (next + 1) 0
-      unfolding weighedFrom weighedOf bentInto choose
+      pub weighed-on : weighedFrom at near (n - next) i next 0 ≡ weighedBelow at near n (next + 1) + weighedFrom at near (n - (next + 1)) i (next + 1) 0
+      unfolding weighedFrom weighedBelow isBentInto choose
       weighed-on = rw (more n next l, eq-eqb (near next) i h, add-one next, doubled-none (isBent at near next))
 
       pub size-on : sizeFrom near (n - next) i next ≡ 1 + sizeFrom near (n - (next + 1)) (next + 1) (next + 1) + sizeFrom near (n - (next + 1)) i (next + 1)
@@ -113,9 +113,9 @@ module _ (at : ℕ → Place) (near : ℕ → ℕ) where
       pub cost-on : next < n → near next ≡ i
           → pinCost at near favoured (n - next) i next t
           ≡ lesserOf (isBent at near next)
-          (runOf at near favoured n next false + pinCost at near favoured (n - (next + 1)) i (next + 1) (nextTally at near t next false))
-          (runOf at near favoured n next true + pinCost at near favoured (n - (next + 1)) i (next + 1) (nextTally at near t next true))
-      unfolding pinCost runOf pinOf choose
+          (runBest at near favoured n next false + pinCost at near favoured (n - (next + 1)) i (next + 1) (nextTally at near t next false))
+          (runBest at near favoured n next true + pinCost at near favoured (n - (next + 1)) i (next + 1) (nextTally at near t next true))
+      unfolding pinCost runBest pinBest choose
       cost-on l h = rw (more n next l, eq-eqb (near next) i h, add-one next)
 
       pub cost-past : next < n → (near next ≡ i → ⊥) → pinCost at near favoured (n - next) i next t ≡ pinCost at near favoured (n - (next + 1)) i (next + 1) t

@@ -13,8 +13,8 @@ use Rattle.refusal.specs.Tests.{choose}
 use Rattle.grid.specs.declared.Place.{Place}
 use Rattle.copper.specs.declared.Tally.{Tally}
 use Rattle.copper.specs.Arms.{owed, Fair}
-use Rattle.least.specs.declared.Found.{Found}
-use Rattle.least.specs.Asking.{base, placeAt, nearAt, lesserOf, doubledIf, isBent, firstTally, nextTally, pinCost, pinOf, runOf, choicesFrom, found, sizeFrom, Known, Weighable}
+use Rattle.least.specs.declared.Least.{Least}
+use Rattle.least.specs.Asking.{base, placeAt, nearAt, lesserOf, doubledIf, isBent, firstTally, nextTally, pinCost, pinBest, runBest, choicesFrom, leastFrom, sizeFrom, Known, Weighable}
 use Rattle.least.proofs.Reading.{mark-small}
 use Rattle.least.proofs.Modesty.{modest-fair, modest-owed, modest-first, modest-next}
 use Rattle.least.proofs.Stepping.{choices-sum, choices-on, choices-past, choices-end, size-on, size-past, cost-on, cost-past, cost-end}
@@ -54,8 +54,8 @@ module _ (xs ys : List ℤ) (near lower upper : List ℕ) (favoured : Bool) (n i
   owed-fits = omega (arith, modest-owed (w .modest))
 
   -- No run is left.
-  pub found-end : n ≤ next → (o : ℕ) → o ≡ owed t → record { cost = o * base; weighed = 1 } ≡ found at go-on favoured n i next t
-  unfolding found
+  pub found-end : n ≤ next → (o : ℕ) → o ≡ owed t → record { cost = o * base; weighed = 1 } ≡ leastFrom at go-on favoured n i next t
+  unfolding leastFrom
   found-end l o e = rw (e, cost-end at go-on n i next favoured t l, choices-end at go-on n i next l 1)
 
   known-on : Known at go-on favoured n lower upper i (next + 1)
@@ -67,8 +67,8 @@ module _ (xs ys : List ℤ) (near lower upper : List ℕ) (favoured : Bool) (n i
   asks-past l h =
       record { tree = w .tree; modest = w .modest; known = known-on; small = omega (arith, w .small, size-past at go-on n i next l h) }
 
-  pub found-past : next < n → (go-on next ≡ i → ⊥) → found at go-on favoured n i (next + 1) t ≡ found at go-on favoured n i next t
-  unfolding found
+  pub found-past : next < n → (go-on next ≡ i → ⊥) → leastFrom at go-on favoured n i (next + 1) t ≡ leastFrom at go-on favoured n i next t
+  unfolding leastFrom
   found-past l h = rw (cost-past at go-on n i next favoured t l h, choices-past at go-on n i next l h 1)
 
   -- A run that leads on from this pin.
@@ -82,12 +82,12 @@ module _ (xs ys : List ℤ) (near lower upper : List ℕ) (favoured : Bool) (n i
           small = omega (arith, w .small, size-on at go-on n i next l h);
         }
 
-    asked : (getD lower next 0 ≡ runOf at go-on favoured n next false) × (getD upper next 0 ≡ runOf at go-on favoured n next true)
+    asked : (getD lower next 0 ≡ runBest at go-on favoured n next false) × (getD upper next 0 ≡ runBest at go-on favoured n next true)
     unfolding Known
     asked = w .known next (omega arith) l h
 
-    run-most : (u : Bool) → runOf at go-on favoured n next u ≤ 1073741824 + (sizeFrom go-on (n - (next + 1)) (next + 1) (next + 1) * each + most)
-    unfolding runOf pinOf
+    run-most : (u : Bool) → runBest at go-on favoured n next u ≤ 1073741824 + (sizeFrom go-on (n - (next + 1)) (next + 1) (next + 1) * each + most)
+    unfolding runBest pinBest
     run-most u =
         omega (
           arith,
@@ -97,35 +97,35 @@ module _ (xs ys : List ℤ) (near lower upper : List ℕ) (favoured : Bool) (n i
         )
 
     -- What a shape comes to fits.
-    sum-fits : (u : Bool) (f : Found) (s : Tally) → s ≡ nextTally at go-on t next u → f ≡ found at go-on favoured n i (next + 1) s
-        → runOf at go-on favoured n next u + f .cost < 18446744073709551616
-    unfolding found
+    sum-fits : (u : Bool) (f : Least) (s : Tally) → s ≡ nextTally at go-on t next u → f ≡ leastFrom at go-on favoured n i (next + 1) s
+        → runBest at go-on favoured n next u + f .cost < 18446744073709551616
+    unfolding leastFrom
     sum-fits u f s e g =
-        let c : f .cost ≡ pinCost at go-on favoured (n - (next + 1)) i (next + 1) s = ap (λ (z : Found). z .cost) g in
+        let c : f .cost ≡ pinCost at go-on favoured (n - (next + 1)) i (next + 1) s = ap (λ (z : Least). z .cost) g in
         let m = cost-most at go-on favoured (w .tree .on-board) (n - (next + 1)) i (next + 1) s (asks-on u s e .modest) in
         omega (arith, run-most u, c, m, w .small, size-on at go-on n i next l h)
 
-    pub lower-fits : (f : Found) (s : Tally) → s ≡ nextTally at go-on t next false → f ≡ found at go-on favoured n i (next + 1) s → getD lower next 0 + f .cost < 18446744073709551616
+    pub lower-fits : (f : Least) (s : Tally) → s ≡ nextTally at go-on t next false → f ≡ leastFrom at go-on favoured n i (next + 1) s → getD lower next 0 + f .cost < 18446744073709551616
     lower-fits f s e g = omega (arith, asked .0, sum-fits false f s e g)
 
-    pub upper-fits : (f : Found) (s : Tally) → s ≡ nextTally at go-on t next true → f ≡ found at go-on favoured n i (next + 1) s → getD upper next 0 + f .cost < 18446744073709551616
+    pub upper-fits : (f : Least) (s : Tally) → s ≡ nextTally at go-on t next true → f ≡ leastFrom at go-on favoured n i (next + 1) s → getD upper next 0 + f .cost < 18446744073709551616
     upper-fits f s e g = omega (arith, asked .1, sum-fits true f s e g)
 
-    few-choices : (f : Found) (s : Tally) → f ≡ found at go-on favoured n i (next + 1) s → f .weighed ≤ 2147483648
-    unfolding found
+    few-choices : (f : Least) (s : Tally) → f ≡ leastFrom at go-on favoured n i (next + 1) s → f .weighed ≤ 2147483648
+    unfolding leastFrom
     few-choices f s g =
-        let c : f .weighed ≡ choicesFrom at go-on (n - (next + 1)) i (next + 1) 1 = ap (λ (z : Found). z .weighed) g in
+        let c : f .weighed ≡ choicesFrom at go-on (n - (next + 1)) i (next + 1) 1 = ap (λ (z : Least). z .weighed) g in
         let k : n - (next + 1) ≤ 31 = omega (arith, w .tree .few) in
         let p : 2 ^ (n - (next + 1)) ≤ 2 ^ 31 = pow-mono k in
         omega (arith, c, choices-most at go-on (n - (next + 1)) i (next + 1), p)
 
-    pub weighed-fits : (f g : Found) (s v : Tally) → f ≡ found at go-on favoured n i (next + 1) s → g ≡ found at go-on favoured n i (next + 1) v → f .weighed + g .weighed < 18446744073709551616
+    pub weighed-fits : (f g : Least) (s v : Tally) → f ≡ leastFrom at go-on favoured n i (next + 1) s → g ≡ leastFrom at go-on favoured n i (next + 1) v → f .weighed + g .weighed < 18446744073709551616
     weighed-fits f g s v p q = omega (arith, few-choices f s p, few-choices g v q)
 
     -- A straight run has one shape.
-    pub found-straight : (b : Bool) (f : Found) (s : Tally) → b ≡ isBent at go-on next → not b ≡ true → s ≡ nextTally at go-on t next false → f ≡ found at go-on favoured n i (next + 1) s
-        → record { cost = getD lower next 0 + f .cost; weighed = f .weighed } ≡ found at go-on favoured n i next t
-    unfolding found
+    pub found-straight : (b : Bool) (f : Least) (s : Tally) → b ≡ isBent at go-on next → not b ≡ true → s ≡ nextTally at go-on t next false → f ≡ leastFrom at go-on favoured n i (next + 1) s
+        → record { cost = getD lower next 0 + f .cost; weighed = f .weighed } ≡ leastFrom at go-on favoured n i next t
+    unfolding leastFrom
     found-straight b f s eb off e g =
         rw (
           g,
@@ -138,12 +138,12 @@ module _ (xs ys : List ℤ) (near lower upper : List ℕ) (favoured : Bool) (n i
         )
 
     -- A bent run has two.
-    pub found-bent : (b : Bool) (f g : Found) (s v : Tally) (m : ℕ) → b ≡ isBent at go-on next → not b ≡ false
-        → s ≡ nextTally at go-on t next false → f ≡ found at go-on favoured n i (next + 1) s
-        → v ≡ nextTally at go-on t next true → g ≡ found at go-on favoured n i (next + 1) v
+    pub found-bent : (b : Bool) (f g : Least) (s v : Tally) (m : ℕ) → b ≡ isBent at go-on next → not b ≡ false
+        → s ≡ nextTally at go-on t next false → f ≡ leastFrom at go-on favoured n i (next + 1) s
+        → v ≡ nextTally at go-on t next true → g ≡ leastFrom at go-on favoured n i (next + 1) v
         → m ≡ min (getD lower next 0 + f .cost) (getD upper next 0 + g .cost)
-        → record { cost = m; weighed = f .weighed + g .weighed } ≡ found at go-on favoured n i next t
-    unfolding found
+        → record { cost = m; weighed = f .weighed + g .weighed } ≡ leastFrom at go-on favoured n i next t
+    unfolding leastFrom
     found-bent b f g s v m eb on es ef ev eg em =
         rw (
           em,

@@ -15,7 +15,7 @@ use Rattle.copper.specs.Arms.{owed, noTally}
 use Rattle.copper_laws.proofs.Sums.{sumBelow, sum-same, sum-none}
 use Rattle.copper_laws.proofs.Least.{lesser, best, shown, total, best-least, best-reached}
 use Rattle.copper_laws.proofs.Tallies.{startAt, addAt, bentAt, leastOf}
-use Rattle.least.specs.Asking.{base, nearAt, markOf, lesserOf, doubledIf, isBent, bentInto, firstTally, nextTally, pinCost, pinOf, weighedFrom, weighedOf, sizeFrom, Grown, Askable}
+use Rattle.least.specs.Asking.{base, nearAt, markOf, lesserOf, doubledIf, isBent, isBentInto, firstTally, nextTally, pinCost, pinBest, weighedFrom, weighedBelow, sizeFrom, Grown, Askable}
 
 choose-cond : (t : Bool) (x y : ℕ) → choose t x y ≡ cond t x y
 unfolding choose
@@ -72,23 +72,23 @@ module _ (at : ℕ → Place) (near : ℕ → ℕ) where
       same true false x y z = unfold choose lesserOf in refl
       same false b x y z = unfold choose in refl
 
-  pub tree-cost : (favoured : Bool) (n : ℕ) → pinOf at near favoured n 0 false ≡ leastOf at near base (markOf favoured) n
-  unfolding pinOf leastOf firstTally
+  pub tree-cost : (favoured : Bool) (n : ℕ) → pinBest at near favoured n 0 false ≡ leastOf at near base (markOf favoured) n
+  unfolding pinBest leastOf firstTally
   tree-cost favoured n = rw (sub-zero n) (cost-is favoured n 0 0 noTally)
 
   -- The choices weighed at pin i of m runs: one, doubled for each bent run that reaches it or leads on from it.
   unfoldable pub weighedAt : ℕ → ℕ → ℕ
-  weighedAt zero i = doubledIf (bentInto at near i) 1
+  weighedAt zero i = doubledIf (isBentInto at near i) 1
   weighedAt (suc m) i = cond (eqb (near m) i) (doubledIf (isBent at near m) (weighedAt m i)) (weighedAt m i)
 
   abbrev firstCount : ℕ → Bool → ℕ
-  firstCount i u = doubledIf (bentInto at near i) 1
+  firstCount i u = doubledIf (isBentInto at near i) 1
 
   abbrev nextCount : ℕ → ℕ → Bool → ℕ
   nextCount a r u = doubledIf (isBent at near r) a
 
   weighed-is : (k i next c : ℕ) → weighedFrom at near k i next c ≡ best ℕ firstCount nextCount (λ a. a) near (λ r. false) (λ r u. 0) k i next c
-  unfolding weighedFrom best bentInto
+  unfolding weighedFrom best isBentInto
   weighed-is zero i next c = refl
   weighed-is (suc k) i next c =
       rw (weighed-is k (suc next) (suc next) (firstCount (suc next) false), weighed-is k i (suc next) (nextCount c next false), weighed-is k i (suc next) c)
@@ -104,8 +104,8 @@ module _ (at : ℕ → Place) (near : ℕ → ℕ) where
   shown-is (suc m) s i = rw (shown-is m s i)
 
   -- Choices weighed is a sum over pins.
-  pub tree-weighed : (n : ℕ) → ((r : ℕ) → r < n → near r ≤ r) → weighedOf at near n 0 ≡ sumBelow (suc n) (weighedAt n)
-  unfolding weighedOf total
+  pub tree-weighed : (n : ℕ) → ((r : ℕ) → r < n → near r ≤ r) → weighedBelow at near n 0 ≡ sumBelow (suc n) (weighedAt n)
+  unfolding weighedBelow total
   tree-weighed n grown =
       let z = best-reached ℕ firstCount nextCount (λ a. a) near (λ r. false) (λ r u. 0) n grown in
       let e : weighedFrom at near (n - 0) 0 0 (firstCount 0 false) ≡ weighedFrom at near n 0 0 (firstCount 0 false) = ap (λ (k : ℕ). weighedFrom at near k 0 0 (firstCount 0 false)) (sub-zero n) in

@@ -14,7 +14,7 @@ use Rattle.grid.specs.Place.{inside, isStraight}
 use Rattle.copper.specs.declared.Tally.{Tally}
 use Rattle.copper.specs.Arms.{noTally, reachedBy, leadingOn, owed, spread}
 use Rattle.least.specs.declared.Asked.{Asked}
-use Rattle.least.specs.declared.Found.{Found}
+use Rattle.least.specs.declared.Least.{Least}
 
 -- One more than any mask of 31 shapes.
 abbrev pub base : ℕ
@@ -51,9 +51,9 @@ module _ (at : ℕ → Place) (near : ℕ → ℕ) where
   isBent r = not (isStraight (at (near r)) (at (suc r)))
 
   -- The run that reached a pin is bent; no run reached the first.
-  unfoldable pub bentInto : ℕ → Bool
-  bentInto zero = false
-  bentInto (suc r) = isBent r
+  unfoldable pub isBentInto : ℕ → Bool
+  isBentInto zero = false
+  isBentInto (suc r) = isBent r
 
   -- What a pin shows before any run leads on, where the run that reached it has this shape.
   unfoldable pub firstTally : ℕ → Bool → Tally
@@ -76,12 +76,12 @@ module _ (at : ℕ → Place) (near : ℕ → ℕ) where
         (pinCost k i (suc next) tally)
 
     -- What pin i costs of n runs, where the run that reached it has this shape.
-    unfoldable pub pinOf : ℕ → ℕ → Bool → ℕ
-    pinOf n i upper = pinCost (n - i) i i (firstTally i upper)
+    unfoldable pub pinBest : ℕ → ℕ → Bool → ℕ
+    pinBest n i upper = pinCost (n - i) i i (firstTally i upper)
 
     -- What run r costs in this shape: its mark, and what the pin at its far end costs.
-    unfoldable pub runOf : ℕ → ℕ → Bool → ℕ
-    runOf n r upper = markOf favoured r upper + pinOf n (r + 1) upper
+    unfoldable pub runBest : ℕ → ℕ → Bool → ℕ
+    runBest n r upper = markOf favoured r upper + pinBest n (r + 1) upper
 
   -- The choices that are weighed at pin i, where c of them come to it and the k runs from `next` on lead on from it or not.
   unfoldable pub choicesFrom : ℕ → ℕ → ℕ → ℕ → ℕ
@@ -97,24 +97,24 @@ module _ (at : ℕ → Place) (near : ℕ → ℕ) where
       (weighedFrom k i (suc next) c)
 
   -- The same of n runs.
-  unfoldable pub weighedOf : ℕ → ℕ → ℕ
-  weighedOf n i = weighedFrom (n - i) i i (doubledIf (bentInto i) 1)
+  unfoldable pub weighedBelow : ℕ → ℕ → ℕ
+  weighedBelow n i = weighedFrom (n - i) i i (doubledIf (isBentInto i) 1)
 
   -- What the pin's function answers: the least cost for either shape of the run that reached it, and the choices weighed.
   unfoldable pub askedPin : Bool → ℕ → ℕ → Asked
-  askedPin favoured n i = record { lower = pinOf favoured n i false; upper = pinOf favoured n i true; weighed = weighedOf n i }
+  askedPin favoured n i = record { lower = pinBest favoured n i false; upper = pinBest favoured n i true; weighed = weighedBelow n i }
 
   -- What the run's function answers.
   unfoldable pub askedRun : Bool → ℕ → ℕ → Asked
-  askedRun favoured n r = record { lower = runOf favoured n r false; upper = runOf favoured n r true; weighed = weighedOf n (r + 1) }
+  askedRun favoured n r = record { lower = runBest favoured n r false; upper = runBest favoured n r true; weighed = weighedBelow n (r + 1) }
 
   -- What is found when the runs from `next` on are weighed.
-  unfoldable pub found : Bool → ℕ → ℕ → ℕ → Tally → Found
-  found favoured n i next tally = record { cost = pinCost favoured (n - next) i next tally; weighed = choicesFrom (n - next) i next 1 }
+  unfoldable pub leastFrom : Bool → ℕ → ℕ → ℕ → Tally → Least
+  leastFrom favoured n i next tally = record { cost = pinCost favoured (n - next) i next tally; weighed = choicesFrom (n - next) i next 1 }
 
   -- What is found for a whole tree of n runs.
-  unfoldable pub foundTree : Bool → ℕ → Found
-  foundTree favoured n = record { cost = pinOf favoured n 0 false; weighed = weighedOf n 0 }
+  unfoldable pub leastOfTree : Bool → ℕ → Least
+  leastOfTree favoured n = record { cost = pinBest favoured n 0 false; weighed = weighedBelow n 0 }
 
 -- How many runs lead on from pin i and from the pins below it, among the k from `next` on.
 unfoldable pub sizeFrom : (ℕ → ℕ) → ℕ → ℕ → ℕ → ℕ
@@ -140,7 +140,7 @@ pub record Grown (xs ys : List ℤ) (near : List ℕ) (n : ℕ) : Type 0 where
 unfoldable pub Known : (ℕ → Place) → (ℕ → ℕ) → Bool → ℕ → List ℕ → List ℕ → ℕ → ℕ → Type 0
 Known at near favoured n lower upper i next =
     (r : ℕ) → next ≤ r → r < n → near r ≡ i
-    → (getD lower r 0 ≡ runOf at near favoured n r false) × (getD upper r 0 ≡ runOf at near favoured n r true)
+    → (getD lower r 0 ≡ runBest at near favoured n r false) × (getD upper r 0 ≡ runBest at near favoured n r true)
 
 -- What weighing a pin asks for.
 pub record Weighable (xs ys : List ℤ) (near lower upper : List ℕ) (favoured : Bool) (n i next : ℕ) (tally : Tally) : Type 0 where

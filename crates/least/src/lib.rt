@@ -4,7 +4,7 @@ use copper::Tally;
 use grid::Place;
 ghost use mathlib.Core.Path.{_≡_};
 ghost use Prim.Native.Nat.{_+_, _-_, _<_, min};
-ghost use Rattle.least.specs.Asking.{placeAt, nearAt, markOf, isBent, bentInto, firstTally, nextTally, askedPin, askedRun, found, foundTree, Grown, Weighable, Askable};
+ghost use Rattle.least.specs.Asking.{placeAt, nearAt, markOf, isBent, isBentInto, firstTally, nextTally, askedPin, askedRun, leastFrom, leastOfTree, Grown, Weighable, Askable};
 
 // One more than any mask of 31 shapes.
 pub const BASE: u64 = 2147483648;
@@ -17,7 +17,7 @@ pub struct Asked {
 }
 
 // What is found at a pin: the least cost, and the choices that were weighed there.
-pub struct Found {
+pub struct Least {
     pub cost: u64,
     pub weighed: u64,
 }
@@ -46,7 +46,7 @@ fn is_bent(xs: &[i32; 32], ys: &[i32; 32], near: &[usize; 31], run: usize) -> bo
 // Whether the run that reached a pin is bent.
 fn is_bent_into(xs: &[i32; 32], ys: &[i32; 32], near: &[usize; 31], pin: usize) -> bool
     requires { ⌜ (pin < 32) × ((pin ≡ 0 → ⊥) → nearAt (now near) (pin - 1) < 32) ⌝ }
-    ensures { λ r. ⌜ r ≡ bentInto (placeAt (now (xs .entry)) (now (ys .entry))) (nearAt (now (near .entry))) pin ⌝ }
+    ensures { λ r. ⌜ r ≡ isBentInto (placeAt (now (xs .entry)) (now (ys .entry))) (nearAt (now (near .entry))) pin ⌝ }
 {
     if pin == 0 {
         return false;
@@ -114,13 +114,13 @@ fn weigh(
     pin: usize,
     run: usize,
     tally: Tally,
-) -> Found
+) -> Least
     requires { ⌜ Weighable (now xs) (now ys) (now near) (now lower) (now upper) favoured count pin run tally ⌝ }
-    ensures { λ r. ⌜ r ≡ found (placeAt (now (xs .entry)) (now (ys .entry))) (nearAt (now (near .entry))) favoured count pin run tally ⌝ }
+    ensures { λ r. ⌜ r ≡ leastFrom (placeAt (now (xs .entry)) (now (ys .entry))) (nearAt (now (near .entry))) favoured count pin run tally ⌝ }
 {
     if count <= run {
         let owed = copper::owed_by(tally);
-        return Found {
+        return Least {
             cost: owed * BASE,
             weighed: 1,
         };
@@ -154,7 +154,7 @@ fn weigh(
     );
     let first = lower[run] + below.cost;
     if !is_bent(xs, ys, near, run) {
-        return Found {
+        return Least {
             cost: first,
             weighed: below.weighed,
         };
@@ -173,7 +173,7 @@ fn weigh(
         high,
     );
     let second = upper[run] + above.cost;
-    Found {
+    Least {
         cost: lesser(first, second),
         weighed: below.weighed + above.weighed,
     }
@@ -263,12 +263,12 @@ pub fn least_cost(
     near: &[usize; 31],
     favoured: bool,
     count: usize,
-) -> Found
+) -> Least
     requires { ⌜ Grown (now xs) (now ys) (now near) count ⌝ }
-    ensures { λ r. ⌜ r ≡ foundTree (placeAt (now (xs .entry)) (now (ys .entry))) (nearAt (now (near .entry))) favoured count ⌝ }
+    ensures { λ r. ⌜ r ≡ leastOfTree (placeAt (now (xs .entry)) (now (ys .entry))) (nearAt (now (near .entry))) favoured count ⌝ }
 {
     let asked = pin_best(xs, ys, near, favoured, count, 0);
-    Found {
+    Least {
         cost: asked.lower,
         weighed: asked.weighed,
     }

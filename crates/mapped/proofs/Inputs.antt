@@ -13,7 +13,8 @@ use borrow.Author.Tests.{lt-ltb, eqb-true}
 use Rattle.refusal.specs.Tests.{both, either, choose}
 use Rattle.refusal.specs.Refusals.{accepted, turn}
 use Rattle.refusal.specs.declared.Verdict.the-variants.{JobZero, MapLength}
-use Rattle.drawing.specs.Pins.{meets, meetsAny, within, settled, allWithin, allApart, lawful, spotOf, feedOf}
+use Rattle.feed.specs.Feeds.{meets, meetsAny, within, settled, allWithin, allApart}
+use Rattle.drawing.specs.Pins.{lawful, spotOf, feedOf}
 use Rattle.tree.specs.Growth.{keptIf, pinsFrom, pinsOf}
 use Rattle.wiring.specs.Answer.{turnedAway, wiringVerdict, wiringWith, wiringFavouring, wiringOf}
 use Rattle.journal.specs.Journal.{own, filled, seated, inTurn}
@@ -24,52 +25,52 @@ use Rattle.script.specs.Text.{text}
 use Rattle.script.specs.Answers.{shown, carriedText, toldLine, verdictLine}
 use Rattle.script.proofs.Steps.{order}
 use Rattle.shown.specs.Shown.{mapText}
-use Rattle.mapped.specs.Mapped.{mostRead, jobIn, openedWith, wiredWith, mapAnswer}
+use Rattle.mapped.specs.Mapped.{mostRead, jobOfMap, openedWith, wiredWith, mapAnswer}
 use Rattle.mapped.proofs.Opening.{opened, printed-refused}
 
 -- Empty input is a drawing without pins: nothing to wire.
 pub empty-input : mapAnswer [] ≡ text "refused 17\n"
-unfolding jobIn openedWith wiredWith mapAnswer mapText toldLine carriedText shown wiredOf step effect answerOf verdictOf turnedOpening turnedClosing jobAmong sameJob sound soundTo soundSeat soundOpen soundClosed jobsApart jobOf emptyDesk readMap wrongLength readFrom noPins own filled seated inTurn meets meetsAny within settled allWithin allApart lawful spotOf feedOf wiringOf wiringFavouring wiringWith wiringVerdict turnedAway pinsOf pinsFrom keptIf accepted turn both either choose
+unfolding jobOfMap openedWith wiredWith mapAnswer mapText toldLine carriedText shown wiredOf step effect answerOf verdictOf turnedOpening turnedClosing jobAmong sameJob sound soundTo soundSeat soundOpen soundClosed jobsApart jobOf emptyDesk readMap wrongLength readFrom noPins own filled seated inTurn meets meetsAny within settled allWithin allApart lawful spotOf feedOf wiringOf wiringFavouring wiringWith wiringVerdict turnedAway pinsOf pinsFrom keptIf accepted turn both either choose
 empty-input = refl
 
 -- A single byte is 13.
 pub single-byte : (b : ℕ) → mapAnswer (b ∷ []) ≡ text "refused 13\n"
-unfolding jobIn readMap wrongLength accepted turn either choose toldLine carriedText shown
+unfolding jobOfMap readMap wrongLength accepted turn either choose toldLine carriedText shown
 single-byte b = printed-refused (b ∷ []) {v = MapLength} (opened (b ∷ [])) refl
 
 -- Job 0 is 4, whatever follows.
-job-zero : (input : List ℕ) → jobIn input ≡ 0 → mapAnswer input ≡ verdictLine JobZero
+job-zero : (input : List ℕ) → jobOfMap input ≡ 0 → mapAnswer input ≡ verdictLine JobZero
 unfolding turn choose accepted
 job-zero input e = printed-refused input {v = JobZero} (opened input ∙ rw e) refl
 
 -- Two bytes of zero at the front give 4 at any length from two up, before 13.
 pub two-zeros : (rest : List ℕ) → mapAnswer (0 ∷ 0 ∷ rest) ≡ text "refused 4\n"
-unfolding jobIn toldLine carriedText shown choose
+unfolding jobOfMap toldLine carriedText shown choose
 two-zeros rest = job-zero (0 ∷ 0 ∷ rest) refl
 
 -- Under any other job more than 384 bytes are 13.
-too-long : (input : List ℕ) → eqb (jobIn input) 0 ≡ false → mostBytes < length input → mapAnswer input ≡ verdictLine MapLength
+too-long : (input : List ℕ) → eqb (jobOfMap input) 0 ≡ false → mostBytes < length input → mapAnswer input ≡ verdictLine MapLength
 unfolding turn choose either accepted wrongLength readMap
 too-long input e h = printed-refused input {v = MapLength} (opened input ∙ rw (e, lt-ltb mostBytes (length input) h)) refl
 
-pub above-384 : (input : List ℕ) → eqb (jobIn input) 0 ≡ false → mostBytes < length input → mapAnswer input ≡ text "refused 13\n"
+pub above-384 : (input : List ℕ) → eqb (jobOfMap input) 0 ≡ false → mostBytes < length input → mapAnswer input ≡ text "refused 13\n"
 unfolding toldLine carriedText shown choose
 above-384 input e h = too-long input e h
 
 -- The job is read from what is kept.
-job-kept : (input : List ℕ) → jobIn (take mostRead input) ≡ jobIn input
-unfolding jobIn
+job-kept : (input : List ℕ) → jobOfMap (take mostRead input) ≡ jobOfMap input
+unfolding jobOfMap
 job-kept [] = refl
 job-kept (b ∷ []) = refl
 job-kept (b ∷ c ∷ rest) = refl
 
 -- Input that is longer is answered as what is kept of it.
 longer : (input : List ℕ) → mostRead < length input → mapAnswer (take mostRead input) ≡ mapAnswer input
-longer input h = by (eqb (jobIn input) 0) refl
+longer input h = by (eqb (jobOfMap input) 0) refl
   where
-    by : (t : Bool) → eqb (jobIn input) 0 ≡ t → mapAnswer (take mostRead input) ≡ mapAnswer input
+    by : (t : Bool) → eqb (jobOfMap input) 0 ≡ t → mapAnswer (take mostRead input) ≡ mapAnswer input
     by true e =
-        let z : jobIn input ≡ 0 = eqb-true (jobIn input) 0 e in
+        let z : jobOfMap input ≡ 0 = eqb-true (jobOfMap input) 0 e in
         job-zero (take mostRead input) (job-kept input ∙ z) ∙ sym (job-zero input z)
     by false e =
         too-long (take mostRead input) (ap (λ (j : ℕ). eqb j 0) (job-kept input) ∙ e) (omega (arith, length-take-le mostRead input (omega arith)))

@@ -4,16 +4,16 @@ use mathlib.Core.List.{List, [], _∷_}
 use Prim.Native.Nat.{ℕ, _+_, _*_, _≤_, _<_}
 use native.Mathlib.Omega.{arith}
 use lib.ListN.{length, getD}
-use Rattle.mapped.specs.Mapped.{jobIn}
+use Rattle.mapped.specs.Mapped.{jobOfMap}
 
-pub job-short : (map : List ℕ) → length map < 2 → 1 ≡ jobIn map
-unfolding jobIn
+pub job-short : (map : List ℕ) → length map < 2 → 1 ≡ jobOfMap map
+unfolding jobOfMap
 job-short [] h = refl
 job-short (b ∷ []) h = refl
 job-short (b ∷ c ∷ rest) h = absurd (omega arith)
 
-pub job-long : (map : List ℕ) → 2 ≤ length map → getD map 0 0 * 256 + getD map 1 0 ≡ jobIn map
-unfolding jobIn
+pub job-long : (map : List ℕ) → 2 ≤ length map → getD map 0 0 * 256 + getD map 1 0 ≡ jobOfMap map
+unfolding jobOfMap
 job-long [] h = absurd (omega arith)
 job-long (b ∷ []) h = absurd (omega arith)
 job-long (b ∷ c ∷ rest) h = refl

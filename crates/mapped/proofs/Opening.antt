@@ -20,7 +20,7 @@ use Rattle.desk.specs.Desk.{jobOf, jobsApart, soundClosed, soundSeat, soundTo, 
 use Rattle.script.specs.Text.{over, room}
 use Rattle.script.specs.Answers.{verdictLine}
 use Rattle.shown.specs.Shown.{mapText}
-use Rattle.mapped.specs.Mapped.{jobIn, mostLegs, openedWith, wiredWith, mapAnswer}
+use Rattle.mapped.specs.Mapped.{jobOfMap, mostLegs, openedWith, wiredWith, mapAnswer}
 
 -- Opening a map at seat 0 of the empty desk: 4, then as the map is read.
 opens : (job : ℕ) (map : List ℕ) → answerOf emptyDesk (opening 0 job map) ≡ turn (eqb job 0) JobZero (readMap map job .verdict)
@@ -31,21 +31,21 @@ opens job map = by (eqb job 0) refl
     by true e = rw e
     by false e = rw e
 
-pub opened : (map : List ℕ) → openedWith map .verdict ≡ turn (eqb (jobIn map) 0) JobZero (readMap map (jobIn map) .verdict)
+pub opened : (map : List ℕ) → openedWith map .verdict ≡ turn (eqb (jobOfMap map) 0) JobZero (readMap map (jobOfMap map) .verdict)
 unfolding openedWith step
-opened map = opens (jobIn map) map
+opened map = opens (jobOfMap map) map
 
 -- What is printed where the opening is refused, and where it is accepted.
 pub printed-refused : (map : List ℕ) {v : Verdict} → openedWith map .verdict ≡ v → accepted v ≡ false → mapAnswer map ≡ verdictLine v
 unfolding mapAnswer choose
 printed-refused map e n = rw (e, n)
 
-printed-wired : (map : List ℕ) → accepted (openedWith map .verdict) ≡ true → mapAnswer map ≡ mapText (jobIn map) (wiredWith map)
+printed-wired : (map : List ℕ) → accepted (openedWith map .verdict) ≡ true → mapAnswer map ≡ mapText (jobOfMap map) (wiredWith map)
 unfolding mapAnswer choose
 printed-wired map e = rw e
 
 -- What the calls of the program hand back, from the job and the empty desk on.
-module _ (map : List ℕ) {job : ℕ} {d : Desk} {a : Answered} (j : job ≡ jobIn map) (n : d ≡ emptyDesk) (o : a ≡ step d (opening 0 job map)) where
+module _ (map : List ℕ) {job : ℕ} {d : Desk} {a : Answered} (j : job ≡ jobOfMap map) (n : d ≡ emptyDesk) (o : a ≡ step d (opening 0 job map)) where
   open-so : a ≡ openedWith map
   unfolding openedWith
   open-so = o ∙ rw (j, n)

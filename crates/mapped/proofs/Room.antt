@@ -6,29 +6,27 @@ use Prim.Native.Nat.{ℕ, _≤_}
 use native.Mathlib.Omega.{arith}
 use lib.Dec.{leb, ltb}
 use lib.ListN.{length}
-use borrow.Author.Tests.{le-ltb, leb-false, not-false}
+use borrow.Author.Tests.{le-ltb}
 use Rattle.refusal.specs.Tests.{choose}
 use Rattle.refusal.specs.Refusals.{accepted, turn}
-use Rattle.refusal.proofs.Rows.{passed}
 use Rattle.refusal.specs.declared.Verdict.{Verdict}
 use Rattle.refusal.specs.declared.Verdict.the-variants.{Accepted, SeatAbove, NotOpen, NoPins, BoxesMeet, RoomTooSmall, DeskBroken}
-use Rattle.grid.specs.declared.Spot.{Spot}
+use Rattle.feed.specs.declared.Spot.{Spot}
 use Rattle.tree.specs.declared.Run.{Run}
 use Rattle.tree.specs.Growth.{pinsOf, runsOf}
 use Rattle.tree.specs.Boxes.{boxesMeet}
 use Rattle.tree.specs.Trees.{none}
 use Rattle.copper.specs.declared.Shape.{Shape}
 use Rattle.drawing.specs.Pins.{feedOf}
-use Rattle.drawing.proofs.Rules.{feed-long}
 use Rattle.wiring.specs.declared.Laid.{Laid}
 use Rattle.wiring.specs.Choices.{legsOfChoice, bestChoice}
 use Rattle.wiring.specs.Answer.{laidWith, turnedAway, answerWith, wiringVerdict, wiringWith, wiringFavouring, wiringOf}
 use Rattle.lent.proofs.Fitting.{wiring-fits}
-use Rattle.journal.specs.Journal.{seats}
+use Rattle.journal.specs.Journal.{mostSeats}
 use Rattle.desk.specs.declared.Desk.{Desk}
 use Rattle.desk.specs.Refusals.{turnedClosing}
 use Rattle.desk.specs.Desk.{seatOf, lookAt, sound, wiredOf}
-use Rattle.desk.proofs.Sound.{pins-lawful}
+use Rattle.desk.proofs.Sound.{feed-whole}
 use Rattle.mapped.specs.Mapped.{mostLegs, openedWith, wiredWith}
 
 -- The rows before 17 are not 19.
@@ -64,15 +62,6 @@ module _ (feed : List Spot) (runs : List Run) (shapes : List Shape) (room : ℕ)
   unfolding wiringWith wiringVerdict
   wiring-else = wiring-by (none (pinsOf feed)) (boxesMeet feed runs)
 
--- Where 28, 1 and 2 pass, the seat's feed has 32 spots.
-feed-whole : (d : Desk) (s : ℕ) → accepted (turnedClosing (lookAt d s)) ≡ true → length (feedOf (seatOf d s .pins)) ≡ 32
-unfolding turnedClosing accepted
-feed-whole d s e =
-    let p = passed (not (sound d)) DeskBroken _ refl e in
-    let q = passed (leb seats s) SeatAbove _ refl (p .1) in
-    let r = passed (not (seatOf d s .opened)) NotOpen _ refl (q .1) in
-    feed-long _ (pins-lawful d (not-false _ (p .0)) s (leb-false seats s (q .0)) (not-false _ (r .0)))
-
 -- A feed of 32 spots is not refused for its room.
 feed-else : (feed : List Spot) → length feed ≡ 32 → wiringOf feed mostLegs .wiring .verdict ≡ RoomTooSmall → ⊥
 unfolding wiringOf wiringFavouring
@@ -89,7 +78,7 @@ seat-else d s = by (accepted (turnedClosing (lookAt d s))) refl
     by : (t : Bool) → accepted (turnedClosing (lookAt d s)) ≡ t
         → choose t (wiringOf (feedOf (seatOf d s .pins)) mostLegs) (turnedAway (turnedClosing (lookAt d s))) .wiring .verdict ≡ RoomTooSmall → ⊥
     by true e = feed-else (feedOf (seatOf d s .pins)) (feed-whole d s e)
-    by false e = closing-else (not (sound d)) (leb seats s) (not (seatOf d s .opened))
+    by false e = closing-else (not (sound d)) (leb mostSeats s) (not (seatOf d s .opened))
 
 -- THE ROOM IS ENOUGH FOR ANY MAP.
 pub never-nineteen : (map : List ℕ) → wiredWith map .verdict ≡ RoomTooSmall → ⊥

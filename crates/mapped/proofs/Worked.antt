@@ -8,8 +8,9 @@ use Rattle.refusal.specs.declared.Verdict.the-variants.{OtherJob, FaultyRecord}
 use Rattle.grid.specs.Number.{numberAt}
 use Rattle.grid.specs.Place.{difference, larger, sameNumber, samePlace, onBoard, inside, closer, tooNear, isStraight}
 use Rattle.grid.specs.Weight.{distanceOf, weightOf, pairOf, byPart, byNumber, comesBefore}
-use Rattle.drawing.specs.Pins.{isThere, meets, meetsAny, crowded, within, settled, allWithin, allApart, lawful, spotOf, feedOf}
-use Rattle.tree.specs.Growth.{pairAt, sooner, keptIf, pinsFrom, without, runsFrom, between, earliest, earliestOf, next, grown, runsAmong, pinsOf, runsOf}
+use Rattle.feed.specs.Feeds.{meets, meetsAny, crowded, within, settled, allWithin, allApart, meetsOther}
+use Rattle.drawing.specs.Pins.{isThere, lawful, spotOf, feedOf}
+use Rattle.tree.specs.Growth.{pairAt, sooner, keptIf, pinsFrom, without, runsFrom, runsBetween, earliest, earliestOf, nextRun, grown, runsAmong, pinsOf, runsOf}
 use Rattle.tree.specs.Boxes.{belowBoth, under, overlap, boxesShare, isEnd, common, clash, clashAny, boxesMeet}
 use Rattle.tree.specs.Bends.{bent, howMany}
 use Rattle.copper.specs.Shapes.{lowerCorner, upperCorner, legsOf}
@@ -18,18 +19,18 @@ use Rattle.wiring.specs.Choices.{bentShapes, shapesOf, withShape, withShapes, c
 use Rattle.wiring.specs.Answer.{shapedRuns, runEntries, legEntries, laidWith, turnedAway, answerWith, wiringVerdict, wiringWith, wiringFavouring, wiringOf}
 use Rattle.journal.specs.Journal.{own, filled, seated, inTurn}
 use Rattle.pinmap.specs.Record.{recordOf, judged}
-use Rattle.pinmap.specs.Map.{noPins, withRecord, readFrom, wrongLength, readMap}
+use Rattle.pinmap.specs.Map.{noPins, withPinOf, readFrom, wrongLength, readMap}
 use Rattle.desk.specs.Refusals.{sameJob, jobAmong, turnedOpening, turnedClosing, verdictOf}
 use Rattle.desk.specs.Desk.{jobOf, jobsApart, soundOpen, soundClosed, soundSeat, soundTo, sound, effect, answerOf, step, emptyDesk, wiredOf}
 use Rattle.script.specs.Text.{text}
 use Rattle.script.specs.Answers.{shown, carriedText, toldLine, jobLine, runLine}
-use Rattle.shown.specs.Shown.{shapedLine, linesOf, jobText, mapText}
-use Rattle.mapped.specs.Mapped.{jobIn, openedWith, wiredWith, mapAnswer}
+use Rattle.shown.specs.Shown.{shapedLine, lineForEach, jobText, mapText}
+use Rattle.mapped.specs.Mapped.{jobOfMap, openedWith, wiredWith, mapAnswer}
 use Rattle.mapped.proofs.Opening.{opened, printed-refused}
 
 -- The job of no byte, of one byte, of two, and of more.
-jobs : map jobIn ([] ∷ (7 ∷ []) ∷ (0 ∷ []) ∷ (0 ∷ 0 ∷ []) ∷ (1 ∷ 2 ∷ []) ∷ (255 ∷ 255 ∷ 0 ∷ []) ∷ []) ≡ 1 ∷ 1 ∷ 1 ∷ 0 ∷ 258 ∷ 65535 ∷ []
-unfolding jobIn
+jobs : map jobOfMap ([] ∷ (7 ∷ []) ∷ (0 ∷ []) ∷ (0 ∷ 0 ∷ []) ∷ (1 ∷ 2 ∷ []) ∷ (255 ∷ 255 ∷ 0 ∷ []) ∷ []) ≡ 1 ∷ 1 ∷ 1 ∷ 0 ∷ 258 ∷ 65535 ∷ []
+unfolding jobOfMap
 jobs = refl
 
 -- A record of job 7: its pin, and the last byte of its x; y follows.
@@ -42,7 +43,7 @@ W3 = placed 0 0 (0 ∷ 0 ∷ 0 ∷ 0 ∷ []) ++ placed 1 4 (0 ∷ 0 ∷ 0 ∷ 2 
 
 -- For W3 exactly these three lines are printed.
 W3-holds : mapAnswer W3 ≡ text "job 7 length 8 runs 2 weighed 5\n0 1 lower\n1 2 straight\n"
-unfolding jobIn openedWith wiredWith mapAnswer mapText jobText linesOf shapedLine runLine jobLine shown wiredOf step effect answerOf verdictOf turnedOpening turnedClosing jobAmong sameJob sound soundTo soundSeat soundOpen soundClosed jobsApart jobOf emptyDesk readMap wrongLength readFrom recordOf numberAt judged withRecord noPins own filled seated inTurn isThere meets meetsAny crowded within settled allWithin allApart lawful spotOf feedOf wiringOf wiringFavouring wiringWith wiringVerdict answerWith turnedAway laidWith legEntries runEntries shapedRuns weighedOf weighedAt howMany bent bestChoice shortestOf shortest lengthOfChoice legsOfChoice choicesOf withShapes withShape shapesOf bentShapes lengthOf different among stepsOfAll stepsOf smaller stepsUp stepsAcross sameStep legsOf lowerCorner upperCorner isStraight boxesMeet clashAny clash common isEnd boxesShare overlap under belowBoth runsOf pinsOf runsAmong grown next earliestOf earliest between runsFrom without pinsFrom keptIf sooner pairAt comesBefore byPart byNumber pairOf weightOf distanceOf difference larger sameNumber samePlace onBoard inside closer tooNear accepted turn both either choose
+unfolding jobOfMap openedWith wiredWith mapAnswer mapText jobText lineForEach shapedLine runLine jobLine shown wiredOf step effect answerOf verdictOf turnedOpening turnedClosing jobAmong sameJob sound soundTo soundSeat soundOpen soundClosed jobsApart jobOf emptyDesk readMap wrongLength readFrom recordOf numberAt judged withPinOf noPins own filled seated inTurn isThere meets meetsAny meetsOther crowded within settled allWithin allApart spotOf feedOf lawful wiringOf wiringFavouring wiringWith wiringVerdict answerWith turnedAway laidWith legEntries runEntries shapedRuns weighedOf weighedAt howMany bent bestChoice shortestOf shortest lengthOfChoice legsOfChoice choicesOf withShapes withShape shapesOf bentShapes lengthOf different among stepsOfAll stepsOf smaller stepsUp stepsAcross sameStep legsOf lowerCorner upperCorner isStraight boxesMeet clashAny clash common isEnd boxesShare overlap under belowBoth runsOf pinsOf runsAmong grown nextRun earliestOf earliest runsBetween runsFrom without pinsFrom keptIf sooner pairAt comesBefore byPart byNumber pairOf weightOf distanceOf difference larger sameNumber samePlace onBoard inside closer tooNear accepted turn both either choose
 W3-holds = refl
 
 -- The third record has another job: 14.
@@ -50,7 +51,7 @@ abbrev thirdOther : List ℕ
 thirdOther = placed 0 0 (0 ∷ 0 ∷ 0 ∷ 0 ∷ []) ++ placed 1 4 (0 ∷ 0 ∷ 0 ∷ 2 ∷ []) ++ (0 ∷ 8 ∷ 2 ∷ 0 ∷ 0 ∷ 0 ∷ 0 ∷ 4 ∷ 255 ∷ 255 ∷ 255 ∷ 254 ∷ [])
 
 other-job : mapAnswer thirdOther ≡ text "refused 14 record 2\n"
-unfolding jobIn readMap wrongLength readFrom recordOf numberAt judged withRecord noPins meets meetsAny crowded difference closer tooNear inside onBoard accepted turn both either choose toldLine carriedText shown
+unfolding jobOfMap readMap wrongLength readFrom recordOf numberAt judged withPinOf noPins meets meetsAny meetsOther crowded spotOf feedOf difference closer tooNear inside onBoard accepted turn both either choose toldLine carriedText shown
 other-job = printed-refused thirdOther {v = OtherJob 2} (opened thirdOther) refl
 
 -- The second record's pin is not above the one before: 15.
@@ -58,5 +59,5 @@ abbrev pinTwice : List ℕ
 pinTwice = placed 0 0 (0 ∷ 0 ∷ 0 ∷ 0 ∷ []) ++ placed 0 4 (0 ∷ 0 ∷ 0 ∷ 2 ∷ [])
 
 pin-twice : mapAnswer pinTwice ≡ text "refused 15 record 1\n"
-unfolding jobIn readMap wrongLength readFrom recordOf numberAt judged withRecord noPins meets meetsAny crowded difference closer tooNear inside onBoard accepted turn both either choose toldLine carriedText shown
+unfolding jobOfMap readMap wrongLength readFrom recordOf numberAt judged withPinOf noPins meets meetsAny meetsOther crowded spotOf feedOf difference closer tooNear inside onBoard accepted turn both either choose toldLine carriedText shown
 pin-twice = printed-refused pinTwice {v = FaultyRecord 1} (opened pinTwice) refl

@@ -11,10 +11,10 @@ use Rattle.script.specs.Answers.{verdictLine}
 use Rattle.shown.specs.Shown.{mapText}
 
 -- The job in the first two bytes of a map, high byte first. Empty input: job 1. A single byte is opened under job 1 too, and refused with 13.
-unfoldable pub jobIn : List ℕ → ℕ
-jobIn [] = 1
-jobIn (b ∷ []) = 1
-jobIn (b ∷ c ∷ rest) = b * 256 + c
+unfoldable pub jobOfMap : List ℕ → ℕ
+jobOfMap [] = 1
+jobOfMap (b ∷ []) = 1
+jobOfMap (b ∷ c ∷ rest) = b * 256 + c
 
 -- The most legs that a board has: 31 runs of two legs each.
 abbrev pub mostLegs : ℕ
@@ -22,7 +22,7 @@ mostLegs = 62
 
 -- The program opens the map at seat 0 of the empty desk, under its job.
 unfoldable pub openedWith : List ℕ → Answered
-openedWith map = step emptyDesk (opening 0 (jobIn map) map)
+openedWith map = step emptyDesk (opening 0 (jobOfMap map) map)
 
 -- And wires it, with room for all legs.
 unfoldable pub wiredWith : List ℕ → Wiring
@@ -31,7 +31,7 @@ wiredWith map = wiredOf (openedWith map .desk) 0 mostLegs .laid .wiring
 -- What it prints: the wiring, or the refusal of the wiring or of the opening.
 unfoldable pub mapAnswer : List ℕ → List ℕ
 mapAnswer map =
-    choose (accepted (openedWith map .verdict)) (mapText (jobIn map) (wiredWith map)) (verdictLine (openedWith map .verdict))
+    choose (accepted (openedWith map .verdict)) (mapText (jobOfMap map) (wiredWith map)) (verdictLine (openedWith map .verdict))
 
 -- Of a longer input it is enough to read so many bytes: they, too, are more than a map has.
 abbrev pub mostRead : ℕ

@@ -7,7 +7,7 @@ ghost use mathlib.Core.Path.{_≡_};
 ghost use Prim.Native.Nat.{_≤_};
 ghost use lib.ListN.{length};
 ghost use Rattle.script.specs.Text.{over, room};
-ghost use Rattle.mapped.specs.Mapped.{jobIn, mapAnswer};
+ghost use Rattle.mapped.specs.Mapped.{jobOfMap, mapAnswer};
 
 // Of a longer input it is enough to read so many bytes (proofs/Inputs.antt).
 pub const MOST_READ: usize = 397;
@@ -16,8 +16,8 @@ pub const MOST_READ: usize = 397;
 const MOST_LEGS: usize = 62;
 
 // The job in the first two bytes of a map, and job 1 where there are fewer.
-fn job_in(map: &[u8]) -> u16
-    ensures { λ r. ⌜ r ≡ jobIn (now (map .entry)) ⌝ }
+fn job_of_map(map: &[u8]) -> u16
+    ensures { λ r. ⌜ r ≡ jobOfMap (now (map .entry)) ⌝ }
 {
     if map.len() < 2 {
         return 1;
@@ -30,7 +30,7 @@ pub fn map_answer(map: &[u8], out: &mut [u8; ROOM]) -> usize
     ensures { λ r. ⌜ (r ≡ length (mapAnswer (now (map .entry)))) × (r ≤ room) ⌝ }
     ensures { λ _. ⌜ now (out .exit) ≡ over (mapAnswer (now (map .entry))) (now (out .entry)) ⌝ }
 {
-    let job = job_in(map);
+    let job = job_of_map(map);
     let desk = Desk::empty();
     let opened = desk.open(0, job, map);
     let verdict = opened.verdict;

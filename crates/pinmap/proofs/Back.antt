@@ -14,12 +14,13 @@ use Rattle.refusal.specs.Refusals.{accepted}
 use Rattle.grid.proofs.Flat.{order}
 use Rattle.drawing.specs.declared.Held.{Held}
 use Rattle.drawing.specs.declared.Pin.{Pin}
-use Rattle.drawing.specs.Pins.{absent, there, holding, within, lawful, crowded}
+use Rattle.feed.specs.Feeds.{within, crowded}
+use Rattle.drawing.specs.Pins.{absent, there, holding, lawful, spotOf}
 use Rattle.drawing.proofs.Rules.{lawful-parts, lawful-set}
 use Rattle.pinmap.specs.declared.Record.{Record}
 use Rattle.pinmap.specs.declared.Reading.{Reading}
 use Rattle.pinmap.specs.Record.{recordSize, recordOf, recordBytes, pinBytes, judged}
-use Rattle.pinmap.specs.Map.{refusedBy, withRecord, readFrom, mapFrom, mapOf}
+use Rattle.pinmap.specs.Map.{refusedBy, withPinOf, readFrom, mapFrom, mapOf}
 use Rattle.pinmap.proofs.Faults.{Faultless, faultless}
 use Rattle.pinmap.proofs.Records.{Bytes, record-written}
 
@@ -57,8 +58,8 @@ pub record Kept (next : ℕ) (earlier : List Pin) : Type 0 where
   pub rules : lawful earlier ≡ true
   pub clear : (k : ℕ) → next ≤ k → getD earlier k absent ≡ absent
 
-kept-next : (job next : ℕ) (earlier : List Pin) (r : Record) → Kept next earlier → Faultless job next earlier r → Kept (r .pin + 1) (withRecord earlier r)
-unfolding withRecord crowded within
+kept-next : (job next : ℕ) (earlier : List Pin) (r : Record) → Kept next earlier → Faultless job next earlier r → Kept (r .pin + 1) (withPinOf earlier r)
+unfolding withPinOf crowded within spotOf
 kept-next job next earlier r s f =
     record {
       rules = lawful-set earlier (r .pin) (there (holding (r .place))) (s .rules) (f .on-board) (f .free);
@@ -79,16 +80,16 @@ BackFrom job left =
 back-next : (job left : ℕ) → BackFrom job left → (m : List ℕ) (number next : ℕ) (earlier : List Pin) → length m ≡ suc left * recordSize → Kept next earlier
     → accepted (judged job number next earlier (recordOf (take recordSize m))) ≡ true
     → let r : Record = recordOf (take recordSize m) in
-    let x : Reading = readFrom left (drop recordSize m) job (number + 1) (r .pin + 1) (withRecord earlier r) in
+    let x : Reading = readFrom left (drop recordSize m) job (number + 1) (r .pin + 1) (withPinOf earlier r) in
     accepted (x .verdict) ≡ true → Back job m earlier x
-unfolding mapOf withRecord
+unfolding mapOf withPinOf
 back-next job left rec m number next earlier n s a c =
     let part : List ℕ = take recordSize m in
     let r : Record = recordOf part in
     let w : length part ≡ recordSize = omega (arith, length-take recordSize m) in
     let f : Faultless job next earlier r = faultless job number next earlier r a in
-    let g : Back job (drop recordSize m) (withRecord earlier r) (readFrom left (drop recordSize m) job (number + 1) (r .pin + 1) (withRecord earlier r)) =
-    rec (drop recordSize m) (number + 1) (r .pin + 1) (withRecord earlier r) (omega (arith, length-drop recordSize m)) (kept-next job next earlier r s f) c in
+    let g : Back job (drop recordSize m) (withPinOf earlier r) (readFrom left (drop recordSize m) job (number + 1) (r .pin + 1) (withPinOf earlier r)) =
+    rec (drop recordSize m) (number + 1) (r .pin + 1) (withPinOf earlier r) (omega (arith, length-drop recordSize m)) (kept-next job next earlier r s f) c in
     let z : 0 + r .pin ≡ r .pin = omega arith in
     let p : Bytes m → mapFrom job 0 (set earlier (r .pin) (there (holding (r .place)))) ≡ mapFrom job 0 earlier ++ part =
     λ b.

@@ -9,7 +9,7 @@ use Rattle.refusal.specs.Refusals.{accepted}
 use Rattle.refusal.proofs.Rows.{passed}
 use Rattle.grid.specs.Place.{inside}
 use Rattle.drawing.specs.declared.Pin.{Pin}
-use Rattle.drawing.specs.Pins.{pins}
+use Rattle.feed.specs.Feeds.{mostPins}
 use Rattle.pinmap.specs.declared.Record.{Record}
 use Rattle.pinmap.specs.Record.{otherJob, pinAbove, notBlank, outside, notAbove, placeTaken, judged}
 use Rattle.pinmap.proofs.Turns.{row-passed}
@@ -17,7 +17,7 @@ use Rattle.pinmap.proofs.Turns.{row-passed}
 -- A record without a fault.
 pub record Faultless (job next : ℕ) (earlier : List Pin) (r : Record) : Type 0 where
   pub own-job : r .job ≡ job
-  pub pin-low : r .pin < pins
+  pub pin-low : r .pin < mostPins
   pub blank : r .blank ≡ 0
   pub on-board : inside (r .place) ≡ true
   pub above : next ≤ r .pin

@@ -10,37 +10,40 @@ use lib.ListN.{length, getD, take, drop, set, replicate, length-append, length-s
 use lib.Seq.{getD-set-same, getD-set-other, set-getD, ext-getD, take-at, drop-at}
 use Rattle.refusal.specs.Tests.{either, choose}
 use Rattle.refusal.specs.Refusals.{accepted}
-use Rattle.refusal.proofs.Tests.{both-left}
 use Rattle.grid.specs.Place.{inside}
 use Rattle.grid.proofs.Flat.{order}
 use Rattle.drawing.specs.declared.Held.{Held}
 use Rattle.drawing.specs.declared.Stand.{Stand}
 use Rattle.drawing.specs.declared.Stand.the-variants.{Absent, There}
 use Rattle.drawing.specs.declared.Pin.{Pin}
-use Rattle.drawing.specs.Pins.{pins, absent, there, within, settled, allApart, lawful, meets, meetsAny, crowded}
-use Rattle.drawing.proofs.Rules.{lawful-parts, lawful-settled, meets-turned, apart-pair}
+use Rattle.feed.specs.Feeds.{mostPins, spotAt, within, allApart, meets, meetsAny, meetsOther, crowded}
+use Rattle.drawing.specs.Pins.{absent, there, lawful, spotOf, feedOf}
+use Rattle.feed.specs.declared.Spot.{Spot}
+use Rattle.feed.specs.declared.Spot.the-variants as spot
+use Rattle.feed.proofs.Rules.{meets-turned, apart-pair, within-at}
+use Rattle.drawing.proofs.Rules.{lawful-parts, feed-at}
 use Rattle.pinmap.specs.Record.{recordSize, recordBytes}
-use Rattle.pinmap.specs.Map.{noPins, readAs, withRecord, readFrom, mapFrom}
+use Rattle.pinmap.specs.Map.{noPins, readAs, withPinOf, readFrom, mapFrom}
 use Rattle.pinmap.proofs.Faults.{Faultless, no-fault}
 use Rattle.pinmap.proofs.Written.{record-length, absent-bytes, there-bytes, map-next, map-end}
 use Rattle.pinmap.proofs.Records.{record-read}
 
 -- The pins below i are those of the drawing, the others are absent.
 pub record Upto (l : List Pin) (i : ℕ) (earlier : List Pin) : Type 0 where
-  pub full : length earlier ≡ pins
+  pub full : length earlier ≡ mostPins
   pub below : (j : ℕ) → j < i → getD earlier j absent ≡ getD l j absent
   pub above : (j : ℕ) → i ≤ j → getD earlier j absent ≡ absent
 
 pub upto-none : (l : List Pin) → Upto l 0 noPins
 unfolding noPins
-upto-none l = record { full = refl; below = λ j h. absurd (omega arith); above = λ j h. replicated pins j }
+upto-none l = record { full = refl; below = λ j h. absurd (omega arith); above = λ j h. replicated mostPins j }
   where
     replicated : (n j : ℕ) → getD (replicate n absent) j absent ≡ absent
     replicated zero j = refl
     replicated (suc n) zero = refl
     replicated (suc n) (suc j) = replicated n j
 
-upto-all : (l : List Pin) (i : ℕ) (earlier : List Pin) → length l ≡ pins → pins ≤ i → Upto l i earlier → earlier ≡ l
+upto-all : (l : List Pin) (i : ℕ) (earlier : List Pin) → length l ≡ mostPins → mostPins ≤ i → Upto l i earlier → earlier ≡ l
 upto-all l i earlier n h u = ext-getD absent earlier l (u .full ∙ sym n) (λ j k. u .below j (omega (arith, u .full)))
 
 module _ (l : List Pin) (i : ℕ) (earlier : List Pin) (u : Upto l i earlier) where
@@ -57,7 +60,7 @@ module _ (l : List Pin) (i : ℕ) (earlier : List Pin) (u : Upto l i earlier) wh
       same j e = rw e (u .above i (omega arith) ∙ sym q)
 
   -- Pin i is there: it is put at its number.
-  upto-put : i < pins → Upto l (i + 1) (set earlier i (getD l i absent))
+  upto-put : i < mostPins → Upto l (i + 1) (set earlier i (getD l i absent))
   upto-put n =
       record {
         full = length-set earlier i (getD l i absent) ∙ u .full;
@@ -71,29 +74,45 @@ module _ (l : List Pin) (i : ℕ) (earlier : List Pin) (u : Upto l i earlier) wh
       same : (j : ℕ) → j ≡ i → getD (set earlier i (getD l i absent)) j absent ≡ getD l j absent
       same j e = rw e (getD-set-same earlier i (getD l i absent) absent (omega (arith, u .full)))
 
-  -- The place of pin i is not taken by the pins below.
-  none-met : (q : Pin) (m : List Pin) → ((j : ℕ) → meets q (getD m j absent) ≡ false) → meetsAny q m ≡ false
+  -- A pin that is near the pin of no number is near none.
+  none-met : (s : Spot) (feed : List Spot) → ((j : ℕ) → meets s (spotAt feed j) ≡ false) → meetsAny s feed ≡ false
   unfolding meetsAny either
-  none-met q [] f = refl
-  none-met q (r ∷ m) f = rw (f 0) (none-met q m (λ j. f (suc j)))
+  none-met s [] f = refl
+  none-met s (t ∷ feed) f = rw (f 0) (none-met s feed (λ j. f (suc j)))
 
-  place-free : allApart l ≡ true → (held : Held) → getD l i absent ≡ there held → crowded earlier i (held .place) ≡ false
-  unfolding crowded meets
-  place-free a held q =
-      let e : set earlier i absent ≡ earlier = ap (set earlier i) (sym (u .above i (omega arith))) ∙ set-getD earlier i absent in
-      rw e
-      (none-met (there held) earlier
-      (λ j. ⊎-elim (λ (k : i ≤ j). rw (u .above j k)) (λ (k : j < i). rw (u .below j k) (meets-turned (there held) (getD l j absent) ∙ ap (meets (getD l j absent)) (sym q) ∙ apart-pair l j i a k)) (order i j)))
+  module _ (a : allApart (feedOf l) ≡ true) (held : Held) (q : getD l i absent ≡ there held) where
+    -- Of the pins below none is near to pin i, and those above are absent.
+    free-of : (j : ℕ) → meets (spot.At (held .place)) (spotAt (feedOf earlier) j) ≡ false
+    unfolding spotOf meets
+    free-of j =
+        let s = spot.At (held .place) in
+        let here : spotAt (feedOf l) i ≡ s = feed-at l i ∙ ap spotOf q in
+        ap (meets s) (feed-at earlier j)
+        ∙ ⊎-elim (λ (k : i ≤ j). ap (λ (p : Pin). meets s (spotOf p)) (u .above j k))
+        (λ (k : j < i).
+        ap (λ (p : Pin). meets s (spotOf p)) (u .below j k)
+        ∙ ap (meets s) (sym (feed-at l j)) ∙ meets-turned s (spotAt (feedOf l) j)
+        ∙ ap (meets (spotAt (feedOf l) j)) (sym here) ∙ apart-pair (feedOf l) j i a k)
+        (order i j)
 
+    -- So its place is not taken.
+    place-free : crowded (feedOf earlier) i (held .place) ≡ false
+    unfolding crowded meetsOther spotOf
+    place-free =
+        let h : spotAt (feedOf earlier) i ≡ spot.Absent = feed-at earlier i ∙ ap spotOf (u .above i (omega arith)) in
+        let e : set (feedOf earlier) i spot.Absent ≡ feedOf earlier = ap (set (feedOf earlier) i) (sym h) ∙ set-getD (feedOf earlier) i spot.Absent in
+        rw e (none-met (spot.At (held .place)) (feedOf earlier) free-of)
+
+-- The place of a pin of the drawing is on the board.
 place-inside : (l : List Pin) (i : ℕ) (held : Held) → lawful l ≡ true → getD l i absent ≡ there held → inside (held .place) ≡ true
-unfolding settled within
-place-inside l i held e q = rw q at (both-left (within (getD l i absent)) _ (lawful-settled l i e))
+unfolding within spotOf
+place-inside l i held e q = ap within (sym (feed-at l i ∙ ap spotOf q)) ∙ within-at (feedOf l) i (lawful-parts l e .board)
 
 -- A record without a fault at the front is read, and then what follows it.
 read-one : (left job number next pin : ℕ) (earlier : List Pin) (held : Held) (rest : List ℕ) → job < 65536 → inside (held .place) ≡ true
     → Faultless job next earlier (record { job = job; pin = pin; blank = 0; place = held .place })
     → readFrom (suc left) (recordBytes job pin held ++ rest) job number next earlier ≡ readFrom left rest job (number + 1) (pin + 1) (set earlier pin (there held))
-unfolding readFrom withRecord accepted choose
+unfolding readFrom withPinOf accepted choose
 read-one left job number next pin earlier held rest j e f =
     let t : take recordSize (recordBytes job pin held ++ rest) ≡ recordBytes job pin held = take-at (recordBytes job pin held) rest recordSize (record-length job pin held) in
     let d : drop recordSize (recordBytes job pin held ++ rest) ≡ rest = drop-at (recordBytes job pin held) rest recordSize (record-length job pin held) in
@@ -106,7 +125,7 @@ module _ (job : ℕ) (l : List Pin) (j : job < 65536) (e : lawful l ≡ true) wh
       (number next : ℕ) (earlier : List Pin) → next ≤ i → Upto l i earlier
       → readFrom (length (mapFrom job i (drop i l)) / recordSize) (mapFrom job i (drop i l)) job number next earlier ≡ readAs l
 
-  open-next : (i : ℕ) → i < pins → OpenFrom (i + 1) → (t : Stand) → getD l i absent ≡ record { stand = t } → OpenFrom i
+  open-next : (i : ℕ) → i < mostPins → OpenFrom (i + 1) → (t : Stand) → getD l i absent ≡ record { stand = t } → OpenFrom i
   open-next i n rec Absent q number next earlier h u =
       let m : mapFrom job i (drop i l) ≡ mapFrom job (i + 1) (drop (i + 1) l) =
       map-next job l i (omega (arith, lawful-parts l e .long)) ∙ ap (λ (b : List ℕ). b ++ mapFrom job (i + 1) (drop (i + 1) l)) (absent-bytes job i (getD l i absent) (ap (λ (p : Pin). p .stand) q)) in
@@ -124,7 +143,7 @@ module _ (job : ℕ) (l : List Pin) (j : job < 65536) (e : lawful l ≡ true) wh
       (read-one (length rest / recordSize) job number next i earlier held rest j p f
       ∙ rec (number + 1) (i + 1) (set earlier i (there held)) (omega arith) (rw q at (upto-put l i earlier u n)))
 
-  pub open-from : (k i : ℕ) → i + k ≡ pins → OpenFrom i
+  pub open-from : (k i : ℕ) → i + k ≡ mostPins → OpenFrom i
   unfolding readFrom
   open-from zero i n number next earlier h u =
       rw (map-end job l i (omega (arith, lawful-parts l e .long))) (ap readAs (upto-all l i earlier (lawful-parts l e .long) (omega arith) u))

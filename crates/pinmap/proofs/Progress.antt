@@ -10,11 +10,12 @@ use Rattle.refusal.specs.declared.Verdict.{Verdict}
 use Rattle.refusal.specs.Refusals.{accepted}
 use Rattle.refusal.proofs.Tests.{choose-yes, choose-no}
 use Rattle.drawing.specs.declared.Pin.{Pin}
-use Rattle.drawing.specs.Pins.{pins, there, holding}
+use Rattle.feed.specs.Feeds.{mostPins}
+use Rattle.drawing.specs.Pins.{there, holding}
 use Rattle.pinmap.specs.declared.Record.{Record}
 use Rattle.pinmap.specs.Record.{recordSize, recordOf, judged}
 use Rattle.pinmap.proofs.Faults.{faultless}
-use Rattle.pinmap.specs.Map.{noPins, refusedBy, readAs, withRecord, readFrom}
+use Rattle.pinmap.specs.Map.{noPins, refusedBy, readAs, withPinOf, readFrom}
 
 -- The part of record `number`.
 abbrev pub partAt : List ℕ → ℕ → List ℕ
@@ -27,7 +28,7 @@ countOf map = length map / recordSize
 -- Where the reading stands at record `number`: the rest of the reading is that of the whole.
 pub record Stands (map : List ℕ) (job : ℕ) (earlier : List Pin) (next number : ℕ) : Type 0 where
   pub within : number ≤ countOf map
-  pub full : length earlier ≡ pins
+  pub full : length earlier ≡ mostPins
   pub rest : readFrom (countOf map) map job 0 0 noPins ≡ readFrom (countOf map - number) (drop (number * recordSize) map) job number next earlier
 
 pub begins : (map : List ℕ) (job : ℕ) {l : List Pin} → l ≡ noPins → Stands map job l 0 0
@@ -63,8 +64,8 @@ module _ (map : List ℕ) (job : ℕ) (earlier : List Pin) (next number : ℕ) (
 
     -- A good one goes to the pins, and the next record is read.
     pub goes : accepted (judged job number next earlier given) ≡ true
-        → Stands map job (withRecord earlier given) (given .pin + 1) (number + 1)
-    unfolding readFrom withRecord
+        → Stands map job (withPinOf earlier given) (given .pin + 1) (number + 1)
+    unfolding readFrom withPinOf
     goes f =
         let e : countOf map - suc number ≡ countOf map - (number + 1) = omega arith in
         let k : number * recordSize + recordSize ≡ (number + 1) * recordSize = omega arith in
@@ -99,12 +100,12 @@ module _ (map : List ℕ) (job : ℕ) (earlier : List Pin) (next number : ℕ) (
       ap refusedBy w ∙ stops map job earlier next number s h a
 
   pub turn-goes : t ≡ true → {q : Pin} → q ≡ there (holding (r .place)) → Stands map job (set earlier (r .pin) q) (r .pin + 1) (number + 1)
-  unfolding withRecord
+  unfolding withPinOf
   turn-goes f {q} e =
       let w : r ≡ recordOf (partAt map number) = er ∙ ap recordOf (part-is map number) in
       let a : accepted (judged job number next earlier (recordOf (partAt map number))) ≡ true =
       ap accepted (ap (judged job number next earlier) (sym w) ∙ sym ev) ∙ sym et ∙ f in
       rw (e, w) (goes map job earlier next number s h a)
 
-  pub turn-pin : t ≡ true → r .pin < pins
+  pub turn-pin : t ≡ true → r .pin < mostPins
   turn-pin f = faultless job number next earlier r (ap accepted (sym ev) ∙ sym et ∙ f) .pin-low

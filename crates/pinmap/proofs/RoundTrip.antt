@@ -15,7 +15,8 @@ use Rattle.refusal.proofs.Tests.{both-left, both-right}
 use Rattle.drawing.specs.declared.Stand.{Stand}
 use Rattle.drawing.specs.declared.Stand.the-variants.{Absent, There}
 use Rattle.drawing.specs.declared.Pin.{Pin}
-use Rattle.drawing.specs.Pins.{pins, withinIn, within, allWithin, allApart, lawful, meetsAny, meets}
+use Rattle.feed.specs.Feeds.{mostPins, within, allWithin, allApart, meetsAny, meets}
+use Rattle.drawing.specs.Pins.{spotIn, lawful, spotOf, feedOf}
 use Rattle.drawing.proofs.Rules.{lawful-parts}
 use Rattle.pinmap.specs.declared.Reading.{Reading}
 use Rattle.pinmap.specs.declared.Writing.{Writing}
@@ -30,7 +31,7 @@ use Rattle.pinmap.proofs.Back.{Kept, Back, back-from}
 -- ---- the map of a drawing
 
 -- A drawing's map has at most 384 bytes, and a whole number of records.
-pub map-short : (job : ℕ) (l : List Pin) → length l ≡ pins → length (mapOf job l) ≤ mostBytes
+pub map-short : (job : ℕ) (l : List Pin) → length l ≡ mostPins → length (mapOf job l) ≤ mostBytes
 unfolding mapOf
 map-short job l n = omega (arith, map-size job 0 l .0)
 
@@ -43,18 +44,18 @@ pub map-opens : (job : ℕ) (l : List Pin) → job < 65536 → lawful l ≡ true
 unfolding mapOf
 map-opens job l j e =
     sym (looked-at (mapFrom job 0 l) job (right-length (mapFrom job 0 l) (map-short job l (lawful-parts l e .long)) (map-whole job l)))
-    ∙ open-from job l j e pins 0 refl 0 0 noPins (omega arith) (upto-none l)
+    ∙ open-from job l j e mostPins 0 refl 0 0 noPins (omega arith) (upto-none l)
 
-pin-bytes : (job pin : ℕ) (q : Pin) → job < 65536 → pin < 256 → within q ≡ true → Bytes (pinBytes job pin q)
-unfolding pinBytes within
+pin-bytes : (job pin : ℕ) (q : Pin) → job < 65536 → pin < 256 → within (spotOf q) ≡ true → Bytes (pinBytes job pin q)
+unfolding pinBytes within spotOf
 pin-bytes job pin q j p e = by-stand (q .stand) e
   where
-    by-stand : (t : Stand) → withinIn t ≡ true → Bytes (bytesIn job pin t)
+    by-stand : (t : Stand) → within (spotIn t) ≡ true → Bytes (bytesIn job pin t)
     by-stand Absent e = λ i. omega arith
     by-stand (There held) e = record-bytes job pin held j p e
 
-bytes-from : (job i : ℕ) (l : List Pin) → job < 65536 → i + length l ≤ 256 → allWithin l ≡ true → Bytes (mapFrom job i l)
-unfolding mapFrom allWithin
+bytes-from : (job i : ℕ) (l : List Pin) → job < 65536 → i + length l ≤ 256 → allWithin (feedOf l) ≡ true → Bytes (mapFrom job i l)
+unfolding mapFrom allWithin feedOf
 bytes-from job i [] j n e = λ k. omega arith
 bytes-from job i (q ∷ l) j n e =
     bytes-append (pinBytes job i q) (mapFrom job (i + 1) l) (pin-bytes job i q j (omega arith) (both-left _ _ e)) (bytes-from job (i + 1) l j (omega arith) (both-right _ _ e))
@@ -68,7 +69,7 @@ map-bytes job l j e = bytes-from job 0 l j (omega (arith, lawful-parts l e .long
 
 -- A drawing without pins keeps the rules.
 pub no-pins-lawful : lawful noPins ≡ true
-unfolding noPins lawful both allWithin within allApart meetsAny meets either
+unfolding noPins lawful both spotOf feedOf allWithin within allApart meetsAny meets either
 no-pins-lawful = refl
 
 -- A map that opens has a right length, and its records are read.

@@ -11,9 +11,10 @@ use Rattle.refusal.specs.Refusals.{turn, accepted}
 use Rattle.grid.specs.Number.{numberAt, first, second, third, fourth}
 use Rattle.grid.specs.Place.{onBoard, inside, difference, closer, tooNear}
 use Rattle.drawing.specs.declared.Pin.{Pin}
-use Rattle.drawing.specs.Pins.{absent, there, holding, meets, meetsAny, crowded}
+use Rattle.feed.specs.Feeds.{meets, meetsAny, crowded, meetsOther}
+use Rattle.drawing.specs.Pins.{absent, there, holding, spotOf, feedOf}
 use Rattle.pinmap.specs.Record.{recordOf, recordBytes, pinBytes, judged}
-use Rattle.pinmap.specs.Map.{noPins, refusedBy, readAs, withRecord, readFrom, wrongLength, readMap, mapFrom, mapOf, written, noRoom, writeMap, bufferAfter}
+use Rattle.pinmap.specs.Map.{noPins, refusedBy, readAs, withPinOf, readFrom, wrongLength, readMap, mapFrom, mapOf, written, noRoom, writeMap, bufferAfter}
 
 -- Job 7, pin 0 at (1,-1).
 abbrev onePin : List Pin
@@ -32,7 +33,7 @@ unfolding mapOf mapFrom pinBytes recordBytes first second third fourth
 D3-written = refl
 
 D3-read : readMap oneRecord 7 ≡ readAs onePin
-unfolding readMap wrongLength either choose readFrom recordOf numberAt judged turn accepted inside onBoard both crowded meetsAny meets withRecord noPins
+unfolding readMap wrongLength either choose readFrom recordOf numberAt judged turn accepted inside onBoard both crowded meetsOther meetsAny meets spotOf feedOf withPinOf noPins
 D3-read = refl
 
 -- Written into a buffer of 14 bytes, it leaves the last two; into one of 11, it is refused.
@@ -72,24 +73,24 @@ other-job-first = refl
 
 -- The first faulty record is named: record 1 has a byte 3 that is not zero, record 2 another job.
 first-faulty : readMap (given 7 0 0 0 ++ (given 7 1 5 3 ++ given 8 2 0 6)) 7 ≡ refusedBy (FaultyRecord 1)
-unfolding readMap wrongLength either choose readFrom recordOf numberAt judged turn accepted inside onBoard both crowded meetsAny meets withRecord noPins
+unfolding readMap wrongLength either choose readFrom recordOf numberAt judged turn accepted inside onBoard both crowded meetsOther meetsAny meets spotOf feedOf withPinOf noPins
 first-faulty = refl
 
 -- A pin that comes twice, one that is not above the one before, and a place that comes twice.
 not-ascending : readMap (given 7 3 0 0 ++ given 7 3 0 1) 7 ≡ refusedBy (FaultyRecord 1)
-unfolding readMap wrongLength either choose readFrom recordOf numberAt judged turn accepted inside onBoard both crowded meetsAny meets withRecord noPins
+unfolding readMap wrongLength either choose readFrom recordOf numberAt judged turn accepted inside onBoard both crowded meetsOther meetsAny meets spotOf feedOf withPinOf noPins
 not-ascending = refl
 
 descending : readMap (given 7 3 0 0 ++ given 7 2 0 1) 7 ≡ refusedBy (FaultyRecord 1)
-unfolding readMap wrongLength either choose readFrom recordOf numberAt judged turn accepted inside onBoard both crowded meetsAny meets withRecord noPins
+unfolding readMap wrongLength either choose readFrom recordOf numberAt judged turn accepted inside onBoard both crowded meetsOther meetsAny meets spotOf feedOf withPinOf noPins
 descending = refl
 
 place-twice : readMap (given 7 3 0 9 ++ given 7 4 0 9) 7 ≡ refusedBy (FaultyRecord 1)
-unfolding readMap wrongLength either choose readFrom recordOf numberAt judged turn accepted inside onBoard both crowded meetsAny meets tooNear closer difference withRecord noPins
+unfolding readMap wrongLength either choose readFrom recordOf numberAt judged turn accepted inside onBoard both crowded meetsOther meetsAny meets spotOf feedOf tooNear closer difference withPinOf noPins
 place-twice = refl
 
 -- x 20,000 is accepted, 20,001 is 15.
 limits : (accepted (readMap (0 ∷ 7 ∷ 0 ∷ 0 ∷ 0 ∷ 0 ∷ 78 ∷ 32 ∷ 0 ∷ 0 ∷ 0 ∷ 0 ∷ []) 7 .verdict) ≡ true)
     × (readMap (0 ∷ 7 ∷ 0 ∷ 0 ∷ 0 ∷ 0 ∷ 78 ∷ 33 ∷ 0 ∷ 0 ∷ 0 ∷ 0 ∷ []) 7 ≡ refusedBy (FaultyRecord 0))
-unfolding readMap wrongLength either choose readFrom recordOf numberAt judged turn accepted inside onBoard both crowded meetsAny meets withRecord noPins
+unfolding readMap wrongLength either choose readFrom recordOf numberAt judged turn accepted inside onBoard both crowded meetsOther meetsAny meets spotOf feedOf withPinOf noPins
 limits = (refl, refl)

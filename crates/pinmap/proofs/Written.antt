@@ -18,7 +18,8 @@ use Rattle.drawing.specs.declared.Held.{Held}
 use Rattle.drawing.specs.declared.Stand.{Stand}
 use Rattle.drawing.specs.declared.Stand.the-variants.{Absent, There}
 use Rattle.drawing.specs.declared.Pin.{Pin}
-use Rattle.drawing.specs.Pins.{pins, absent}
+use Rattle.feed.specs.Feeds.{mostPins}
+use Rattle.drawing.specs.Pins.{absent}
 use Rattle.pinmap.specs.Record.{recordSize, recordBytes, bytesIn, pinBytes}
 use Rattle.pinmap.specs.Map.{mapFrom, mapOf, written, noRoom, writeMap, bufferAfter}
 
@@ -119,7 +120,7 @@ map-size job i (q ∷ l) =
 
 -- So many bytes for the pins below i: with those from i on they are all.
 pub record Counted (l : List Pin) (bytes i : ℕ) : Type 0 where
-  pub within : i ≤ pins
+  pub within : i ≤ mostPins
   pub small : bytes ≤ i * recordSize
   pub rest : (job : ℕ) → length (mapOf job l) ≡ bytes + length (mapFrom job i (drop i l))
 
@@ -128,7 +129,7 @@ unfolding mapOf
 counted-start l = record { within = omega arith; small = omega arith; rest = λ job. omega arith }
 
 module _ (l : List Pin) (bytes i : ℕ) (s : Counted l bytes i) where
-  pub counted-next : {n : ℕ} → i < length l → i < pins → ((job number : ℕ) → n ≡ length (pinBytes job number (getD l i absent))) → Counted l (bytes + n) (i + 1)
+  pub counted-next : {n : ℕ} → i < length l → i < mostPins → ((job number : ℕ) → n ≡ length (pinBytes job number (getD l i absent))) → Counted l (bytes + n) (i + 1)
   counted-next {n} h k e =
       record {
         within = omega arith;
@@ -143,7 +144,7 @@ module _ (l : List Pin) (bytes i : ℕ) (s : Counted l bytes i) where
 
 -- The pins below i are written: storing those from i on gives what storing the whole map gives.
 pub record Storing (job : ℕ) (l : List Pin) (before now : List ℕ) (at i : ℕ) : Type 0 where
-  pub within : i ≤ pins
+  pub within : i ≤ mostPins
   pub same : length now ≡ length before
   pub room : at + length (mapFrom job i (drop i l)) ≤ length before
   pub rest : sets now at (mapFrom job i (drop i l)) ≡ sets before 0 (mapOf job l)
@@ -161,7 +162,7 @@ module _ (job : ℕ) (l : List Pin) (before now : List ℕ) (at i : ℕ) (s : St
     storing-room =
         omega (arith, s .room, s .same, ap length (map-next job l i h), length-append own (mapFrom job (i + 1) (drop (i + 1) l)))
 
-    pub storing-next : i < pins → {r : ℕ} {after : List ℕ} → r ≡ at + length own → after ≡ sets now at own → Storing job l before after r (i + 1)
+    pub storing-next : i < mostPins → {r : ℕ} {after : List ℕ} → r ≡ at + length own → after ≡ sets now at own → Storing job l before after r (i + 1)
     storing-next k {r} {after} er ea =
         record {
           within = omega arith;

@@ -9,7 +9,8 @@ use Rattle.refusal.specs.Refusals.{accepted}
 use Rattle.refusal.specs.declared.Verdict.{Verdict}
 use Rattle.refusal.specs.declared.Verdict.the-variants.{Accepted, MapLength, RoomTooSmall}
 use Rattle.drawing.specs.declared.Pin.{Pin}
-use Rattle.drawing.specs.Pins.{pins, absent, there, holding}
+use Rattle.feed.specs.Feeds.{mostPins}
+use Rattle.drawing.specs.Pins.{absent, there, holding}
 use Rattle.pinmap.specs.declared.Record.{Record}
 use Rattle.pinmap.specs.declared.Reading.{Reading}
 use Rattle.pinmap.specs.declared.Writing.{Writing}
@@ -21,7 +22,7 @@ mostBytes = 384
 
 -- A drawing without pins.
 unfoldable pub noPins : List Pin
-noPins = replicate pins absent
+noPins = replicate mostPins absent
 
 -- A refusal comes with no pins.
 abbrev pub refusedBy : Verdict → Reading
@@ -32,8 +33,8 @@ abbrev pub readAs : List Pin → Reading
 readAs l = record { verdict = Accepted; pins = l }
 
 -- The pins with that of a record.
-unfoldable pub withRecord : List Pin → Record → List Pin
-withRecord l r = set l (r .pin) (there (holding (r .place)))
+unfoldable pub withPinOf : List Pin → Record → List Pin
+withPinOf l r = set l (r .pin) (there (holding (r .place)))
 
 -- Each record is read from its own part of the map, up to the first faulty one. So many records are left, the first of them has this number,
 -- `next` is one more than the pin before (0 at first), and these are the pins of the earlier records.
@@ -42,7 +43,7 @@ readFrom zero map job number next earlier = readAs earlier
 readFrom (suc left) map job number next earlier =
     let r : Record = recordOf (take recordSize map) in
     let v : Verdict = judged job number next earlier r in
-    choose (accepted v) (readFrom left (drop recordSize map) job (number + 1) (r .pin + 1) (withRecord earlier r)) (refusedBy v)
+    choose (accepted v) (readFrom left (drop recordSize map) job (number + 1) (r .pin + 1) (withPinOf earlier r)) (refusedBy v)
 
 -- Map length not a multiple of 12, or above 384.
 unfoldable pub wrongLength : List ℕ → Bool

@@ -13,7 +13,8 @@ use Rattle.drawing.specs.declared.Held.{Held}
 use Rattle.drawing.specs.declared.Stand.{Stand}
 use Rattle.drawing.specs.declared.Stand.the-variants.{Absent, There}
 use Rattle.drawing.specs.declared.Pin.{Pin}
-use Rattle.drawing.specs.Pins.{pins, crowded}
+use Rattle.feed.specs.Feeds.{mostPins, crowded}
+use Rattle.drawing.specs.Pins.{feedOf}
 use Rattle.pinmap.specs.declared.Record.{Record}
 
 -- Records of 12 bytes.
@@ -36,7 +37,7 @@ otherJob job r = not (eqb (r .job) job)
 
 -- Its pin is above 31.
 abbrev pub pinAbove : Record → Bool
-pinAbove r = leb pins (r .pin)
+pinAbove r = leb mostPins (r .pin)
 
 -- Its byte 3 is not zero.
 abbrev pub notBlank : Record → Bool
@@ -52,7 +53,7 @@ notAbove next r = ltb (r .pin) next
 
 -- Its place is that of an earlier record of another pin, or too near to it.
 abbrev pub placeTaken : List Pin → Record → Bool
-placeTaken earlier r = crowded earlier (r .pin) (r .place)
+placeTaken earlier r = crowded (feedOf earlier) (r .pin) (r .place)
 
 -- A record after those that were read: 14 before 15, with its number, counted from 0.
 unfoldable pub judged : ℕ → ℕ → ℕ → List Pin → Record → Verdict

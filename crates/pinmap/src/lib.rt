@@ -2,12 +2,14 @@
 use drawing::Held;
 use drawing::Pin;
 use drawing::Stand;
+use feed::PINS;
 use grid::Place;
 use refusal::Verdict;
 ghost use mathlib.Core.Path.{_≡_};
 ghost use Prim.Native.Nat.{ℕ, _+_, _<_, _≤_, _/_};
 ghost use lib.ListN.{length};
 ghost use lib.Seq.{sets};
+ghost use Rattle.feed.specs.Feeds.{mostPins};
 ghost use Rattle.pinmap.specs.Record.{recordSize, recordOf, recordBytes, pinBytes, otherJob, pinAbove, notBlank, outside, notAbove, placeTaken, judged};
 ghost use Rattle.pinmap.specs.Map.{noPins, refusedBy, readFrom, readMap, mapOf, writeMap, bufferAfter, written};
 
@@ -28,7 +30,7 @@ pub struct Record {
 // What reading a map comes to: accepted, with the drawing's pins, or refused, with no pin.
 pub struct Reading {
     pub verdict: Verdict,
-    pub pins: [Pin; 32],
+    pub pins: [Pin; PINS],
 }
 
 // What writing a map comes to, and how many bytes were written.
@@ -66,7 +68,7 @@ pub fn has_other_job(given: Record, job: u16) -> bool
 pub fn has_pin_above(given: Record) -> bool
     ensures { λ r. ⌜ r ≡ pinAbove given ⌝ }
 {
-    drawing::PINS <= given.pin
+    PINS <= given.pin
 }
 
 // Whether a record's byte 3 is not zero.
@@ -92,8 +94,8 @@ pub fn is_not_above(given: Record, next: usize) -> bool
 }
 
 // Whether a record's place is too near to that of another pin among the earlier ones.
-pub fn has_place_taken(given: Record, earlier: [Pin; 32]) -> bool
-    requires { ⌜ given .pin < 32 ⌝ }
+pub fn has_place_taken(given: Record, earlier: [Pin; PINS]) -> bool
+    requires { ⌜ given .pin < mostPins ⌝ }
     ensures { λ r. ⌜ r ≡ placeTaken earlier given ⌝ }
 {
     let at = given.place;
@@ -101,7 +103,7 @@ pub fn has_place_taken(given: Record, earlier: [Pin; 32]) -> bool
 }
 
 // What a record comes to, as the one of this number after those that were read.
-fn judge(given: Record, job: u16, number: usize, next: usize, earlier: [Pin; 32]) -> Verdict
+fn judge(given: Record, job: u16, number: usize, next: usize, earlier: [Pin; PINS]) -> Verdict
     ensures { λ r. ⌜ r ≡ judged job number next earlier given ⌝ }
 {
     if has_other_job(given, job) {
@@ -126,11 +128,11 @@ fn judge(given: Record, job: u16, number: usize, next: usize, earlier: [Pin; 32]
 }
 
 // The pins of a drawing without pins.
-pub fn no_pins() -> [Pin; 32]
+pub fn no_pins() -> [Pin; PINS]
     ensures { λ r. ⌜ r ≡ noPins ⌝ }
 {
     let pin = drawing::absent_pin();
-    [pin; 32]
+    [pin; PINS]
 }
 
 // A reading that was turned away.
@@ -161,7 +163,7 @@ fn read_records(map: &[u8], job: u16) -> Reading
             let place = given.place;
             pins[pin] = drawing::pin_with(Held { place });
             next = pin + 1;
-            number = number + 1;
+            number += 1;
         } else {
             return refuse(verdict);
         }
@@ -187,7 +189,7 @@ pub fn read_map(map: &[u8], job: u16) -> Reading
 
 // Writes the record of a pin into its own part of the map.
 fn write_record(part: &mut [u8], job: u16, pin: usize, held: Held)
-    requires { ⌜ (length (now part) ≡ recordSize) × (pin < 32) ⌝ }
+    requires { ⌜ (length (now part) ≡ recordSize) × (pin < mostPins) ⌝ }
     ensures { λ _. ⌜ now (part .exit) ≡ recordBytes job pin held ⌝ }
 {
     let place = held.place;
@@ -211,22 +213,22 @@ fn bytes_of(pin: Pin) -> usize
 }
 
 // How many bytes the map of a drawing has, under any job.
-fn bytes_needed(pins: [Pin; 32]) -> usize
+fn bytes_needed(pins: [Pin; PINS]) -> usize
     ensures { λ r. ⌜ ((job : ℕ) → r ≡ length (mapOf job pins)) ⌝ }
 {
     let mut bytes: usize = 0;
     let mut i: usize = 0;
-    while i < 32 {
+    while i < PINS {
         let q = pins[i];
         bytes = bytes + bytes_of(q);
-        i = i + 1;
+        i += 1;
     }
     bytes
 }
 
 // Writes what a map has for a pin from `at` on, and says where the next record begins.
 fn write_pin(buffer: &mut [u8], at: usize, job: u16, pin: usize, q: Pin) -> usize
-    requires { ⌜ (at + length (pinBytes job pin q) ≤ length (now buffer)) × (pin < 32) ⌝ }
+    requires { ⌜ (at + length (pinBytes job pin q) ≤ length (now buffer)) × (pin < mostPins) ⌝ }
     ensures { λ r. ⌜ r ≡ at + length (pinBytes job pin q) ⌝ }
     ensures { λ _. ⌜ now (buffer .exit) ≡ sets (now (buffer .entry)) at (pinBytes job pin q) ⌝ }
 {
@@ -242,21 +244,21 @@ fn write_pin(buffer: &mut [u8], at: usize, job: u16, pin: usize, q: Pin) -> usiz
 }
 
 // Writes the records of a drawing's pins, where there is room for them.
-fn write_records(pins: [Pin; 32], job: u16, buffer: &mut [u8])
+fn write_records(pins: [Pin; PINS], job: u16, buffer: &mut [u8])
     requires { ⌜ length (mapOf job pins) ≤ length (now buffer) ⌝ }
     ensures { λ _. ⌜ now (buffer .exit) ≡ written (mapOf job pins) (now (buffer .entry)) ⌝ }
 {
     let mut at: usize = 0;
     let mut i: usize = 0;
-    while i < 32 {
+    while i < PINS {
         let q = pins[i];
         at = write_pin(buffer, at, job, i, q);
-        i = i + 1;
+        i += 1;
     }
 }
 
 // Writes the map of a drawing's pins into a lent buffer, and says how many bytes were written; bytes after the last record stay as they were.
-pub fn write_map(pins: [Pin; 32], job: u16, buffer: &mut [u8]) -> Writing
+pub fn write_map(pins: [Pin; PINS], job: u16, buffer: &mut [u8]) -> Writing
     ensures { λ r. ⌜ r ≡ writeMap pins job (now (buffer .entry)) ⌝ }
     ensures { λ _. ⌜ now (buffer .exit) ≡ bufferAfter pins job (now (buffer .entry)) ⌝ }
 {

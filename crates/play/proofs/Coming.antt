@@ -7,23 +7,23 @@ use Rattle.desk.specs.declared.Desk.{Desk}
 use Rattle.desk.specs.Desk.{emptyDesk}
 use Rattle.play.specs.declared.Session.{Session}
 use Rattle.refusal.specs.Tests.{choose}
-use Rattle.play.specs.Log.{Log, logOf, heard, lastHeard, after, ComesOf}
+use Rattle.play.specs.Log.{Log, logOf, heard, lastHeard, logAfter, ComesOf}
 use Rattle.play.specs.Lines.{Played}
 use Rattle.play.proofs.Hearing.{heard-parts, heard-ended, last-ended}
 use Rattle.play.proofs.Lines.{startOf, all-told}
 
 -- By a window, and by the end of the input.
 pub by-window : (l : Log) (w : List ℕ) {m : Log} → l .ended ≡ false → m ≡ heard l w → ComesOf l m
-unfolding after choose
+unfolding logAfter choose
 by-window l w {m} h e =
     let t : m .ended ≡ false = ap (λ (n : Log). n .ended) e ∙ heard-ended w l ∙ h in
-    record { input = w; is = e ∙ sym (ap (after l w) t) }
+    record { input = w; is = e ∙ sym (ap (logAfter l w) t) }
 
 pub by-end : (l : Log) {m : Log} → m ≡ lastHeard l → ComesOf l m
-unfolding after choose heard
+unfolding logAfter choose heard
 by-end l {m} e =
     let t : m .ended ≡ true = ap (λ (n : Log). n .ended) e ∙ last-ended l in
-    record { input = []; is = e ∙ sym (ap (after l []) t) }
+    record { input = []; is = e ∙ sym (ap (logAfter l []) t) }
 
 -- By nothing.
 pub by-none : (l : Log) → l .ended ≡ false → ComesOf l l
@@ -32,15 +32,15 @@ by-none l h = by-window l [] h refl
 
 -- By what comes first and then by what comes next.
 pub by-both : {k l m : Log} → ComesOf k l → l .ended ≡ false → ComesOf l m → ComesOf k m
-unfolding after choose
+unfolding logAfter choose
 by-both {k} {l} {m} p h q =
-    let e : l ≡ heard k (p .input) = p .is ∙ ap (after k (p .input)) h in
+    let e : l ≡ heard k (p .input) = p .is ∙ ap (logAfter k (p .input)) h in
     let g : heard l (q .input) ≡ heard k (p .input ++ q .input) = ap (λ (n : Log). heard n (q .input)) e ∙ heard-parts (p .input) (q .input) k in
     record { input = p .input ++ q .input; is = q .is ∙ ap (λ (n : Log). choose (m .ended) (lastHeard n) n) g }
 
 -- From the start on: the lines of all that was read.
 pub from-start : (s : Session) (line : List ℕ) {d : Desk} {old out : List ℕ} → d ≡ emptyDesk → ComesOf (startOf d old) (logOf s line out) → Played s
 from-start s line {d} {old} {out} e p =
-    let is : logOf s line out ≡ after (startOf emptyDesk old) (p .input) (s .ended) = p .is ∙ ap (λ (d : Desk). after (startOf d old) (p .input) (s .ended)) e in
+    let is : logOf s line out ≡ logAfter (startOf emptyDesk old) (p .input) (s .ended) = p .is ∙ ap (λ (d : Desk). logAfter (startOf d old) (p .input) (s .ended)) e in
     let t = all-told (s .ended) (p .input) emptyDesk old in
     record { input = p .input; desk = ap (λ (l : Log). l .desk) is ∙ t .0; lines = ap (λ (l : Log). l .lines) is ∙ t .1 }

@@ -8,20 +8,19 @@ use native.Mathlib.Omega.{arith}
 use lib.Dec.{eqb, eqb·suc-zero}
 use lib.ListN.{length, take}
 use Rattle.refusal.specs.Tests.{both, choose}
-use Rattle.script.specs.Words as Words
-use Rattle.script.specs.Words.{newline, pieces}
-use Rattle.script.specs.Orders.{mostKept, orderOf, mapOf}
+use Rattle.script.specs.Words.{newline, beforeFirst, pieces}
+use Rattle.script.specs.Orders.{mostKept, orderOf, mapGiven}
 use Rattle.script.proofs.Clipping.{clipped-order, clipped-map, clipped-across, clipped-up}
 use Rattle.desk.specs.declared.Desk.{Desk}
 use Rattle.answer.specs.Answered.{followed, played, answered}
-use Rattle.play.specs.Log.{Log, nextLine, longer, heard, stopped, lastHeard, after}
+use Rattle.play.specs.Log.{Log, nextLine, longer, heard, stopped, lastHeard, logAfter}
 use Rattle.play.specs.Lines.{linesIn, linesOf, playedAll}
 use Rattle.play.proofs.Hearing.{cut-once}
 
 -- A line that is kept only as far as is enough to read it makes of the desk what the whole line does.
 pub clipped : (d : Desk) (line : List ℕ) → played d (take mostKept line) ≡ played d line
 unfolding played
-clipped d line = ap (λ (m : List ℕ). followed d m (orderOf (take mostKept line))) (clipped-map line) ∙ ap (followed d (mapOf line)) (clipped-order line)
+clipped d line = ap (λ (m : List ℕ). followed d m (orderOf (take mostKept line))) (clipped-map line) ∙ ap (followed d (mapGiven line)) (clipped-order line)
 
 -- And it prints what the whole line does.
 pub clipped-answer : (d : Desk) (n : ℕ) (line : List ℕ) → answered d n (take mostKept line) ≡ answered d n line
@@ -35,13 +34,13 @@ record Some (pieces : List (List ℕ)) : Type 0 where
   are : pieces ≡ first ∷ rest
 
 some : (v : List ℕ) → Some (pieces newline v)
-unfolding pieces Words.longer choose
+unfolding pieces beforeFirst choose
 some [] = record { first = []; rest = []; are = refl }
 some (b ∷ v) = by (eqb b newline) (some v)
   where
-    by : (t : Bool) → Some (pieces newline v) → Some (choose t ([] ∷ pieces newline v) (Words.longer b (pieces newline v)))
+    by : (t : Bool) → Some (pieces newline v) → Some (choose t ([] ∷ pieces newline v) (beforeFirst b (pieces newline v)))
     by true s = record { first = []; rest = pieces newline v; are = refl }
-    by false s = record { first = b ∷ s .first; rest = s .rest; are = ap (Words.longer b) (s .are) }
+    by false s = record { first = b ∷ s .first; rest = s .rest; are = ap (beforeFirst b) (s .are) }
 
 -- The pieces with the part of a line before them.
 unfoldable grown : List ℕ → List (List ℕ) → List (List ℕ)
@@ -88,24 +87,24 @@ told-newline ended part q l m n s h t =
     }
 
 -- At another byte the part grows.
-grown-more : (part : List ℕ) (b : ℕ) (q : List (List ℕ)) → Some q → grown (part ++ (b ∷ [])) q ≡ grown part (Words.longer b q)
-unfolding grown Words.longer
+grown-more : (part : List ℕ) (b : ℕ) (q : List (List ℕ)) → Some q → grown (part ++ (b ∷ [])) q ≡ grown part (beforeFirst b q)
+unfolding grown beforeFirst
 grown-more part b q s = rw (s .are) (ap (λ (w : List ℕ). w ∷ s .rest) (append-assoc part (b ∷ []) (s .first)))
 
 -- Input taken in, byte by byte.
 told : (ended : Bool) (v part : List ℕ) (l : Log) (n : ℕ) → l .line ≡ take mostKept part → l .lines ≡ n % 2 ^ 64
-    → Told (after l v ended) (l .desk) n (linesIn ended (grown part (pieces newline v)))
-unfolding heard after pieces grown choose
+    → Told (logAfter l v ended) (l .desk) n (linesIn ended (grown part (pieces newline v)))
+unfolding heard logAfter pieces grown choose
 told ended [] part l n h k =
     rw (append-nil part) (told-end ended part l n h k)
 told ended (b ∷ v) part l n h k = by (eqb b newline) (told ended v)
   where
     by : (t : Bool)
         → ((part : List ℕ) (l : Log) (n : ℕ) → l .line ≡ take mostKept part → l .lines ≡ n % 2 ^ 64
-        → Told (after l v ended) (l .desk) n (linesIn ended (grown part (pieces newline v))))
-        → Told (after (choose t (nextLine l) (longer l (b ∷ []))) v ended) (l .desk) n (linesIn ended (grown part (choose t ([] ∷ pieces newline v) (Words.longer b (pieces newline v)))))
+        → Told (logAfter l v ended) (l .desk) n (linesIn ended (grown part (pieces newline v))))
+        → Told (logAfter (choose t (nextLine l) (longer l (b ∷ []))) v ended) (l .desk) n (linesIn ended (grown part (choose t ([] ∷ pieces newline v) (beforeFirst b (pieces newline v)))))
     by true step =
-        told-newline ended part (pieces newline v) l (after (nextLine l) v ended) n (some v) h
+        told-newline ended part (pieces newline v) l (logAfter (nextLine l) v ended) n (some v) h
         (step [] (nextLine l) (n + 1) refl (ap (λ (x : ℕ). (x + 1) % 2 ^ 64) k ∙ mod-add-mod n (2 ^ 64) 1))
     by false step =
         rw (← grown-more part b (pieces newline v) (some v))
@@ -116,10 +115,10 @@ abbrev pub startOf : Desk → List ℕ → Log
 startOf d out = record { desk = d; line = []; lines = 0; ended = false; out = out }
 
 pub all-told : (ended : Bool) (input : List ℕ) (d : Desk) (out : List ℕ)
-    → (after (startOf d out) input ended .desk ≡ playedAll d (linesOf ended input)) × (after (startOf d out) input ended .lines ≡ length (linesOf ended input) % 2 ^ 64)
+    → (logAfter (startOf d out) input ended .desk ≡ playedAll d (linesOf ended input)) × (logAfter (startOf d out) input ended .lines ≡ length (linesOf ended input) % 2 ^ 64)
 unfolding linesOf grown
 all-told ended input d out =
     let s : Some (pieces newline input) = some input in
-    let t : Told (after (startOf d out) input ended) d 0 (linesIn ended (grown [] (pieces newline input))) = told ended input [] (startOf d out) 0 refl refl in
+    let t : Told (logAfter (startOf d out) input ended) d 0 (linesIn ended (grown [] (pieces newline input))) = told ended input [] (startOf d out) 0 refl refl in
     let e : grown [] (pieces newline input) ≡ pieces newline input = rw (s .are) in
     (t .desk ∙ ap (λ (w : List (List ℕ)). playedAll d (linesIn ended w)) e, t .count ∙ ap (λ (w : List (List ℕ)). (0 + length (linesIn ended w)) % 2 ^ 64) e ∙ ap (λ (x : ℕ). x % 2 ^ 64) (omega arith))

@@ -27,8 +27,8 @@ abbrev pub logOf : Session → List ℕ → List ℕ → Log
 logOf s line out = record { desk = s .desk; line = take (s .kept) line; lines = s .lines; ended = s .ended; out = out }
 
 -- The number of the line that is being read: lines are counted from 1, in 64 bits.
-abbrev pub numberOf : Log → ℕ
-numberOf l = (l .lines + 1) % 2 ^ 64
+abbrev pub lineNumber : Log → ℕ
+lineNumber l = (l .lines + 1) % 2 ^ 64
 
 -- The line ends: it is played, answered and counted, and the next one begins.
 abbrev pub nextLine : Log → Log
@@ -36,9 +36,9 @@ nextLine l =
     record {
       desk = played (l .desk) (l .line);
       line = [];
-      lines = numberOf l;
+      lines = lineNumber l;
       ended = l .ended;
-      out = over (answered (l .desk) (numberOf l) (l .line)) (l .out);
+      out = over (answered (l .desk) (lineNumber l) (l .line)) (l .out);
     }
 
 -- The line goes on, and is kept as far as is enough to read it.
@@ -70,10 +70,10 @@ unfoldable pub lastHeard : Log → Log
 lastHeard l = choose (eqb (length (l .line)) 0) (stopped l) (nextLine (stopped l))
 
 -- What some input makes of a log, its end included where the input has ended.
-unfoldable pub after : Log → List ℕ → Bool → Log
-after l input ended = choose ended (lastHeard (heard l input)) (heard l input)
+unfoldable pub logAfter : Log → List ℕ → Bool → Log
+logAfter l input ended = choose ended (lastHeard (heard l input)) (heard l input)
 
 -- One log comes of another: by some input, which is all that was read between them.
 pub record ComesOf (before now : Log) : Type 0 where
   pub input : List ℕ
-  pub is : now ≡ after before input (now .ended)
+  pub is : now ≡ logAfter before input (now .ended)

@@ -1,3 +1,2 @@
 -- The laws of the rows that other crates cite.
 pub mod Rows
-pub mod Feed

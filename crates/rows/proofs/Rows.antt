@@ -12,7 +12,7 @@ use Rattle.refusal.specs.declared.Verdict.{Verdict}
 use Rattle.refusal.specs.declared.Verdict.the-variants.{Accepted, SeatAbove, NotOpen, OpenAlready, JobZero, JobElsewhere, NoSuchPin, JournalFull, DeskBroken}
 use Rattle.refusal.proofs.Tests.{both-left, both-right, choose-yes, choose-no}
 use Rattle.refusal.proofs.Rows.{Row, firstOf, NoneHolds}
-use Rattle.drawing.specs.Pins.{pins}
+use Rattle.feed.specs.Feeds.{mostPins}
 use Rattle.pinmap.specs.Map.{wrongLength, readFrom, readMap}
 use Rattle.seats.specs.Seats.{jobAmong}
 use Rattle.rows.specs.Refusals.{Look, seatAbove, notThere, full, turnedClosing, turnedRemoving}
@@ -154,8 +154,8 @@ either-none true b e = e
 either-none false b e = refl
 
 -- Where a pin is there, its number is at most 31.
-pub number-there : (l : Look) (p : ℕ) → notThere l p ≡ false → p < pins
-number-there l p e = leb-false pins p (either-none _ _ e)
+pub number-there : (l : Look) (p : ℕ) → notThere l p ≡ false → p < mostPins
+number-there l p e = leb-false mostPins p (either-none _ _ e)
 
 -- Where removing is turned away, the journal having room, so is moving.
 pub there-stops : (l : Look) (p : ℕ) {v : Verdict} (rest : Verdict) → full l ≡ false → v ≡ turnedRemoving l p → accepted v ≡ false
@@ -172,7 +172,7 @@ module _ (l : Look) (p : ℕ) {v : Verdict} (room : full l ≡ false) (e : v ≡
   pub there-goes : {x rest : Verdict} → x ≡ rest → x ≡ firstOf (thereRows l p) rest
   there-goes f = go (thereRows l p) there-passed f
 
-  pub there-number : p < pins
+  pub there-number : p < mostPins
   unfolding NoneHolds
   there-number = number-there l p (there-passed .1 .1 .1 .0)
 

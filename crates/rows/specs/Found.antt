@@ -13,7 +13,7 @@ use Rattle.pinmap.specs.Map.{refusedBy, readMap, writeMap, bufferAfter}
 use Rattle.wiring.specs.declared.Laid.{Laid}
 use Rattle.wiring.specs.Answer.{wiringOf, turnedAway}
 use Rattle.journal.specs.declared.Record.{Record}
-use Rattle.journal.specs.Journal.{seats}
+use Rattle.journal.specs.Journal.{mostSeats}
 use Rattle.seats.specs.declared.Seat.{Seat}
 use Rattle.seats.specs.Seats.{closedSeat, noSeat}
 use Rattle.seats.specs.Sound.{soundAll}
@@ -23,11 +23,11 @@ use Rattle.rows.specs.Refusals.{Look, turnedOpening, turnedClosing}
 -- What a call finds on these seats and this journal: whether they are not sound, and the seat that it names, a closed one above 7.
 abbrev pub foundIn : List Seat → List Record → ℕ → ℕ → Found
 foundIn l journal used s =
-    record { broken = not (soundAll l journal used); number = s; seat = choose (leb seats s) closedSeat (getD l s noSeat) }
+    record { broken = not (soundAll l journal used); number = s; seat = choose (leb mostSeats s) closedSeat (getD l s noSeat) }
 
 -- What a row looks at where the journal has room: as if no record were used. The jobs matter to opening alone, the taken-back edits to redo alone.
-abbrev pub lookIn : Found → List ℕ → ℕ → Look
-lookIn f jobs takenBack =
+abbrev pub lookAtFound : Found → List ℕ → ℕ → Look
+lookAtFound f jobs takenBack =
     record {
       broken = f .broken;
       seat = f .number;
@@ -43,19 +43,19 @@ lookIn f jobs takenBack =
 -- Opening: 28, 1, 3, 4 and 5 as for an empty map, which is never turned away; then what reading the map comes to.
 unfoldable pub readingIn : Found → List ℕ → ℕ → List ℕ → Reading
 readingIn f jobs job map =
-    choose (accepted (turnedOpening (lookIn f jobs 0) job [])) (readMap map job) (refusedBy (turnedOpening (lookIn f jobs 0) job []))
+    choose (accepted (turnedOpening (lookAtFound f jobs 0) job [])) (readMap map job) (refusedBy (turnedOpening (lookAtFound f jobs 0) job []))
 
 -- Writing: 28, 1 and 2 as for closing; then what writing the drawing's map comes to.
 unfoldable pub writingIn : Found → List ℕ → Writing
 writingIn f buffer =
-    choose (accepted (turnedClosing (lookIn f [] 0))) (writeMap (f .seat .pins) (f .seat .job) buffer)
-    (record { verdict = turnedClosing (lookIn f [] 0); bytes = 0 })
+    choose (accepted (turnedClosing (lookAtFound f [] 0))) (writeMap (f .seat .pins) (f .seat .job) buffer)
+    (record { verdict = turnedClosing (lookAtFound f [] 0); bytes = 0 })
 
 -- The lent buffer after writing: as it was where the call is turned away by 28, 1 or 2.
 unfoldable pub bufferIn : Found → List ℕ → List ℕ
-bufferIn f buffer = choose (accepted (turnedClosing (lookIn f [] 0))) (bufferAfter (f .seat .pins) (f .seat .job) buffer) buffer
+bufferIn f buffer = choose (accepted (turnedClosing (lookAtFound f [] 0))) (bufferAfter (f .seat .pins) (f .seat .job) buffer) buffer
 
 -- Wiring a seat: 28, 1 and 2 as for closing; then the wiring of its drawing's feed, with room for so many legs.
 unfoldable pub laidIn : Found → ℕ → Laid
 laidIn f room =
-    choose (accepted (turnedClosing (lookIn f [] 0))) (wiringOf (feedOf (f .seat .pins)) room) (turnedAway (turnedClosing (lookIn f [] 0)))
+    choose (accepted (turnedClosing (lookAtFound f [] 0))) (wiringOf (feedOf (f .seat .pins)) room) (turnedAway (turnedClosing (lookAtFound f [] 0)))

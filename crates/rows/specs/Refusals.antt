@@ -11,11 +11,12 @@ use Rattle.refusal.specs.declared.Verdict.the-variants.{Accepted, SeatAbove, No
 use Rattle.grid.specs.declared.Place.{Place}
 use Rattle.grid.specs.Place.{inside}
 use Rattle.drawing.specs.declared.Pin.{Pin}
-use Rattle.drawing.specs.Pins.{pins, absent, isThere, crowded, feedOf}
+use Rattle.feed.specs.Feeds.{mostPins, crowded}
+use Rattle.drawing.specs.Pins.{absent, isThere, feedOf}
 use Rattle.drawing.specs.Edits.{standsAt}
 use Rattle.pinmap.specs.Map.{readMap, mapOf}
 use Rattle.wiring.specs.Answer.{wiringOf}
-use Rattle.journal.specs.Journal.{seats, records}
+use Rattle.journal.specs.Journal.{mostSeats, mostRecords}
 use Rattle.seats.specs.Seats.{jobAmong}
 
 -- What a call looks at: whether the desk is broken; of the seat that it names whether it is open, its job, pins, standing and
@@ -33,7 +34,7 @@ pub record Look : Type 0 where
 
 -- The seat is above 7.
 abbrev pub seatAbove : Look → Bool
-seatAbove l = leb seats (l .seat)
+seatAbove l = leb mostSeats (l .seat)
 
 -- What the drawing has at a pin number.
 abbrev pub pinAt : Look → ℕ → Pin
@@ -41,11 +42,11 @@ pinAt l p = getD (l .pins) p absent
 
 -- The pin is above 31, or not there.
 abbrev pub notThere : Look → ℕ → Bool
-notThere l p = either (leb pins p) (not (isThere (pinAt l p)))
+notThere l p = either (leb mostPins p) (not (isThere (pinAt l p)))
 
 -- Used records, less this seat's taken-back ones, are 256.
 abbrev pub full : Look → Bool
-full l = eqb (l .used - l .takenBack) records
+full l = eqb (l .used - l .takenBack) mostRecords
 
 -- Opening: 28, 1, 3, 4, 5, 13, then the first faulty record, 14 before 15.
 unfoldable pub turnedOpening : Look → ℕ → List ℕ → Verdict
@@ -70,10 +71,10 @@ turnedPlacing l p at =
     turn (l .broken) DeskBroken
     (turn (seatAbove l) SeatAbove
     (turn (not (l .opened)) NotOpen
-    (turn (leb pins p) NoSuchPin
+    (turn (leb mostPins p) NoSuchPin
     (turn (isThere (pinAt l p)) PinThere
     (turn (not (inside at)) Outside
-    (turn (crowded (l .pins) p at) PlaceTaken
+    (turn (crowded (feedOf (l .pins)) p at) PlaceTaken
     (turn (full l) JournalFull Accepted)))))))
 
 -- Moving: 28, 1, 2, 6, 8, 9, 12. A move to the place where the pin already stands is 9.
@@ -84,7 +85,7 @@ turnedMoving l p at =
     (turn (not (l .opened)) NotOpen
     (turn (notThere l p) NoSuchPin
     (turn (not (inside at)) Outside
-    (turn (either (standsAt (pinAt l p) at) (crowded (l .pins) p at)) PlaceTaken
+    (turn (either (standsAt (pinAt l p) at) (crowded (feedOf (l .pins)) p at)) PlaceTaken
     (turn (full l) JournalFull Accepted))))))
 
 -- Removing: 28, 1, 2, 6, 12.

@@ -1,5 +1,5 @@
 // Rows of refusals: what a call finds at the seat that it names, for each call its row in document 01's order over that, and what opening reads, writing writes and wiring answers.
-use drawing::PINS;
+use feed::PINS;
 use grid::Place;
 use journal::RECORDS;
 use journal::Record;
@@ -15,10 +15,10 @@ ghost use mathlib.Core.List.{[]};
 ghost use Prim.Native.Nat.{_-_, _≤_};
 ghost use lib.ListN.{length, take};
 ghost use Rattle.drawing.specs.Pins.{lawful};
-ghost use Rattle.journal.specs.Journal.{records, own};
+ghost use Rattle.journal.specs.Journal.{mostRecords, own};
 ghost use Rattle.seats.specs.Seats.{jobsIn};
 ghost use Rattle.rows.specs.Refusals.{turnedOpening, turnedClosing, turnedPlacing, turnedMoving, turnedRemoving, turnedUndoing, turnedRedoing};
-ghost use Rattle.rows.specs.Found.{foundIn, lookIn, readingIn, writingIn, bufferIn, laidIn};
+ghost use Rattle.rows.specs.Found.{foundIn, lookAtFound, readingIn, writingIn, bufferIn, laidIn};
 
 // What a call finds: whether the desk is broken, the number of the seat that it names, and that seat, a closed one where none has that number.
 pub struct Found {
@@ -50,7 +50,7 @@ pub fn find(seats: [Seat; SEATS], journal: [Record; RECORDS], used: usize, numbe
 
 // Closing, and what all calls but opening are turned away by first: 28, 1, 2.
 pub fn turned_closing(found: Found) -> Verdict
-    ensures { λ r. ⌜ r ≡ turnedClosing (lookIn found [] 0) ⌝ }
+    ensures { λ r. ⌜ r ≡ turnedClosing (lookAtFound found [] 0) ⌝ }
 {
     if found.broken {
         return Verdict::DeskBroken;
@@ -68,7 +68,7 @@ pub fn turned_closing(found: Found) -> Verdict
 
 // Placing, where the journal has room: 28, 1, 2, 6, 7, 8, 9.
 pub fn turned_placing(found: Found, pin: usize, at: Place) -> Verdict
-    ensures { λ r. ⌜ r ≡ turnedPlacing (lookIn found [] 0) pin at ⌝ }
+    ensures { λ r. ⌜ r ≡ turnedPlacing (lookAtFound found [] 0) pin at ⌝ }
 {
     let verdict = turned_closing(found);
     if !refusal::is_accepted(verdict) {
@@ -95,7 +95,7 @@ pub fn turned_placing(found: Found, pin: usize, at: Place) -> Verdict
 
 // Removing, where the journal has room, and what moving is turned away by first: 28, 1, 2, 6.
 pub fn turned_removing(found: Found, pin: usize) -> Verdict
-    ensures { λ r. ⌜ r ≡ turnedRemoving (lookIn found [] 0) pin ⌝ }
+    ensures { λ r. ⌜ r ≡ turnedRemoving (lookAtFound found [] 0) pin ⌝ }
 {
     let verdict = turned_closing(found);
     if !refusal::is_accepted(verdict) {
@@ -116,7 +116,7 @@ pub fn turned_removing(found: Found, pin: usize) -> Verdict
 
 // Moving, where the journal has room: 28, 1, 2, 6, 8, 9.
 pub fn turned_moving(found: Found, pin: usize, to: Place) -> Verdict
-    ensures { λ r. ⌜ r ≡ turnedMoving (lookIn found [] 0) pin to ⌝ }
+    ensures { λ r. ⌜ r ≡ turnedMoving (lookAtFound found [] 0) pin to ⌝ }
 {
     let verdict = turned_removing(found, pin);
     if !refusal::is_accepted(verdict) {
@@ -140,7 +140,7 @@ pub fn turned_moving(found: Found, pin: usize, to: Place) -> Verdict
 
 // Undo: 28, 1, 2, 10.
 pub fn turned_undoing(found: Found) -> Verdict
-    ensures { λ r. ⌜ r ≡ turnedUndoing (lookIn found [] 0) ⌝ }
+    ensures { λ r. ⌜ r ≡ turnedUndoing (lookAtFound found [] 0) ⌝ }
 {
     let verdict = turned_closing(found);
     if !refusal::is_accepted(verdict) {
@@ -156,8 +156,8 @@ pub fn turned_undoing(found: Found) -> Verdict
 
 // Redo: 28, 1, 2, 11.
 pub fn turned_redoing(found: Found, journal: [Record; RECORDS], used: usize) -> Verdict
-    requires { ⌜ (found .broken ≡ false → used ≤ records) ⌝ }
-    ensures { λ r. ⌜ r ≡ turnedRedoing (lookIn found [] (length (own (found .number) (take used journal)) - found .seat .standing)) ⌝ }
+    requires { ⌜ (found .broken ≡ false → used ≤ mostRecords) ⌝ }
+    ensures { λ r. ⌜ r ≡ turnedRedoing (lookAtFound found [] (length (own (found .number) (take used journal)) - found .seat .standing)) ⌝ }
 {
     let verdict = turned_closing(found);
     if !refusal::is_accepted(verdict) {
@@ -174,7 +174,7 @@ pub fn turned_redoing(found: Found, journal: [Record; RECORDS], used: usize) -> 
 
 // Opening, up to the map: 28, 1, 3, 4, 5.
 fn turned_opening(found: Found, seats: [Seat; SEATS], job: u16) -> Verdict
-    ensures { λ r. ⌜ r ≡ turnedOpening (lookIn found (jobsIn seats) 0) job [] ⌝ }
+    ensures { λ r. ⌜ r ≡ turnedOpening (lookAtFound found (jobsIn seats) 0) job [] ⌝ }
 {
     if found.broken {
         return Verdict::DeskBroken;
@@ -198,7 +198,7 @@ fn turned_opening(found: Found, seats: [Seat; SEATS], job: u16) -> Verdict
 }
 
 // Opening: 28, 1, 3, 4, 5, then what reading the map says, 13, 14 or 15; and the pins, where none applies.
-pub fn opening(found: Found, seats: [Seat; SEATS], job: u16, map: &[u8]) -> Reading
+pub fn map_read(found: Found, seats: [Seat; SEATS], job: u16, map: &[u8]) -> Reading
     ensures { λ r. ⌜ r ≡ readingIn found (jobsIn seats) job (now (map .entry)) ⌝ }
 {
     let verdict = turned_opening(found, seats, job);
@@ -211,7 +211,7 @@ pub fn opening(found: Found, seats: [Seat; SEATS], job: u16, map: &[u8]) -> Read
 }
 
 // Writing: 28, 1, 2, 19; the map into the lent buffer, and the number of bytes, where none applies.
-pub fn writing(found: Found, buffer: &mut [u8]) -> Writing
+pub fn map_written(found: Found, buffer: &mut [u8]) -> Writing
     ensures { λ r. ⌜ r ≡ writingIn found (now (buffer .entry)) ⌝ }
     ensures { λ _. ⌜ now (buffer .exit) ≡ bufferIn found (now (buffer .entry)) ⌝ }
 {
@@ -226,7 +226,7 @@ pub fn writing(found: Found, buffer: &mut [u8]) -> Writing
 }
 
 // Wiring a seat, with room for so many legs: 28, 1, 2, then what wiring the drawing's feed answers, 17, 18 or 19 among it.
-pub fn wiring(found: Found, room: usize) -> Laid
+pub fn feed_wired(found: Found, room: usize) -> Laid
     requires { ⌜ (found .broken ≡ false → found .seat .opened ≡ true → lawful (found .seat .pins) ≡ true) ⌝ }
     ensures { λ r. ⌜ r ≡ laidIn found room ⌝ }
 {
@@ -234,7 +234,7 @@ pub fn wiring(found: Found, room: usize) -> Laid
     if refusal::is_accepted(verdict) {
         let seat = found.seat;
         let pins = seat.pins;
-        let feed = drawing::feed(pins);
+        let feed = drawing::feed_of(pins);
         wiring::wire_feed(feed, room)
     } else {
         wiring::refused(verdict)

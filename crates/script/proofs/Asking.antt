@@ -12,8 +12,8 @@ use borrow.Author.Tests.{eq-eqb, ne-eqb, eqb-true, lt-ltb, le-ltb}
 use Rattle.refusal.specs.Tests.{both, either, choose}
 use Rattle.grid.specs.declared.Place.{Place}
 use Rattle.script.specs.Text.{text, same, over}
-use Rattle.script.specs.Numbers.{most, mostJob, valueOf, isNumber, numberOf, isCoordinate, signed, listed, isList, bytesOf, isMap}
-use Rattle.script.specs.Orders.{mostRoom, mostLegsLent, only, seatCall, pairCall, isOpening, isBaring, opening, baring, lentCall, isPlacing, placeOf, placingOf, placeCall, callOf, isSkipped, asked, isLong, orderOf, mapIn, listIn, mapAsked, listAsked, mapOf, acrossOf, upOf}
+use Rattle.script.specs.Numbers.{mostNumber, mostJob, valueOf, isNumber, numberOf, isCoordinate, signed, listed, isList, bytesOf, isMap}
+use Rattle.script.specs.Orders.{mostRoom, mostLegsLent, only, seatCall, pairCall, isOpenCall, isBareCall, openCall, bareCall, lentCall, isPlacing, placeRead, placingOf, placeCall, callOf, isSkipped, asked, isLong, orderOf, mapIn, listIn, mapAsked, listAsked, mapGiven, xsGiven, ysGiven}
 use Rattle.script.specs.Words.{endOf, withoutReturn, wordsOf, word, partOf, cutOf}
 use Rattle.script.specs.declared.Cut.{Cut}
 use Rattle.grid.proofs.Signed.{eqb-same}
@@ -50,16 +50,16 @@ both-yes h e = rw h e
 
 -- Calls of two words.
 module _ (name a : List ℕ) where
-  pub seat-unread : Number.NotOne ≡ numberOf most a → Order.NotACall ≡ seatCall name a
+  pub seat-unread : Number.NotOne ≡ numberOf mostNumber a → Order.NotACall ≡ seatCall name a
   unfolding seatCall
-  seat-unread e = only-no _ (number-unread most a e)
+  seat-unread e = only-no _ (number-unread mostNumber a e)
 
-  module _ {s : ℕ} (e : Number.Of s ≡ numberOf most a) where
-    given : isNumber most a ≡ true
-    given = number-read most a e .0
+  module _ {s : ℕ} (e : Number.Of s ≡ numberOf mostNumber a) where
+    given : isNumber mostNumber a ≡ true
+    given = number-read mostNumber a e .0
 
     value : s ≡ valueOf a
-    value = number-read most a e .1
+    value = number-read mostNumber a e .1
 
     pub seat-close : same name (text "close") ≡ true → Order.Close s ≡ seatCall name a
     unfolding seatCall
@@ -83,32 +83,32 @@ module _ (name a : List ℕ) where
 
 -- Calls of three words.
 module _ (name a b : List ℕ) where
-  pub pair-unread : Number.NotOne ≡ numberOf most a → Order.NotACall ≡ pairCall name a b
+  pub pair-unread : Number.NotOne ≡ numberOf mostNumber a → Order.NotACall ≡ pairCall name a b
   unfolding pairCall
-  pair-unread e = only-no _ (number-unread most a e)
+  pair-unread e = only-no _ (number-unread mostNumber a e)
 
-  module _ {s : ℕ} (e : Number.Of s ≡ numberOf most a) {o : Order} where
-    pub pair-remove : same name (text "remove") ≡ true → o ≡ only (isNumber most b) (Order.Remove s (valueOf b)) → o ≡ pairCall name a b
+  module _ {s : ℕ} (e : Number.Of s ≡ numberOf mostNumber a) {o : Order} where
+    pub pair-remove : same name (text "remove") ≡ true → o ≡ only (isNumber mostNumber b) (Order.Remove s (valueOf b)) → o ≡ pairCall name a b
     unfolding pairCall
     pair-remove h k =
-        only-yes (number-read most a e .0)
-        (row-yes _ h (k ∙ ap (λ (n : ℕ). only (isNumber most b) (Order.Remove n (valueOf b))) (number-read most a e .1)))
+        only-yes (number-read mostNumber a e .0)
+        (row-yes _ h (k ∙ ap (λ (n : ℕ). only (isNumber mostNumber b) (Order.Remove n (valueOf b))) (number-read mostNumber a e .1)))
 
     pub pair-write : same name (text "remove") ≡ false → same name (text "write") ≡ true → o ≡ only (isNumber mostRoom b) (Order.Write s (valueOf b)) → o ≡ pairCall name a b
     unfolding pairCall
     pair-write h i k =
-        only-yes (number-read most a e .0)
-        (row-no _ h (row-yes _ i (k ∙ ap (λ (n : ℕ). only (isNumber mostRoom b) (Order.Write n (valueOf b))) (number-read most a e .1))))
+        only-yes (number-read mostNumber a e .0)
+        (row-no _ h (row-yes _ i (k ∙ ap (λ (n : ℕ). only (isNumber mostRoom b) (Order.Write n (valueOf b))) (number-read mostNumber a e .1))))
 
     pub pair-wire : same name (text "remove") ≡ false → same name (text "write") ≡ false → same name (text "wire") ≡ true → o ≡ only (isNumber mostLegsLent b) (Order.Wire s (valueOf b)) → o ≡ pairCall name a b
     unfolding pairCall
     pair-wire h i j k =
-        only-yes (number-read most a e .0)
-        (row-no _ h (row-no _ i (row-yes _ j (k ∙ ap (λ (n : ℕ). only (isNumber mostLegsLent b) (Order.Wire n (valueOf b))) (number-read most a e .1)))))
+        only-yes (number-read mostNumber a e .0)
+        (row-no _ h (row-no _ i (row-yes _ j (k ∙ ap (λ (n : ℕ). only (isNumber mostLegsLent b) (Order.Wire n (valueOf b))) (number-read mostNumber a e .1)))))
 
-  pub pair-none : {s : ℕ} → Number.Of s ≡ numberOf most a → same name (text "remove") ≡ false → same name (text "write") ≡ false → same name (text "wire") ≡ false → Order.NotACall ≡ pairCall name a b
+  pub pair-none : {s : ℕ} → Number.Of s ≡ numberOf mostNumber a → same name (text "remove") ≡ false → same name (text "write") ≡ false → same name (text "wire") ≡ false → Order.NotACall ≡ pairCall name a b
   unfolding pairCall
-  pair-none e h i j = only-yes (number-read most a e .0) (row-no _ h (row-no _ i (row-no _ j refl)))
+  pair-none e h i j = only-yes (number-read mostNumber a e .0) (row-no _ h (row-no _ i (row-no _ j refl)))
 
 -- A test that leaves a buffer as it is, and one that fills it.
 pub kept : {A : Type 0} {t : Bool} {old : List A} (new : List A) → t ≡ false → old ≡ over (choose t new []) old
@@ -121,51 +121,51 @@ filled-by new old h e = rw h e
 
 -- open SEAT JOB MAP
 module _ (a b c : List ℕ) where
-  pub open-no : isOpening a b c ≡ false → Order.NotACall ≡ opening a b c
-  unfolding opening
+  pub open-no : isOpenCall a b c ≡ false → Order.NotACall ≡ openCall a b c
+  unfolding openCall
   open-no h = only-no _ h
 
-  pub open-seat : Number.NotOne ≡ numberOf most a → isOpening a b c ≡ false
-  unfolding isOpening
-  open-seat e = both-first-no _ (number-unread most a e)
+  pub open-seat : Number.NotOne ≡ numberOf mostNumber a → isOpenCall a b c ≡ false
+  unfolding isOpenCall
+  open-seat e = both-first-no _ (number-unread mostNumber a e)
 
-  module _ {s : ℕ} (e : Number.Of s ≡ numberOf most a) where
-    pub open-job : Number.NotOne ≡ numberOf mostJob b → isOpening a b c ≡ false
-    unfolding isOpening
-    open-job f = both-yes (number-read most a e .0) (both-first-no _ (number-unread mostJob b f))
+  module _ {s : ℕ} (e : Number.Of s ≡ numberOf mostNumber a) where
+    pub open-job : Number.NotOne ≡ numberOf mostJob b → isOpenCall a b c ≡ false
+    unfolding isOpenCall
+    open-job f = both-yes (number-read mostNumber a e .0) (both-first-no _ (number-unread mostJob b f))
 
     module _ {j : ℕ} (f : Number.Of j ≡ numberOf mostJob b) where
-      pub open-map : {t : Bool} → isMap c ≡ t → isOpening a b c ≡ t
-      unfolding isOpening
-      open-map h = both-yes (number-read most a e .0) (both-yes (number-read mostJob b f .0) h)
+      pub open-map : {t : Bool} → isMap c ≡ t → isOpenCall a b c ≡ t
+      unfolding isOpenCall
+      open-map h = both-yes (number-read mostNumber a e .0) (both-yes (number-read mostJob b f .0) h)
 
-      pub open-yes : {n : ℕ} → isMap c ≡ true → n ≡ length (bytesOf c) → Order.Open s j n ≡ opening a b c
-      unfolding opening
+      pub open-yes : {n : ℕ} → isMap c ≡ true → n ≡ length (bytesOf c) → Order.Open s j n ≡ openCall a b c
+      unfolding openCall
       open-yes {n} h k =
           only-yes (open-map h)
-          (λ i. Order.Open (number-read most a e .1 i) (number-read mostJob b f .1 i) (k i))
+          (λ i. Order.Open (number-read mostNumber a e .1 i) (number-read mostJob b f .1 i) (k i))
 
 -- bare ROOM XS YS
 module _ (a b c : List ℕ) where
-  pub bare-no : isBaring a b c ≡ false → Order.NotACall ≡ baring a b c
-  unfolding baring
+  pub bare-no : isBareCall a b c ≡ false → Order.NotACall ≡ bareCall a b c
+  unfolding bareCall
   bare-no h = only-no _ h
 
-  pub bare-room : Number.NotOne ≡ numberOf mostLegsLent a → isBaring a b c ≡ false
-  unfolding isBaring
+  pub bare-room : Number.NotOne ≡ numberOf mostLegsLent a → isBareCall a b c ≡ false
+  unfolding isBareCall
   bare-room e = both-first-no _ (number-unread mostLegsLent a e)
 
   module _ {s : ℕ} (e : Number.Of s ≡ numberOf mostLegsLent a) where
-    pub bare-across : isList b ≡ false → isBaring a b c ≡ false
-    unfolding isBaring
+    pub bare-across : isList b ≡ false → isBareCall a b c ≡ false
+    unfolding isBareCall
     bare-across h = both-yes (number-read mostLegsLent a e .0) (both-first-no _ h)
 
-    pub bare-up : {t : Bool} → isList b ≡ true → isList c ≡ t → isBaring a b c ≡ t
-    unfolding isBaring
+    pub bare-up : {t : Bool} → isList b ≡ true → isList c ≡ t → isBareCall a b c ≡ t
+    unfolding isBareCall
     bare-up h k = both-yes (number-read mostLegsLent a e .0) (both-yes h k)
 
-    pub bare-yes : {m n : ℕ} → isList b ≡ true → isList c ≡ true → m ≡ length (listed b) → n ≡ length (listed c) → Order.Bare s m n ≡ baring a b c
-    unfolding baring
+    pub bare-yes : {m n : ℕ} → isList b ≡ true → isList c ≡ true → m ≡ length (listed b) → n ≡ length (listed c) → Order.Bare s m n ≡ bareCall a b c
+    unfolding bareCall
     bare-yes h k p q = only-yes (bare-up h k) (λ i. Order.Bare (number-read mostLegsLent a e .1 i) (p i) (q i))
 
 -- SEAT PIN X Y
@@ -174,19 +174,19 @@ module _ (a b c d : List ℕ) where
   unfolding placingOf choose
   placing-not h = rw h
 
-  pub placing-seat : Number.NotOne ≡ numberOf most a → Placing.Unread ≡ placingOf a b c d
+  pub placing-seat : Number.NotOne ≡ numberOf mostNumber a → Placing.Unread ≡ placingOf a b c d
   unfolding isPlacing
-  placing-seat e = placing-not (both-first-no _ (number-unread most a e))
+  placing-seat e = placing-not (both-first-no _ (number-unread mostNumber a e))
 
-  module _ {s : ℕ} (e : Number.Of s ≡ numberOf most a) where
-    pub placing-pin : Number.NotOne ≡ numberOf most b → Placing.Unread ≡ placingOf a b c d
+  module _ {s : ℕ} (e : Number.Of s ≡ numberOf mostNumber a) where
+    pub placing-pin : Number.NotOne ≡ numberOf mostNumber b → Placing.Unread ≡ placingOf a b c d
     unfolding isPlacing
-    placing-pin f = placing-not (both-yes (number-read most a e .0) (both-first-no _ (number-unread most b f)))
+    placing-pin f = placing-not (both-yes (number-read mostNumber a e .0) (both-first-no _ (number-unread mostNumber b f)))
 
-    module _ {p : ℕ} (f : Number.Of p ≡ numberOf most b) where
+    module _ {p : ℕ} (f : Number.Of p ≡ numberOf mostNumber b) where
       placing-by : {t : Bool} → both (isCoordinate c) (isCoordinate d) ≡ t → isPlacing a b c d ≡ t
       unfolding isPlacing
-      placing-by h = both-yes (number-read most a e .0) (both-yes (number-read most b f .0) h)
+      placing-by h = both-yes (number-read mostNumber a e .0) (both-yes (number-read mostNumber b f .0) h)
 
       pub placing-x : isCoordinate c ≡ false → Placing.Unread ≡ placingOf a b c d
       placing-x h = placing-not (placing-by (both-first-no _ h))
@@ -198,21 +198,21 @@ module _ (a b c d : List ℕ) where
       unfolding placingOf choose
       placing-yes h k u v =
           rw (placing-by (both-yes h k))
-          (λ i. Placing.Of (number-read most a e .1 i) (number-read most b f .1 i) (record { x = u i; y = v i }))
+          (λ i. Placing.Of (number-read mostNumber a e .1 i) (number-read mostNumber b f .1 i) (record { x = u i; y = v i }))
 
   pub placing-unread : Placing.Unread ≡ placingOf a b c d → isPlacing a b c d ≡ false
   unfolding placingOf choose
   placing-unread e = by (isPlacing a b c d) refl e
     where
-      by : (t : Bool) → isPlacing a b c d ≡ t → Placing.Unread ≡ choose t (Placing.Of (valueOf a) (valueOf b) (placeOf c d)) Placing.Unread → isPlacing a b c d ≡ false
+      by : (t : Bool) → isPlacing a b c d ≡ t → Placing.Unread ≡ choose t (Placing.Of (valueOf a) (valueOf b) (placeRead c d)) Placing.Unread → isPlacing a b c d ≡ false
       by true h k = let z : _≡_ {A = ℕ} 0 1 = cc in absurd (omega arith)
       by false h k = h
 
-  pub placing-read : {s p : ℕ} {at : Place} → Placing.Of s p at ≡ placingOf a b c d → (isPlacing a b c d ≡ true) × (s ≡ valueOf a) × (p ≡ valueOf b) × (at ≡ placeOf c d)
+  pub placing-read : {s p : ℕ} {at : Place} → Placing.Of s p at ≡ placingOf a b c d → (isPlacing a b c d ≡ true) × (s ≡ valueOf a) × (p ≡ valueOf b) × (at ≡ placeRead c d)
   unfolding placingOf choose
   placing-read {s} {p} {at} e = by (isPlacing a b c d) refl e
     where
-      by : (t : Bool) → isPlacing a b c d ≡ t → Placing.Of s p at ≡ choose t (Placing.Of (valueOf a) (valueOf b) (placeOf c d)) Placing.Unread → (isPlacing a b c d ≡ true) × (s ≡ valueOf a) × (p ≡ valueOf b) × (at ≡ placeOf c d)
+      by : (t : Bool) → isPlacing a b c d ≡ t → Placing.Of s p at ≡ choose t (Placing.Of (valueOf a) (valueOf b) (placeRead c d)) Placing.Unread → (isPlacing a b c d ≡ true) × (s ≡ valueOf a) × (p ≡ valueOf b) × (at ≡ placeRead c d)
       by true h k = (h, cc, cc, cc)
       by false h k = let z : _≡_ {A = ℕ} 0 1 = cc in absurd (omega arith)
 
@@ -277,11 +277,11 @@ skipped-other w h = (differs w (text "open") h refl, differs w (text "bare") h r
 
 -- Calls of four words, and what they put into the buffers.
 module _ (name a b c : List ℕ) where
-  pub lent-open : {o : Order} → same name (text "open") ≡ true → o ≡ opening a b c → o ≡ lentCall name a b c
+  pub lent-open : {o : Order} → same name (text "open") ≡ true → o ≡ openCall a b c → o ≡ lentCall name a b c
   unfolding lentCall
   lent-open h e = row-yes _ h e
 
-  pub lent-bare : {o : Order} → same name (text "open") ≡ false → same name (text "bare") ≡ true → o ≡ baring a b c → o ≡ lentCall name a b c
+  pub lent-bare : {o : Order} → same name (text "open") ≡ false → same name (text "bare") ≡ true → o ≡ bareCall a b c → o ≡ lentCall name a b c
   unfolding lentCall
   lent-bare h k e = row-no _ h (row-yes _ k e)
 
@@ -289,7 +289,7 @@ module _ (name a b c : List ℕ) where
   unfolding lentCall
   lent-none h k = row-no _ h (row-no _ k refl)
 
-  pub map-open : same name (text "open") ≡ true → choose (isOpening a b c) (bytesOf c) [] ≡ mapIn name a b c
+  pub map-open : same name (text "open") ≡ true → choose (isOpenCall a b c) (bytesOf c) [] ≡ mapIn name a b c
   unfolding mapIn both
   map-open h = rw h
 
@@ -297,7 +297,7 @@ module _ (name a b c : List ℕ) where
   unfolding mapIn both choose
   map-other h = rw h
 
-  pub list-bare : (l : List ℕ) → same name (text "bare") ≡ true → choose (isBaring a b c) (listed l) [] ≡ listIn name a b c l
+  pub list-bare : (l : List ℕ) → same name (text "bare") ≡ true → choose (isBareCall a b c) (listed l) [] ≡ listIn name a b c l
   unfolding listIn both
   list-bare l h = rw h
 
@@ -435,16 +435,16 @@ module _ (l : List ℕ) {end : ℕ} (h : end ≡ endOf l) where
   unfolding orderOf choose
   long-order k = rw (long k)
 
-  pub long-map : 16384 < end → [] ≡ mapOf l
-  unfolding mapOf choose
+  pub long-map : 16384 < end → [] ≡ mapGiven l
+  unfolding mapGiven choose
   long-map k = rw (long k)
 
-  pub long-across : 16384 < end → [] ≡ acrossOf l
-  unfolding acrossOf choose
+  pub long-across : 16384 < end → [] ≡ xsGiven l
+  unfolding xsGiven choose
   long-across k = rw (long k)
 
-  pub long-up : 16384 < end → [] ≡ upOf l
-  unfolding upOf choose
+  pub long-up : 16384 < end → [] ≡ ysGiven l
+  unfolding ysGiven choose
   long-up k = rw (long k)
 
   -- What a line that is not too long gives, by its words.
@@ -452,14 +452,14 @@ module _ (l : List ℕ) {end : ℕ} (h : end ≡ endOf l) where
   unfolding orderOf choose
   line-order k = rw (short k, text-is)
 
-  pub line-map : end ≤ 16384 → mapAsked (wordsOf (take end l)) ≡ mapOf l
-  unfolding mapOf choose
+  pub line-map : end ≤ 16384 → mapAsked (wordsOf (take end l)) ≡ mapGiven l
+  unfolding mapGiven choose
   line-map k = rw (short k, text-is)
 
-  pub line-across : end ≤ 16384 → listAsked 2 (wordsOf (take end l)) ≡ acrossOf l
-  unfolding acrossOf choose
+  pub line-across : end ≤ 16384 → listAsked 2 (wordsOf (take end l)) ≡ xsGiven l
+  unfolding xsGiven choose
   line-across k = rw (short k, text-is)
 
-  pub line-up : end ≤ 16384 → listAsked 3 (wordsOf (take end l)) ≡ upOf l
-  unfolding upOf choose
+  pub line-up : end ≤ 16384 → listAsked 3 (wordsOf (take end l)) ≡ ysGiven l
+  unfolding ysGiven choose
   line-up k = rw (short k, text-is)

@@ -10,7 +10,7 @@ use lib.ListN.{length, take, drop, getD, length-append, length-take}
 use lib.Seq.{take-all, length-take-le, take-at, take-append-add, sets, sets-eq}
 use Rattle.refusal.specs.Tests.{choose}
 use Rattle.script.specs.Words.{endOf}
-use Rattle.script.specs.Orders.{mostKept, orderOf, mapOf, acrossOf, upOf}
+use Rattle.script.specs.Orders.{mostKept, orderOf, mapGiven, xsGiven, ysGiven}
 use Rattle.script.proofs.Steps.{order}
 use Rattle.script.proofs.Asking.{long-order, long-map, long-across, long-up}
 
@@ -36,14 +36,14 @@ clipped f z same l = by (order (length l) mostKept)
 pub clipped-order : (l : List ℕ) → orderOf (take mostKept l) ≡ orderOf l
 clipped-order l = clipped orderOf _ (λ l h. long-order l refl h) l
 
-pub clipped-map : (l : List ℕ) → mapOf (take mostKept l) ≡ mapOf l
-clipped-map l = clipped mapOf [] (λ l h. long-map l refl h) l
+pub clipped-map : (l : List ℕ) → mapGiven (take mostKept l) ≡ mapGiven l
+clipped-map l = clipped mapGiven [] (λ l h. long-map l refl h) l
 
-pub clipped-across : (l : List ℕ) → acrossOf (take mostKept l) ≡ acrossOf l
-clipped-across l = clipped acrossOf [] (λ l h. long-across l refl h) l
+pub clipped-across : (l : List ℕ) → xsGiven (take mostKept l) ≡ xsGiven l
+clipped-across l = clipped xsGiven [] (λ l h. long-across l refl h) l
 
-pub clipped-up : (l : List ℕ) → upOf (take mostKept l) ≡ upOf l
-clipped-up l = clipped upOf [] (λ l h. long-up l refl h) l
+pub clipped-up : (l : List ℕ) → ysGiven (take mostKept l) ≡ ysGiven l
+clipped-up l = clipped ysGiven [] (λ l h. long-up l refl h) l
 
 -- What is kept of a line with more bytes after it.
 pub keeping : (old bytes : List ℕ) (kept : ℕ) → kept ≤ mostKept → length old ≡ mostKept

@@ -13,7 +13,7 @@ use borrow.Author.Tests.{eq-eqb, ne-eqb}
 use Rattle.bytes.specs.Bytes.{indexOf, indexAfter, slice}
 use Rattle.refusal.specs.Tests.{choose, both}
 use Rattle.script.specs.Text.{same}
-use Rattle.script.specs.Words.{space, endOf, longer, pieces, filled, wordsOf, word, spacesOf, startAt, stopAt, wordAt, partOf, afterWords, spanOf, cutOf}
+use Rattle.script.specs.Words.{space, endOf, beforeFirst, pieces, nonEmpty, wordsOf, word, spacesOf, startAt, stopAt, wordAt, partOf, afterWords, spanOf, cutOf}
 use Rattle.script.specs.declared.Span.{Span}
 use Rattle.script.specs.declared.Cut.{Cut}
 use Rattle.script.proofs.Steps.{front, spent, chosen, passed}
@@ -126,18 +126,18 @@ unfolding stopAt
 stop-from s l at = omega arith
 
 -- The bytes before the first separator are the first piece.
-first-longer : (b : ℕ) (ps : List (List ℕ)) → getD (longer b ps) 0 [] ≡ b ∷ getD ps 0 []
-unfolding longer
+first-longer : (b : ℕ) (ps : List (List ℕ)) → getD (beforeFirst b ps) 0 [] ≡ b ∷ getD ps 0 []
+unfolding beforeFirst
 first-longer b [] = refl
 first-longer b (p ∷ ps) = refl
 
-rest-longer : (b : ℕ) (ps : List (List ℕ)) → drop 1 (longer b ps) ≡ drop 1 ps
-unfolding longer
+rest-longer : (b : ℕ) (ps : List (List ℕ)) → drop 1 (beforeFirst b ps) ≡ drop 1 ps
+unfolding beforeFirst
 rest-longer b [] = refl
 rest-longer b (p ∷ ps) = refl
 
 first-by : (s b : ℕ) (rest : List ℕ) (t : Bool) → getD (pieces s rest) 0 [] ≡ take (indexOf s rest) rest
-    → getD (choose t ([] ∷ pieces s rest) (longer b (pieces s rest))) 0 [] ≡ take (indexAfter t (indexOf s rest)) (b ∷ rest)
+    → getD (choose t ([] ∷ pieces s rest) (beforeFirst b (pieces s rest))) 0 [] ≡ take (indexAfter t (indexOf s rest)) (b ∷ rest)
 unfolding choose indexAfter
 first-by s b rest true e = refl
 first-by s b rest false e = first-longer b (pieces s rest) ∙ ap (λ (p : List ℕ). b ∷ p) e
@@ -150,7 +150,7 @@ first-piece s (b ∷ rest) = first-by s b rest (eqb b s) (first-piece s rest)
 -- What follows the first separator holds the other pieces; where there is none, there are none.
 after-by : (s b : ℕ) (rest : List ℕ) (t : Bool) → (indexOf s rest < length rest → drop 1 (pieces s rest) ≡ pieces s (drop (suc (indexOf s rest)) rest))
     → indexAfter t (indexOf s rest) < suc (length rest)
-    → drop 1 (choose t ([] ∷ pieces s rest) (longer b (pieces s rest))) ≡ pieces s (drop (indexAfter t (indexOf s rest)) rest)
+    → drop 1 (choose t ([] ∷ pieces s rest) (beforeFirst b (pieces s rest))) ≡ pieces s (drop (indexAfter t (indexOf s rest)) rest)
 unfolding choose indexAfter
 after-by s b rest true ih h = refl
 after-by s b rest false ih h = rest-longer b (pieces s rest) ∙ ih (omega arith)
@@ -162,7 +162,7 @@ after-piece s (b ∷ rest) h = after-by s b rest (eqb b s) (after-piece s rest) 
 
 last-by : (s b : ℕ) (rest : List ℕ) (t : Bool) → (length rest ≤ indexOf s rest → drop 1 (pieces s rest) ≡ [])
     → suc (length rest) ≤ indexAfter t (indexOf s rest)
-    → drop 1 (choose t ([] ∷ pieces s rest) (longer b (pieces s rest))) ≡ []
+    → drop 1 (choose t ([] ∷ pieces s rest) (beforeFirst b (pieces s rest))) ≡ []
 unfolding choose indexAfter
 last-by s b rest true ih h = absurd (omega arith)
 last-by s b rest false ih h = rest-longer b (pieces s rest) ∙ ih (omega arith)
@@ -173,12 +173,12 @@ last-piece s [] h = refl
 last-piece s (b ∷ rest) h = last-by s b rest (eqb b s) (last-piece s rest) h
 
 -- A text always has a first piece.
-some-longer : (b : ℕ) (ps : List (List ℕ)) → 0 < length (longer b ps)
-unfolding longer
+some-longer : (b : ℕ) (ps : List (List ℕ)) → 0 < length (beforeFirst b ps)
+unfolding beforeFirst
 some-longer b [] = omega arith
 some-longer b (p ∷ ps) = omega arith
 
-some-by : (s b : ℕ) (rest : List ℕ) (t : Bool) → 0 < length (choose t ([] ∷ pieces s rest) (longer b (pieces s rest)))
+some-by : (s b : ℕ) (rest : List ℕ) (t : Bool) → 0 < length (choose t ([] ∷ pieces s rest) (beforeFirst b (pieces s rest)))
 unfolding choose
 some-by s b rest true = omega arith
 some-by s b rest false = some-longer b (pieces s rest)
@@ -189,26 +189,26 @@ some-piece s [] = omega arith
 some-piece s (b ∷ rest) = some-by s b rest (eqb b s)
 
 -- Words: the spaces before them do not count, and what follows the first holds the others.
-filled-longer : (b : ℕ) (ps : List (List ℕ)) → filled (longer b ps) ≡ (b ∷ getD ps 0 []) ∷ filled (drop 1 ps)
-unfolding filled longer
+filled-longer : (b : ℕ) (ps : List (List ℕ)) → nonEmpty (beforeFirst b ps) ≡ (b ∷ getD ps 0 []) ∷ nonEmpty (drop 1 ps)
+unfolding nonEmpty beforeFirst
 filled-longer b [] = refl
 filled-longer b (p ∷ ps) = refl
 
 rest-by : (b : ℕ) (rest : List ℕ) (t : Bool) → eqb b 32 ≡ t
-    → filled (drop 1 (pieces 32 rest)) ≡ wordsOf (drop (indexOf 32 rest) rest)
-    → filled (drop 1 (pieces 32 (b ∷ rest))) ≡ wordsOf (drop (indexOf 32 (b ∷ rest)) (b ∷ rest))
-unfolding pieces indexOf indexAfter choose filled wordsOf
+    → nonEmpty (drop 1 (pieces 32 rest)) ≡ wordsOf (drop (indexOf 32 rest) rest)
+    → nonEmpty (drop 1 (pieces 32 (b ∷ rest))) ≡ wordsOf (drop (indexOf 32 (b ∷ rest)) (b ∷ rest))
+unfolding pieces indexOf indexAfter choose nonEmpty wordsOf
 rest-by b rest true e ih = rw (e, e)
 rest-by b rest false e ih = rw (e, rest-longer b (pieces 32 rest)) ih
 
-rest-filled : (l : List ℕ) → filled (drop 1 (pieces 32 l)) ≡ wordsOf (drop (indexOf 32 l) l)
-unfolding pieces indexOf filled wordsOf
+rest-filled : (l : List ℕ) → nonEmpty (drop 1 (pieces 32 l)) ≡ wordsOf (drop (indexOf 32 l) l)
+unfolding pieces indexOf nonEmpty wordsOf
 rest-filled [] = refl
 rest-filled (b ∷ rest) = rest-by b rest (eqb b 32) refl (rest-filled rest)
 
 skip-by : (b : ℕ) (rest : List ℕ) (t : Bool) → eqb b 32 ≡ t → wordsOf rest ≡ wordsOf (drop (spacesOf rest) rest)
     → wordsOf (b ∷ rest) ≡ wordsOf (drop (spacesOf (b ∷ rest)) (b ∷ rest))
-unfolding pieces choose filled wordsOf spacesOf
+unfolding pieces choose nonEmpty wordsOf spacesOf
 skip-by b rest true e ih = rw e ih
 skip-by b rest false e ih = rw (e, e)
 
@@ -235,7 +235,7 @@ pub record Begun (l : List ℕ) : Type 0 where
   pub some : min 1 (indexOf 32 l) ≡ min 1 (length (wordsOf l))
 
 begun-by : (b : ℕ) (rest : List ℕ) (t : Bool) → eqb b 32 ≡ t → spacesOf (b ∷ rest) ≡ 0 → Begun (b ∷ rest)
-unfolding pieces choose filled wordsOf spacesOf indexOf indexAfter
+unfolding pieces choose nonEmpty wordsOf spacesOf indexOf indexAfter
 begun-by b rest true e h = absurd (omega (arith, rw e at h))
 begun-by b rest false e h =
     record {
@@ -245,7 +245,7 @@ begun-by b rest false e h =
     }
 
 begun : (l : List ℕ) → spacesOf l ≡ 0 → Begun l
-unfolding pieces filled wordsOf indexOf
+unfolding pieces nonEmpty wordsOf indexOf
 begun [] h = record { first = refl; rest = refl; some = refl }
 begun (b ∷ rest) h = begun-by b rest (eqb b 32) refl h
 

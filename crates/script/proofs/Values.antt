@@ -16,7 +16,7 @@ use borrow.Author.Tests.{lt-leb, le-leb, lt-ltb, le-ltb, eq-eqb, ne-eqb, leb-tru
 use Rattle.refusal.specs.Tests.{both, either, choose}
 use Rattle.script.specs.Text.{same, over}
 use Rattle.script.specs.Words.{pieces, stopAt}
-use Rattle.script.specs.Numbers.{between, allDigits, valueFrom, valueOf, isNumber, numberOf, hasMinus, isCoordinate, signed, coordinateOf, none, allCoordinates, isRow, listed, isList, isHex, hexValue, allPairs, bytesOf, isMap, beyond}
+use Rattle.script.specs.Numbers.{between, allDigits, valueFrom, valueOf, isNumber, numberOf, hasMinus, isCoordinate, signed, coordinateOf, noneWord, allCoordinates, isRow, listed, isList, isHex, hexValue, allPairs, bytesOf, isMap, beyond}
 use Rattle.script.specs.declared.Number.{Number}
 use Rattle.script.specs.declared.Coordinate.{Coordinate}
 use Rattle.script.proofs.Steps.{front, spent, order, fill-more, fill-done}
@@ -265,28 +265,28 @@ module _ (w : List ℕ) where
       unread-by false h k = h
 
   -- A word that is a map, and why another is none.
-  pub map-none : same w none ≡ true → true ≡ isMap w
+  pub map-none : same w noneWord ≡ true → true ≡ isMap w
   unfolding isMap either
   map-none h = rw h
 
-  pub map-empty : same w none ≡ false → length w ≡ 0 → false ≡ isMap w
+  pub map-empty : same w noneWord ≡ false → length w ≡ 0 → false ≡ isMap w
   unfolding isMap either both
   map-empty h k = rw (h, le-ltb 0 (length w) (omega arith))
 
-  pub map-long : same w none ≡ false → 8400 < length w → false ≡ isMap w
+  pub map-long : same w noneWord ≡ false → 8400 < length w → false ≡ isMap w
   unfolding isMap either both
   map-long h k = rw (h, lt-ltb 0 (length w) (omega arith), lt-leb (length w) 8400 k)
 
-  pub map-pairs : same w none ≡ false → (length w ≡ 0 → ⊥) → length w ≤ 8400 → allPairs w ≡ isMap w
+  pub map-pairs : same w noneWord ≡ false → (length w ≡ 0 → ⊥) → length w ≤ 8400 → allPairs w ≡ isMap w
   unfolding isMap either both
   map-pairs h n k = rw (h, lt-ltb 0 (length w) (omega arith), le-leb (length w) 8400 k)
 
   pub map-length : isMap w ≡ true → length w ≤ 8400
   unfolding isMap either
-  map-length h = by (same w none) refl h
+  map-length h = by (same w noneWord) refl h
     where
-      by : (t : Bool) → same w none ≡ t → either t (both (ltb 0 (length w)) (both (leb (length w) 8400) (allPairs w))) ≡ true → length w ≤ 8400
-      by true e k = omega (arith, same-length w none e)
+      by : (t : Bool) → same w noneWord ≡ t → either t (both (ltb 0 (length w)) (both (leb (length w) 8400) (allPairs w))) ≡ true → length w ≤ 8400
+      by true e k = omega (arith, same-length w noneWord e)
       by false e k = leb-true (length w) 8400 (both-tests (leb (length w) 8400) (allPairs w) (both-tests (ltb 0 (length w)) (both (leb (length w) 8400) (allPairs w)) k .1) .0)
 
 -- The pieces that are left from a position on.
@@ -411,21 +411,21 @@ row-done w at count old h k d =
 
 -- A word that is a list, and what it lists.
 module _ (w : List ℕ) where
-  pub list-none : same w none ≡ true → true ≡ isList w
+  pub list-none : same w noneWord ≡ true → true ≡ isList w
   unfolding isList either
   list-none h = rw h
 
-  pub list-row : same w none ≡ false → isRow w ≡ isList w
+  pub list-row : same w noneWord ≡ false → isRow w ≡ isList w
   unfolding isList either
   list-row h = rw h
 
-  pub listed-none : same w none ≡ true → [] ≡ listed w
+  pub listed-none : same w noneWord ≡ true → [] ≡ listed w
   unfolding listed choose
   listed-none h = rw h
 
-  pub listed-row : same w none ≡ false → map signed (pieces 44 w) ≡ listed w
+  pub listed-row : same w noneWord ≡ false → map signed (pieces 44 w) ≡ listed w
   unfolding listed choose
   listed-row h = rw h
 
-  pub listed-length : same w none ≡ false → length (pieces 44 w) ≡ length (listed w)
+  pub listed-length : same w noneWord ≡ false → length (pieces 44 w) ≡ length (listed w)
   listed-length h = sym (length-map (pieces 44 w) signed) ∙ ap length (listed-row h)

@@ -100,5 +100,5 @@ unfoldable pub pinLine : ℕ → Place → List ℕ
 pinLine pin place = field "pin " pin ++ placeText (text " ") place ++ text "\n"
 
 -- What is not a call: `line K: not a call`.
-unfoldable pub strayLine : ℕ → List ℕ
-strayLine k = field "line " k ++ text ": not a call\n"
+unfoldable pub notACallLine : ℕ → List ℕ
+notACallLine k = field "line " k ++ text ": not a call\n"

@@ -12,8 +12,8 @@ use Rattle.script.specs.declared.Number.{Number}
 use Rattle.script.specs.declared.Coordinate.{Coordinate}
 
 -- Seats and pins go to 4,294,967,295.
-abbrev pub most : ℕ
-most = 4294967295
+abbrev pub mostNumber : ℕ
+mostNumber = 4294967295
 
 -- Jobs go to 65,535.
 abbrev pub mostJob : ℕ
@@ -86,8 +86,8 @@ unfoldable pub coordinateOf : List ℕ → Coordinate
 coordinateOf w = choose (isCoordinate w) (Coordinate.At (signed w)) Coordinate.Unread
 
 -- Nothing, as a map or as a list: a single minus.
-abbrev pub none : List ℕ
-none = text "-"
+abbrev pub noneWord : List ℕ
+noneWord = text "-"
 
 -- Every one of some words is such a number.
 unfoldable pub allCoordinates : List (List ℕ) → Bool
@@ -96,7 +96,7 @@ allCoordinates (w ∷ rest) = both (isCoordinate w) (allCoordinates rest)
 
 -- The numbers that a list holds; none where it is a single minus.
 unfoldable pub listed : List ℕ → List ℤ
-listed w = choose (same w none) [] (map signed (pieces comma w))
+listed w = choose (same w noneWord) [] (map signed (pieces comma w))
 
 -- Numbers separated by single commas, up to 40.
 unfoldable pub isRow : List ℕ → Bool
@@ -104,7 +104,7 @@ isRow w = both (allCoordinates (pieces comma w)) (leb (length (pieces comma w)) 
 
 -- A list: none, or such numbers.
 unfoldable pub isList : List ℕ → Bool
-isList w = either (same w none) (isRow w)
+isList w = either (same w noneWord) (isRow w)
 
 -- A small letter from a to f.
 abbrev pub isSmall : ℕ → Bool
@@ -136,4 +136,4 @@ bytesOf (a ∷ b ∷ rest) = (hexValue a * 16 + hexValue b) ∷ bytesOf rest
 
 -- A map is one to 4,200 pairs of hex digits, or - for an empty one.
 unfoldable pub isMap : List ℕ → Bool
-isMap w = either (same w none) (both (ltb 0 (length w)) (both (leb (length w) (mostPairs * 2)) (allPairs w)))
+isMap w = either (same w noneWord) (both (ltb 0 (length w)) (both (leb (length w) (mostPairs * 2)) (allPairs w)))

@@ -9,7 +9,7 @@ use Rattle.refusal.specs.Tests.{both, either, choose}
 use Rattle.grid.specs.declared.Place.{Place}
 use Rattle.script.specs.Text.{text, same}
 use Rattle.script.specs.Words.{hash, withoutReturn, wordsOf, word}
-use Rattle.script.specs.Numbers.{most, mostJob, valueOf, isNumber, isCoordinate, signed, listed, isList, bytesOf, isMap}
+use Rattle.script.specs.Numbers.{mostNumber, mostJob, valueOf, isNumber, isCoordinate, signed, listed, isList, bytesOf, isMap}
 use Rattle.script.specs.declared.Order.{Order}
 use Rattle.script.specs.declared.Placing.{Placing}
 
@@ -36,7 +36,7 @@ only b order = choose b order Order.NotACall
 -- Two words: close SEAT, undo SEAT, redo SEAT, pins SEAT.
 unfoldable pub seatCall : List ℕ → List ℕ → Order
 seatCall name a =
-    only (isNumber most a)
+    only (isNumber mostNumber a)
     (choose (same name (text "close")) (Order.Close (valueOf a))
     (choose (same name (text "undo")) (Order.Undo (valueOf a))
     (choose (same name (text "redo")) (Order.Redo (valueOf a))
@@ -45,51 +45,51 @@ seatCall name a =
 -- Three words: remove SEAT PIN, write SEAT ROOM, wire SEAT ROOM.
 unfoldable pub pairCall : List ℕ → List ℕ → List ℕ → Order
 pairCall name a b =
-    only (isNumber most a)
-    (choose (same name (text "remove")) (only (isNumber most b) (Order.Remove (valueOf a) (valueOf b)))
+    only (isNumber mostNumber a)
+    (choose (same name (text "remove")) (only (isNumber mostNumber b) (Order.Remove (valueOf a) (valueOf b)))
     (choose (same name (text "write")) (only (isNumber mostRoom b) (Order.Write (valueOf a) (valueOf b)))
     (choose (same name (text "wire")) (only (isNumber mostLegsLent b) (Order.Wire (valueOf a) (valueOf b))) Order.NotACall)))
 
 -- The words after open are a seat, a job and a map.
-unfoldable pub isOpening : List ℕ → List ℕ → List ℕ → Bool
-isOpening a b c = both (isNumber most a) (both (isNumber mostJob b) (isMap c))
+unfoldable pub isOpenCall : List ℕ → List ℕ → List ℕ → Bool
+isOpenCall a b c = both (isNumber mostNumber a) (both (isNumber mostJob b) (isMap c))
 
 -- The words after bare are a room and two lists.
-unfoldable pub isBaring : List ℕ → List ℕ → List ℕ → Bool
-isBaring a b c = both (isNumber mostLegsLent a) (both (isList b) (isList c))
+unfoldable pub isBareCall : List ℕ → List ℕ → List ℕ → Bool
+isBareCall a b c = both (isNumber mostLegsLent a) (both (isList b) (isList c))
 
 -- open SEAT JOB MAP.
-unfoldable pub opening : List ℕ → List ℕ → List ℕ → Order
-opening a b c = only (isOpening a b c) (Order.Open (valueOf a) (valueOf b) (length (bytesOf c)))
+unfoldable pub openCall : List ℕ → List ℕ → List ℕ → Order
+openCall a b c = only (isOpenCall a b c) (Order.Open (valueOf a) (valueOf b) (length (bytesOf c)))
 
 -- bare ROOM XS YS.
-unfoldable pub baring : List ℕ → List ℕ → List ℕ → Order
-baring a b c = only (isBaring a b c) (Order.Bare (valueOf a) (length (listed b)) (length (listed c)))
+unfoldable pub bareCall : List ℕ → List ℕ → List ℕ → Order
+bareCall a b c = only (isBareCall a b c) (Order.Bare (valueOf a) (length (listed b)) (length (listed c)))
 
 -- Four words: open SEAT JOB MAP, bare ROOM XS YS.
 unfoldable pub lentCall : List ℕ → List ℕ → List ℕ → List ℕ → Order
 lentCall name a b c =
-    choose (same name (text "open")) (opening a b c)
-    (choose (same name (text "bare")) (baring a b c) Order.NotACall)
+    choose (same name (text "open")) (openCall a b c)
+    (choose (same name (text "bare")) (bareCall a b c) Order.NotACall)
 
 -- Four words are a seat, a pin, an x and a y.
 unfoldable pub isPlacing : List ℕ → List ℕ → List ℕ → List ℕ → Bool
-isPlacing a b c d = both (isNumber most a) (both (isNumber most b) (both (isCoordinate c) (isCoordinate d)))
+isPlacing a b c d = both (isNumber mostNumber a) (both (isNumber mostNumber b) (both (isCoordinate c) (isCoordinate d)))
 
 -- The place of an x and a y.
-abbrev pub placeOf : List ℕ → List ℕ → Place
-placeOf c d = record { x = signed c; y = signed d }
+abbrev pub placeRead : List ℕ → List ℕ → Place
+placeRead c d = record { x = signed c; y = signed d }
 
 -- Four words read as a seat, a pin and a place, where they are that.
 unfoldable pub placingOf : List ℕ → List ℕ → List ℕ → List ℕ → Placing
-placingOf a b c d = choose (isPlacing a b c d) (Placing.Of (valueOf a) (valueOf b) (placeOf c d)) Placing.Unread
+placingOf a b c d = choose (isPlacing a b c d) (Placing.Of (valueOf a) (valueOf b) (placeRead c d)) Placing.Unread
 
 -- Five words: place SEAT PIN X Y, move SEAT PIN X Y.
 unfoldable pub placeCall : List ℕ → List ℕ → List ℕ → List ℕ → List ℕ → Order
 placeCall name a b c d =
     only (isPlacing a b c d)
-    (choose (same name (text "place")) (Order.Place (valueOf a) (valueOf b) (placeOf c d))
-    (choose (same name (text "move")) (Order.Move (valueOf a) (valueOf b) (placeOf c d)) Order.NotACall))
+    (choose (same name (text "place")) (Order.Place (valueOf a) (valueOf b) (placeRead c d))
+    (choose (same name (text "move")) (Order.Move (valueOf a) (valueOf b) (placeRead c d)) Order.NotACall))
 
 -- The call of a name and the words after it; more or fewer words than the call has is not a call.
 unfoldable pub callOf : ℕ → List ℕ → List ℕ → List ℕ → List ℕ → List ℕ → Order
@@ -119,11 +119,11 @@ orderOf line = choose (isLong line) Order.NotACall (asked (wordsOf (withoutRetur
 
 -- The bytes of the map, where words are an opening.
 unfoldable pub mapIn : List ℕ → List ℕ → List ℕ → List ℕ → List ℕ
-mapIn name a b c = choose (both (same name (text "open")) (isOpening a b c)) (bytesOf c) []
+mapIn name a b c = choose (both (same name (text "open")) (isOpenCall a b c)) (bytesOf c) []
 
 -- The numbers of a list, where words are a bare wiring.
 unfoldable pub listIn : List ℕ → List ℕ → List ℕ → List ℕ → List ℕ → List ℤ
-listIn name a b c list = choose (both (same name (text "bare")) (isBaring a b c)) (listed list) []
+listIn name a b c list = choose (both (same name (text "bare")) (isBareCall a b c)) (listed list) []
 
 -- The bytes of the map in words; only calls of four words have one.
 unfoldable pub mapAsked : List (List ℕ) → List ℕ
@@ -135,13 +135,13 @@ listAsked k words =
     choose (eqb (length words) 4) (listIn (word 0 words) (word 1 words) (word 2 words) (word 3 words) (word k words)) []
 
 -- The bytes of the map in a line.
-unfoldable pub mapOf : List ℕ → List ℕ
-mapOf line = choose (isLong line) [] (mapAsked (wordsOf (withoutReturn line)))
+unfoldable pub mapGiven : List ℕ → List ℕ
+mapGiven line = choose (isLong line) [] (mapAsked (wordsOf (withoutReturn line)))
 
 -- The list of x in a line.
-unfoldable pub acrossOf : List ℕ → List ℤ
-acrossOf line = choose (isLong line) [] (listAsked 2 (wordsOf (withoutReturn line)))
+unfoldable pub xsGiven : List ℕ → List ℤ
+xsGiven line = choose (isLong line) [] (listAsked 2 (wordsOf (withoutReturn line)))
 
 -- The list of y in a line.
-unfoldable pub upOf : List ℕ → List ℤ
-upOf line = choose (isLong line) [] (listAsked 3 (wordsOf (withoutReturn line)))
+unfoldable pub ysGiven : List ℕ → List ℤ
+ysGiven line = choose (isLong line) [] (listAsked 3 (wordsOf (withoutReturn line)))

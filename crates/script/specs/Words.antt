@@ -41,24 +41,24 @@ abbrev pub withoutReturn : List ℕ → List ℕ
 withoutReturn line = take (endOf line) line
 
 -- A byte put before the first of some pieces.
-unfoldable pub longer : ℕ → List (List ℕ) → List (List ℕ)
-longer b [] = (b ∷ []) ∷ []
-longer b (p ∷ rest) = (b ∷ p) ∷ rest
+unfoldable pub beforeFirst : ℕ → List (List ℕ) → List (List ℕ)
+beforeFirst b [] = (b ∷ []) ∷ []
+beforeFirst b (p ∷ rest) = (b ∷ p) ∷ rest
 
 -- The pieces between single separators.
 unfoldable pub pieces : ℕ → List ℕ → List (List ℕ)
 pieces s [] = [] ∷ []
-pieces s (b ∷ rest) = choose (eqb b s) ([] ∷ pieces s rest) (longer b (pieces s rest))
+pieces s (b ∷ rest) = choose (eqb b s) ([] ∷ pieces s rest) (beforeFirst b (pieces s rest))
 
 -- The pieces that hold something.
-unfoldable pub filled : List (List ℕ) → List (List ℕ)
-filled [] = []
-filled ([] ∷ rest) = filled rest
-filled ((b ∷ p) ∷ rest) = (b ∷ p) ∷ filled rest
+unfoldable pub nonEmpty : List (List ℕ) → List (List ℕ)
+nonEmpty [] = []
+nonEmpty ([] ∷ rest) = nonEmpty rest
+nonEmpty ((b ∷ p) ∷ rest) = (b ∷ p) ∷ nonEmpty rest
 
 -- Words are separated by one or more spaces, also before the first and after the last.
 unfoldable pub wordsOf : List ℕ → List (List ℕ)
-wordsOf line = filled (pieces space line)
+wordsOf line = nonEmpty (pieces space line)
 
 -- The word of a number, counted from 0; empty where there are not so many.
 abbrev pub word : ℕ → List (List ℕ) → List ℕ

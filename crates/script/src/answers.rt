@@ -13,7 +13,7 @@ ghost use lib.ListN.{length, take};
 ghost use lib.Seq.{sets};
 ghost use Rattle.script.specs.Text.{text, over, room};
 ghost use Rattle.script.specs.Orders.{mostRoom};
-ghost use Rattle.script.specs.Answers.{decimal, integer, placeText, hexDigit, hex, hexPart, carriedText, toldLine, verdictLine, writtenLine, wiredLine, jobLine, runLine, legLine, closedLine, drawingLine, pinLine, strayLine};
+ghost use Rattle.script.specs.Answers.{decimal, integer, placeText, hexDigit, hex, hexPart, carriedText, toldLine, verdictLine, writtenLine, wiredLine, jobLine, runLine, legLine, closedLine, drawingLine, pinLine, notACallLine};
 
 // An answer has room for so many bytes.
 pub const ROOM: usize = 8192;
@@ -141,9 +141,9 @@ fn print_fields(
 }
 
 // What is not a call: its line, counted from 1.
-pub fn print_stray(line: usize, out: &mut [u8; ROOM]) -> usize
-    ensures { λ r. ⌜ (r ≡ length (strayLine line)) × (r ≤ 200) ⌝ }
-    ensures { λ _. ⌜ now (out .exit) ≡ over (strayLine line) (now (out .entry)) ⌝ }
+pub fn print_not_a_call(line: usize, out: &mut [u8; ROOM]) -> usize
+    ensures { λ r. ⌜ (r ≡ length (notACallLine line)) × (r ≤ 200) ⌝ }
+    ensures { λ _. ⌜ now (out .exit) ≡ over (notACallLine line) (now (out .entry)) ⌝ }
 {
     let next = put_field(out, 0, b"line ", line);
     put(out, next, b": not a call\n")

@@ -13,7 +13,7 @@ use words::end_of;
 use words::part;
 ghost use mathlib.Core.Path.{_≡_};
 ghost use Rattle.script.specs.Text.{over};
-ghost use Rattle.script.specs.Orders.{orderOf, mapOf, acrossOf, upOf};
+ghost use Rattle.script.specs.Orders.{orderOf, mapGiven, xsGiven, ysGiven};
 
 // A line of more bytes is not a call.
 const MOST_LINE: usize = 16384;
@@ -121,9 +121,9 @@ pub fn read_line(
     ys: &mut [i32; MOST_NUMBERS],
 ) -> Order
     ensures { λ r. ⌜ r ≡ orderOf (now (line .entry)) ⌝ }
-    ensures { λ _. ⌜ now (map .exit) ≡ over (mapOf (now (line .entry))) (now (map .entry)) ⌝ }
-    ensures { λ _. ⌜ now (xs .exit) ≡ over (acrossOf (now (line .entry))) (now (xs .entry)) ⌝ }
-    ensures { λ _. ⌜ now (ys .exit) ≡ over (upOf (now (line .entry))) (now (ys .entry)) ⌝ }
+    ensures { λ _. ⌜ now (map .exit) ≡ over (mapGiven (now (line .entry))) (now (map .entry)) ⌝ }
+    ensures { λ _. ⌜ now (xs .exit) ≡ over (xsGiven (now (line .entry))) (now (xs .entry)) ⌝ }
+    ensures { λ _. ⌜ now (ys .exit) ≡ over (ysGiven (now (line .entry))) (now (ys .entry)) ⌝ }
 {
     let end = end_of(line);
     if MOST_LINE < end {

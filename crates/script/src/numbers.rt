@@ -13,7 +13,7 @@ ghost use lib.IntN.{pos, negℤ};
 ghost use lib.ListN.{length};
 ghost use Rattle.script.specs.Text.{over};
 ghost use Rattle.script.specs.Words.{comma, pieces};
-ghost use Rattle.script.specs.Numbers.{most, mostPairs, mostNumbers, beyond, between as isBetween, allDigits, valueOf, numberOf, hasMinus, isCoordinate, signed, coordinateOf, isRow, listed, isList, isHex, hexValue, allPairs, bytesOf, isMap};
+ghost use Rattle.script.specs.Numbers.{mostNumber, mostPairs, mostNumbers, beyond, between as isBetween, allDigits, valueOf, numberOf, hasMinus, isCoordinate, signed, coordinateOf, isRow, listed, isList, isHex, hexValue, allPairs, bytesOf, isMap};
 
 // The largest number of a seat or a pin.
 pub(crate) const MOST: usize = 4294967295;
@@ -85,7 +85,7 @@ fn value(word: &[u8]) -> usize
 
 // A word as a number from 0 to `top`.
 pub(crate) fn number(word: &[u8], top: usize) -> Number
-    requires { ⌜ top ≤ most ⌝ }
+    requires { ⌜ top ≤ mostNumber ⌝ }
     ensures { λ r. ⌜ r ≡ numberOf top (now (word .entry)) ⌝ }
 {
     if word.len() == 0 {

@@ -20,8 +20,8 @@ ghost use mathlib.Core.List.{[]};
 ghost use lib.Dec.{eqb};
 ghost use Rattle.refusal.specs.Tests.{choose};
 ghost use Rattle.script.specs.Text.{over};
-ghost use Rattle.script.specs.Numbers.{most, isNumber, valueOf, bytesOf, listed};
-ghost use Rattle.script.specs.Orders.{mostRoom, mostLegsLent, only, seatCall, pairCall, isOpening, isBaring, opening, baring, lentCall, placingOf, placeCall, callOf, isSkipped as skipped, mapIn, listIn};
+ghost use Rattle.script.specs.Numbers.{mostNumber, isNumber, valueOf, bytesOf, listed};
+ghost use Rattle.script.specs.Orders.{mostRoom, mostLegsLent, only, seatCall, pairCall, isOpenCall, isBareCall, openCall, bareCall, lentCall, placingOf, placeCall, callOf, isSkipped as skipped, mapIn, listIn};
 
 // The most legs that a call lends.
 const MOST_LEGS_LENT: usize = 64;
@@ -53,7 +53,7 @@ fn seat_call(name: &[u8], a: &[u8]) -> Order
 
 // remove SEAT PIN
 fn read_remove(seat: usize, b: &[u8]) -> Order
-    ensures { λ r. ⌜ r ≡ only (isNumber most (now (b .entry))) (Order.Remove seat (valueOf (now (b .entry)))) ⌝ }
+    ensures { λ r. ⌜ r ≡ only (isNumber mostNumber (now (b .entry))) (Order.Remove seat (valueOf (now (b .entry)))) ⌝ }
 {
     let Number::Of(pin) = number(b, MOST) else {
         return Order::NotACall;
@@ -102,8 +102,8 @@ fn pair_call(name: &[u8], a: &[u8], b: &[u8]) -> Order
 
 // open SEAT JOB MAP
 fn read_open(a: &[u8], b: &[u8], c: &[u8], map: &mut [u8; MOST_PAIRS]) -> Order
-    ensures { λ r. ⌜ r ≡ opening (now (a .entry)) (now (b .entry)) (now (c .entry)) ⌝ }
-    ensures { λ _. ⌜ now (map .exit) ≡ over (choose (isOpening (now (a .entry)) (now (b .entry)) (now (c .entry))) (bytesOf (now (c .entry))) []) (now (map .entry)) ⌝ }
+    ensures { λ r. ⌜ r ≡ openCall (now (a .entry)) (now (b .entry)) (now (c .entry)) ⌝ }
+    ensures { λ _. ⌜ now (map .exit) ≡ over (choose (isOpenCall (now (a .entry)) (now (b .entry)) (now (c .entry))) (bytesOf (now (c .entry))) []) (now (map .entry)) ⌝ }
 {
     let Number::Of(seat) = number(a, MOST) else {
         return Order::NotACall;
@@ -130,9 +130,9 @@ fn read_bare(
     xs: &mut [i32; MOST_NUMBERS],
     ys: &mut [i32; MOST_NUMBERS],
 ) -> Order
-    ensures { λ r. ⌜ r ≡ baring (now (a .entry)) (now (b .entry)) (now (c .entry)) ⌝ }
-    ensures { λ _. ⌜ now (xs .exit) ≡ over (choose (isBaring (now (a .entry)) (now (b .entry)) (now (c .entry))) (listed (now (b .entry))) []) (now (xs .entry)) ⌝ }
-    ensures { λ _. ⌜ now (ys .exit) ≡ over (choose (isBaring (now (a .entry)) (now (b .entry)) (now (c .entry))) (listed (now (c .entry))) []) (now (ys .entry)) ⌝ }
+    ensures { λ r. ⌜ r ≡ bareCall (now (a .entry)) (now (b .entry)) (now (c .entry)) ⌝ }
+    ensures { λ _. ⌜ now (xs .exit) ≡ over (choose (isBareCall (now (a .entry)) (now (b .entry)) (now (c .entry))) (listed (now (b .entry))) []) (now (xs .entry)) ⌝ }
+    ensures { λ _. ⌜ now (ys .exit) ≡ over (choose (isBareCall (now (a .entry)) (now (b .entry)) (now (c .entry))) (listed (now (c .entry))) []) (now (ys .entry)) ⌝ }
 {
     let Number::Of(room) = number(a, MOST_LEGS_LENT) else {
         return Order::NotACall;

@@ -13,20 +13,20 @@ use Rattle.refusal.proofs.Tests.{both-left, both-right, both-arm, both-stop, ch
 use Rattle.drawing.specs.declared.Edit.{Edit}
 use Rattle.drawing.specs.Pins.{lawful}
 use Rattle.journal.specs.declared.Record.{Record}
-use Rattle.journal.specs.Journal.{seats, records, own, seated, replayable, takeableAll}
+use Rattle.journal.specs.Journal.{mostSeats, mostRecords, own, seated, replayable, takeableAll}
 use Rattle.seats.specs.declared.Seat.{Seat}
 use Rattle.seats.specs.Seats.{noSeat, jobsIn, jobsApart}
-use Rattle.seats.specs.Sound.{standingIn, takenBackIn, soundOpen, soundClosed, soundSeat, soundTo, soundAll}
+use Rattle.seats.specs.Sound.{standingAmong, takenBackAmong, soundOpen, soundClosed, soundSeat, soundTo, soundAll}
 
 -- The journal: the used count, then each used record's seat.
 module _ (j : List Record) (u : ℕ) where
-  pub journal-over : records < u → false ≡ both (leb u records) (seated (take u j))
+  pub journal-over : mostRecords < u → false ≡ both (leb u mostRecords) (seated (take u j))
   unfolding both
-  journal-over h = rw (lt-leb u records h)
+  journal-over h = rw (lt-leb u mostRecords h)
 
-  pub journal-seated : {r : Bool} → u ≤ records → r ≡ seated (take u j) → r ≡ both (leb u records) (seated (take u j))
+  pub journal-seated : {r : Bool} → u ≤ mostRecords → r ≡ seated (take u j) → r ≡ both (leb u mostRecords) (seated (take u j))
   unfolding both
-  journal-seated h e = rw (le-leb u records h) e
+  journal-seated h e = rw (le-leb u mostRecords h) e
 
 -- An open seat.
 module _ (t : Seat) (l : List Edit) where
@@ -44,12 +44,12 @@ module _ (t : Seat) (l : List Edit) where
       unfolding soundOpen both
       breaks-rules u = rw (ne-eqb _ _ z, ← e, le-leb _ _ h, ← f, u)
 
-      module _ (u : a ≡ true) {b : Bool} (g : b ≡ takeableAll (t .pins) (standingIn t l)) where
+      module _ (u : a ≡ true) {b : Bool} (g : b ≡ takeableAll (t .pins) (standingAmong t l)) where
         pub cannot-undo : b ≡ false → false ≡ soundOpen t l
         unfolding soundOpen both
         cannot-undo v = rw (ne-eqb _ _ z, ← e, le-leb _ _ h, ← f, u, ← g, v)
 
-        pub can-redo : {r : Bool} → b ≡ true → r ≡ replayable (t .pins) (takenBackIn t l) → r ≡ soundOpen t l
+        pub can-redo : {r : Bool} → b ≡ true → r ≡ replayable (t .pins) (takenBackAmong t l) → r ≡ soundOpen t l
         unfolding soundOpen both
         can-redo v i = rw (ne-eqb _ _ z, ← e, le-leb _ _ h, ← f, u, ← g, v) i
 
@@ -84,19 +84,19 @@ module _ (l : List Seat) (m : List Record) where
     unfolding soundTo both
     seats-next h t = rw (add-one i, h, ← e, t)
 
-    seats-by : (t : Bool) → soundTo seats l m ≡ t → i < seats → b ≡ false → false ≡ t
-    seats-by true k h f = absurd (true≢false (sym (seat-among seats i k h) ∙ sym e ∙ f))
+    seats-by : (t : Bool) → soundTo mostSeats l m ≡ t → i < mostSeats → b ≡ false → false ≡ t
+    seats-by true k h f = absurd (true≢false (sym (seat-among mostSeats i k h) ∙ sym e ∙ f))
     seats-by false k h f = refl
 
-    pub seats-stop : i < seats → b ≡ false → false ≡ soundTo seats l m
-    seats-stop h f = seats-by (soundTo seats l m) refl h f
+    pub seats-stop : i < mostSeats → b ≡ false → false ≡ soundTo mostSeats l m
+    seats-stop h f = seats-by (soundTo mostSeats l m) refl h f
 
 -- All of it: the lengths are those of the arrays; then the journal's test, the jobs' and the seats'.
-module _ (l : List Seat) (j : List Record) (u : ℕ) (w : length l ≡ seats) (v : length j ≡ records) {a : Bool}
-    (e : a ≡ both (leb u records) (seated (take u j))) where
-  parts : both (both (leb u records) (seated (take u j))) (both (jobsApart (jobsIn l)) (soundTo seats l (take u j))) ≡ soundAll l j u
+module _ (l : List Seat) (j : List Record) (u : ℕ) (w : length l ≡ mostSeats) (v : length j ≡ mostRecords) {a : Bool}
+    (e : a ≡ both (leb u mostRecords) (seated (take u j))) where
+  parts : both (both (leb u mostRecords) (seated (take u j))) (both (jobsApart (jobsIn l)) (soundTo mostSeats l (take u j))) ≡ soundAll l j u
   unfolding soundAll both
-  parts = rw (eq-eqb _ _ w, eq-eqb _ _ v) (joined (leb u records) (seated (take u j)) _)
+  parts = rw (eq-eqb _ _ w, eq-eqb _ _ v) (joined (leb u mostRecords) (seated (take u j)) _)
     where
       joined : (p q r : Bool) → both (both p q) r ≡ both p (both q r)
       joined true q r = refl
@@ -109,9 +109,9 @@ module _ (l : List Seat) (j : List Record) (u : ℕ) (w : length l ≡ seats) (v
     pub jobs-broken : b ≡ false → false ≡ soundAll l j u
     jobs-broken h = both-arm e (both-stop _ f h) t ∙ parts
 
-    pub seats-decide : {r : Bool} → b ≡ true → r ≡ soundTo seats l (take u j) → r ≡ soundAll l j u
+    pub seats-decide : {r : Bool} → b ≡ true → r ≡ soundTo mostSeats l (take u j) → r ≡ soundAll l j u
     seats-decide h g = both-arm e (both-arm f g h) t ∙ parts
 
   -- The journal's test says that the used count is in its range.
-  pub used-tested : a ≡ true → u ≤ records
+  pub used-tested : a ≡ true → u ≤ mostRecords
   used-tested t = leb-true _ _ (both-left _ _ (sym e ∙ t))

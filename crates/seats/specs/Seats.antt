@@ -7,14 +7,15 @@ use lib.ListN.{replicate, getD}
 use Rattle.refusal.specs.Tests.{both, either, choose}
 use Rattle.drawing.specs.declared.Pin.{Pin}
 use Rattle.drawing.specs.declared.Edit.{Edit}
-use Rattle.drawing.specs.Pins.{pins, absent}
+use Rattle.feed.specs.Feeds.{mostPins}
+use Rattle.drawing.specs.Pins.{absent}
 use Rattle.drawing.specs.Edits.{made, unmade}
 use Rattle.journal.specs.Journal.{noEdit}
 use Rattle.seats.specs.declared.Seat.{Seat}
 
 -- A closed seat, as calls leave it.
 abbrev pub closedSeat : Seat
-closedSeat = record { opened = false; job = 0; pins = replicate pins absent; standing = 0 }
+closedSeat = record { opened = false; job = 0; pins = replicate mostPins absent; standing = 0 }
 
 -- What a list of seats has past its end.
 abbrev pub noSeat : Seat

@@ -8,17 +8,17 @@ use Rattle.refusal.specs.Tests.{both, choose}
 use Rattle.drawing.specs.declared.Edit.{Edit}
 use Rattle.drawing.specs.Pins.{lawful}
 use Rattle.journal.specs.declared.Record.{Record}
-use Rattle.journal.specs.Journal.{seats, records, own, seated, replayable, takeableAll}
+use Rattle.journal.specs.Journal.{mostSeats, mostRecords, own, seated, replayable, takeableAll}
 use Rattle.seats.specs.declared.Seat.{Seat}
 use Rattle.seats.specs.Seats.{noSeat, jobsIn, jobsApart}
 
 -- Of a seat's edits those that stand, the latest first.
-abbrev pub standingIn : Seat → List Edit → List Edit
-standingIn t edits = reverse (take (t .standing) edits)
+abbrev pub standingAmong : Seat → List Edit → List Edit
+standingAmong t edits = reverse (take (t .standing) edits)
 
 -- Of a seat's edits those taken back, the most recently taken back first.
-abbrev pub takenBackIn : Seat → List Edit → List Edit
-takenBackIn t edits = drop (t .standing) edits
+abbrev pub takenBackAmong : Seat → List Edit → List Edit
+takenBackAmong t edits = drop (t .standing) edits
 
 -- An open seat with these edits is sound: its job is not 0, it has no more standing edits than records, its pins keep the rules, and
 -- undoing its standing edits from those pins, or redoing its taken-back ones, meets none that could not have been made there.
@@ -27,7 +27,7 @@ soundOpen t edits =
     both (not (eqb (t .job) 0))
     (both (leb (t .standing) (length edits))
     (both (lawful (t .pins))
-    (both (takeableAll (t .pins) (standingIn t edits)) (replayable (t .pins) (takenBackIn t edits)))))
+    (both (takeableAll (t .pins) (standingAmong t edits)) (replayable (t .pins) (takenBackAmong t edits)))))
 
 -- A closed seat is sound where it owns no records.
 unfoldable pub soundClosed : List Edit → Bool
@@ -39,14 +39,14 @@ soundSeat t edits = choose (t .opened) (soundOpen t edits) (soundClosed edits)
 
 -- The first n of these seats are sound, each with its own edits among the records in use.
 unfoldable pub soundTo : ℕ → List Seat → List Record → Bool
-soundTo zero l live = true
-soundTo (suc n) l live = both (soundTo n l live) (soundSeat (getD l n noSeat) (own n live))
+soundTo zero l inUse = true
+soundTo (suc n) l inUse = both (soundTo n l inUse) (soundSeat (getD l n noSeat) (own n inUse))
 
 -- Seats and their journal are sound: eight seats, a journal of 256 records, the used count in its range, each used record's seat too,
 -- no job repeated, and each seat sound.
 unfoldable pub soundAll : List Seat → List Record → ℕ → Bool
 soundAll l journal used =
-    both (eqb (length l) seats)
-    (both (eqb (length journal) records)
-    (both (leb used records)
-    (both (seated (take used journal)) (both (jobsApart (jobsIn l)) (soundTo seats l (take used journal))))))
+    both (eqb (length l) mostSeats)
+    (both (eqb (length journal) mostRecords)
+    (both (leb used mostRecords)
+    (both (seated (take used journal)) (both (jobsApart (jobsIn l)) (soundTo mostSeats l (take used journal))))))

@@ -1,7 +1,7 @@
 // Seats: the drawing at one and how many of its edits stand, the jobs that are open, whether seats and the journal that they share are sound, and what undo, redo and a new edit make of a seat.
 use drawing::Edit;
-use drawing::PINS;
 use drawing::Pin;
+use feed::PINS;
 use journal::RECORDS;
 use journal::Record;
 use journal::SEATS;
@@ -10,9 +10,9 @@ ghost use Prim.Native.Nat.{_-_, _<_, _≤_};
 ghost use lib.Dec.{leb};
 ghost use lib.ListN.{length, take, drop, getD};
 ghost use Rattle.refusal.specs.Tests.{both};
-ghost use Rattle.drawing.specs.Pins.{pins};
+ghost use Rattle.feed.specs.Feeds.{mostPins};
 ghost use Rattle.drawing.specs.Edits.{pinOf};
-ghost use Rattle.journal.specs.Journal.{records, noEdit, own, seated};
+ghost use Rattle.journal.specs.Journal.{mostRecords, mostSeats, noEdit, own, seated};
 ghost use Rattle.seats.specs.Seats.{closedSeat, openSeat, editedSeat, undoneSeat, redoneSeat, jobOf, jobsIn, sameJob, jobAmong, jobsApart};
 ghost use Rattle.seats.specs.Sound.{soundOpen, soundSeat, soundTo, soundAll};
 
@@ -80,7 +80,7 @@ fn same_job(a: u16, b: u16) -> bool
 
 // Whether a job is open at one of the seats numbered `from` and above.
 pub fn job_among(job: u16, jobs: [u16; SEATS], from: usize) -> bool
-    requires { ⌜ from ≤ 8 ⌝ }
+    requires { ⌜ from ≤ mostSeats ⌝ }
     ensures { λ r. ⌜ r ≡ jobAmong job (drop from jobs) ⌝ }
 {
     let mut i: usize = from;
@@ -110,7 +110,7 @@ fn jobs_apart(jobs: [u16; SEATS]) -> bool
 
 // Whether the used count is in its range, and each used record's seat too.
 fn journal_is_sound(journal: [Record; RECORDS], used: usize) -> bool
-    ensures { λ r. ⌜ r ≡ both (leb used records) (seated (take used journal)) ⌝ }
+    ensures { λ r. ⌜ r ≡ both (leb used mostRecords) (seated (take used journal)) ⌝ }
 {
     if RECORDS < used {
         return false;
@@ -120,7 +120,7 @@ fn journal_is_sound(journal: [Record; RECORDS], used: usize) -> bool
 
 // Whether an open seat, of that number, is sound.
 fn open_is_sound(s: Seat, journal: [Record; RECORDS], used: usize, seat: usize) -> bool
-    requires { ⌜ used ≤ records ⌝ }
+    requires { ⌜ used ≤ mostRecords ⌝ }
     ensures { λ r. ⌜ r ≡ soundOpen s (own seat (take used journal)) ⌝ }
 {
     if s.job == 0 {
@@ -145,7 +145,7 @@ fn open_is_sound(s: Seat, journal: [Record; RECORDS], used: usize, seat: usize) 
 
 // Whether a seat, of that number, is sound: as an open one, or as a closed one, which owns no records.
 fn seat_is_sound(s: Seat, journal: [Record; RECORDS], used: usize, seat: usize) -> bool
-    requires { ⌜ used ≤ records ⌝ }
+    requires { ⌜ used ≤ mostRecords ⌝ }
     ensures { λ r. ⌜ r ≡ soundSeat s (own seat (take used journal)) ⌝ }
 {
     if s.opened {
@@ -157,8 +157,8 @@ fn seat_is_sound(s: Seat, journal: [Record; RECORDS], used: usize, seat: usize) 
 
 // Whether every seat is sound.
 fn each_is_sound(seats: [Seat; SEATS], journal: [Record; RECORDS], used: usize) -> bool
-    requires { ⌜ used ≤ records ⌝ }
-    ensures { λ r. ⌜ r ≡ soundTo 8 seats (take used journal) ⌝ }
+    requires { ⌜ used ≤ mostRecords ⌝ }
+    ensures { λ r. ⌜ r ≡ soundTo mostSeats seats (take used journal) ⌝ }
 {
     let mut i: usize = 0;
     while i < SEATS {
@@ -190,7 +190,7 @@ pub fn are_sound(seats: [Seat; SEATS], journal: [Record; RECORDS], used: usize) 
 
 // A seat after a new edit, which stands: its pins with the edit made.
 pub fn edited(seat: Seat, edit: Edit) -> Seat
-    requires { ⌜ (pinOf edit < pins) × (seat .standing ≤ records) ⌝ }
+    requires { ⌜ (pinOf edit < mostPins) × (seat .standing ≤ mostRecords) ⌝ }
     ensures { λ r. ⌜ r ≡ editedSeat seat edit ⌝ }
 {
     let pins = seat.pins;
@@ -205,7 +205,7 @@ pub fn edited(seat: Seat, edit: Edit) -> Seat
 
 // A seat after undo: its latest standing edit taken back.
 pub fn undone(s: Seat, journal: [Record; RECORDS], used: usize, seat: usize) -> Seat
-    requires { ⌜ (used ≤ records) × (0 < s .standing) × (s .standing ≤ length (own seat (take used journal))) × (pinOf (getD (own seat (take used journal)) (s .standing - 1) noEdit) < pins) ⌝ }
+    requires { ⌜ (used ≤ mostRecords) × (0 < s .standing) × (s .standing ≤ length (own seat (take used journal))) × (pinOf (getD (own seat (take used journal)) (s .standing - 1) noEdit) < mostPins) ⌝ }
     ensures { λ r. ⌜ r ≡ undoneSeat s (own seat (take used journal)) ⌝ }
 {
     let standing = s.standing;
@@ -223,7 +223,7 @@ pub fn undone(s: Seat, journal: [Record; RECORDS], used: usize, seat: usize) -> 
 
 // A seat after redo: the most recently taken-back of its edits made again.
 pub fn redone(s: Seat, journal: [Record; RECORDS], used: usize, seat: usize) -> Seat
-    requires { ⌜ (used ≤ records) × (s .standing < length (own seat (take used journal))) × (pinOf (getD (own seat (take used journal)) (s .standing) noEdit) < pins) ⌝ }
+    requires { ⌜ (used ≤ mostRecords) × (s .standing < length (own seat (take used journal))) × (pinOf (getD (own seat (take used journal)) (s .standing) noEdit) < mostPins) ⌝ }
     ensures { λ r. ⌜ r ≡ redoneSeat s (own seat (take used journal)) ⌝ }
 {
     let standing = s.standing;

@@ -8,8 +8,8 @@ use native.Mathlib.Numerals.{add-one}
 use native.Mathlib.Omega.{arith}
 use lib.ListN.{length, take, drop, getD}
 use lib.Seq.{take-suc, length-take-le}
-use Rattle.grid.specs.declared.Spot.{Spot}
-use Rattle.grid.specs.declared.Spot.the-variants.{Absent}
+use Rattle.feed.specs.declared.Spot.{Spot}
+use Rattle.feed.specs.declared.Spot.the-variants.{Absent}
 use Rattle.refusal.specs.Refusals.{accepted}
 use Rattle.refusal.proofs.Tests.{choose-yes, choose-no}
 use Rattle.wiring.specs.declared.Wiring.{Wiring}
@@ -18,22 +18,22 @@ use Rattle.script.specs.Text.{over}
 use Rattle.script.specs.Answers.{verdictLine, wiredLine, jobLine}
 use Rattle.script.proofs.Printing.{Put, take-smaller}
 use Rattle.script.proofs.Steps.{front}
-use Rattle.shown.specs.Shown.{linesOf, runsText, legsText, spotText, pinsText, counted, pinsIn, wiredText, laidText, jobText, mapText}
+use Rattle.shown.specs.Shown.{lineForEach, runsText, legsText, spotText, pinsText, counted, pinsThere, wiredText, laidText, jobText, mapText}
 
 module _ {A : Type 0} where
-  lines-snoc : (line : A → List ℕ) (l : List A) (a : A) → linesOf line l ++ line a ≡ linesOf line (l ++ (a ∷ []))
-  unfolding linesOf
+  lines-snoc : (line : A → List ℕ) (l : List A) (a : A) → lineForEach line l ++ line a ≡ lineForEach line (l ++ (a ∷ []))
+  unfolding lineForEach
   lines-snoc line [] a = sym (append-nil (line a))
   lines-snoc line (b ∷ rest) a =
-      append-assoc (line b) (linesOf line rest) (line a) ∙ ap (λ (t : List ℕ). line b ++ t) (lines-snoc line rest a)
+      append-assoc (line b) (lineForEach line rest) (line a) ∙ ap (λ (t : List ℕ). line b ++ t) (lines-snoc line rest a)
 
   first-more : (d : A) (l : List A) (i : ℕ) → i < length l → take i l ++ (getD l i d ∷ []) ≡ take (i + 1) l
   first-more d l i h = rw (add-one i, take-suc l i d h)
 
   -- One line more.
   pub lines-more : (line : A → List ℕ) (d : A) (l : List A) (i : ℕ) → i < length l
-      → linesOf line (take i l) ++ line (getD l i d) ≡ linesOf line (take (i + 1) l)
-  lines-more line d l i h = lines-snoc line (take i l) (getD l i d) ∙ ap (linesOf line) (first-more d l i h)
+      → lineForEach line (take i l) ++ line (getD l i d) ≡ lineForEach line (take (i + 1) l)
+  lines-more line d l i h = lines-snoc line (take i l) (getD l i d) ∙ ap (lineForEach line) (first-more d l i h)
 
   -- As many as are asked for, or all there are.
   pub first-all : (l : List A) (count n i : ℕ) → length l ≡ n → i ≡ min count n → take i l ≡ take count l
@@ -60,9 +60,9 @@ pins-more feed pin h =
 
 -- One pin more is counted.
 pub count-more : (feed : List Spot) (pin : ℕ) → pin < length feed
-    → pinsIn (drop pin feed) ≡ counted (getD feed pin Absent) + pinsIn (drop (pin + 1) feed)
-unfolding pinsIn
-count-more feed pin h = ap pinsIn (front Absent feed pin h)
+    → pinsThere (drop pin feed) ≡ counted (getD feed pin Absent) + pinsThere (drop (pin + 1) feed)
+unfolding pinsThere
+count-more feed pin h = ap pinsThere (front Absent feed pin h)
 
 -- What is printed from the start on, as a piece that others follow.
 pub begun : (o p : List ℕ) {n : ℕ} {v : List ℕ} → n ≡ length p → v ≡ over p o → Put o 0 p n v

@@ -4,8 +4,8 @@ use Prim.Native.Nat.{ℕ, suc, _+_}
 use lib.ListN.{take}
 use Rattle.refusal.specs.Tests.{choose}
 use Rattle.refusal.specs.Refusals.{accepted}
-use Rattle.grid.specs.declared.Spot.{Spot}
-use Rattle.grid.specs.declared.Spot.the-variants.{Absent, At}
+use Rattle.feed.specs.declared.Spot.{Spot}
+use Rattle.feed.specs.declared.Spot.the-variants.{Absent, At}
 use Rattle.copper.specs.declared.Shape.{Shape}
 use Rattle.copper.specs.declared.Shape.the-variants.{Straight, Lower, Upper}
 use Rattle.copper.specs.declared.Leg.{Leg}
@@ -26,13 +26,13 @@ unfoldable pub shapedLine : Shaped → List ℕ
 shapedLine run = runLine (run .near) (run .far) (shapeWord (run .shape))
 
 -- A line for each of a list, one after the other.
-unfoldable pub linesOf : {A : Type 0} → (A → List ℕ) → List A → List ℕ
-linesOf line [] = []
-linesOf line (a ∷ rest) = line a ++ linesOf line rest
+unfoldable pub lineForEach : {A : Type 0} → (A → List ℕ) → List A → List ℕ
+lineForEach line [] = []
+lineForEach line (a ∷ rest) = line a ++ lineForEach line rest
 
 -- A line for each run.
 abbrev pub runsText : List Shaped → List ℕ
-runsText runs = linesOf shapedLine runs
+runsText runs = lineForEach shapedLine runs
 
 -- The line of a leg: its two ends.
 unfoldable pub legText : Leg → List ℕ
@@ -40,7 +40,7 @@ legText leg = legLine (leg .from) (leg .to)
 
 -- A line for each leg.
 abbrev pub legsText : List Leg → List ℕ
-legsText legs = linesOf legText legs
+legsText legs = lineForEach legText legs
 
 -- The line of a pin that is there; none for one that is not.
 unfoldable pub spotText : ℕ → Spot → List ℕ
@@ -58,9 +58,9 @@ counted Absent = 0
 counted (At place) = 1
 
 -- How many pins are there.
-unfoldable pub pinsIn : List Spot → ℕ
-pinsIn [] = 0
-pinsIn (spot ∷ rest) = counted spot + pinsIn rest
+unfoldable pub pinsThere : List Spot → ℕ
+pinsThere [] = 0
+pinsThere (spot ∷ rest) = counted spot + pinsThere rest
 
 -- An accepted wiring: its line, its runs, its legs.
 unfoldable pub wiredText : Wiring → List Leg → List ℕ
@@ -85,4 +85,4 @@ mapText job wiring = choose (accepted (wiring .verdict)) (jobText job wiring) (v
 
 -- A drawing: its line, then its pins from pin 0 on.
 unfoldable pub drawnText : ℕ → List Spot → ℕ → ℕ → List ℕ
-drawnText job feed standing taken = drawingLine job (pinsIn feed) standing taken ++ pinsText 0 feed
+drawnText job feed standing taken = drawingLine job (pinsThere feed) standing taken ++ pinsText 0 feed

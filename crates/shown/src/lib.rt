@@ -1,7 +1,7 @@
 // Answers of several lines printed into a lent buffer: a wiring, the wiring of a map, a drawing.
 use copper::Leg;
 use copper::Shape;
-use grid::Spot;
+use feed::Spot;
 use script::answers::ROOM;
 use script::answers::print_drawing;
 use script::answers::print_job;
@@ -19,7 +19,7 @@ ghost use Prim.Native.Nat.{_+_, _≤_};
 ghost use lib.ListN.{length, take};
 ghost use lib.Seq.{sets};
 ghost use Rattle.script.specs.Text.{over, room};
-ghost use Rattle.shown.specs.Shown.{shapedLine, runsText, legText, legsText, spotText, pinsText, counted, pinsIn, laidText, mapText, drawnText};
+ghost use Rattle.shown.specs.Shown.{shapedLine, runsText, legText, legsText, spotText, pinsText, counted, pinsThere, laidText, mapText, drawnText};
 
 // A run, from a position on.
 fn put_shaped(run: Shaped, out: &mut [u8; ROOM], at: usize) -> usize
@@ -119,8 +119,8 @@ fn count_of(spot: Spot) -> usize
 }
 
 // How many pins of a feed are there.
-fn pins_in(feed: [Spot; 32]) -> usize
-    ensures { λ r. ⌜ r ≡ pinsIn feed ⌝ }
+fn pins_there(feed: [Spot; 32]) -> usize
+    ensures { λ r. ⌜ r ≡ pinsThere feed ⌝ }
 {
     let mut count = 0;
     let mut pin = 0;
@@ -178,7 +178,7 @@ pub fn print_drawn(
     ensures { λ r. ⌜ (r ≡ length (drawnText job feed standing taken)) × (r ≤ room) ⌝ }
     ensures { λ _. ⌜ now (out .exit) ≡ over (drawnText job feed standing taken) (now (out .entry)) ⌝ }
 {
-    let pins = pins_in(feed);
+    let pins = pins_there(feed);
     let next = print_drawing(job as usize, pins, standing, taken, out);
     put_pins(feed, out, next)
 }

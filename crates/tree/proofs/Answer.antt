@@ -9,9 +9,10 @@ use lib.ListN.{length, getD, replicate, length-append, length-replicate, getD-re
 use lib.Seq.{getD-append-add}
 use Rattle.refusal.specs.declared.Verdict.the-variants.{Accepted, NoPins, BoxesMeet}
 use Rattle.refusal.proofs.Tests.{choose-yes, choose-no}
-use Rattle.grid.specs.declared.Spot.{Spot}
+use Rattle.feed.specs.declared.Spot.{Spot}
 use Rattle.tree.specs.declared.Run.{Run}
-use Rattle.tree.specs.Growth.{run, allInside, pinsOf, runsOf}
+use Rattle.feed.specs.Feeds.{allWithin}
+use Rattle.tree.specs.Growth.{run, pinsOf, runsOf}
 use Rattle.tree.specs.Boxes.{boxesMeet}
 use Rattle.tree.specs.Trees.{entries, treeWith, none, treeOf}
 use Rattle.tree.proofs.Deciding.{decide}
@@ -53,6 +54,6 @@ entry-blank l r h k =
     ∙ getD-replicate (31 - length l) (r - length l) (run 0 0) (run 0 0) (omega arith)
 
 -- There are 31 runs at most.
-pub runs-few : (feed : List Spot) → length feed ≡ 32 → allInside feed ≡ true → (f : ℕ) (left : List ℕ) → pinsOf feed ≡ f ∷ left → length (runsOf feed) ≤ 31
+pub runs-few : (feed : List Spot) → length feed ≡ 32 → allWithin feed ≡ true → (f : ℕ) (left : List ℕ) → pinsOf feed ≡ f ∷ left → length (runsOf feed) ≤ 31
 unfolding pinsOf
 runs-few feed full ok f left e = omega (arith, runs-rooted feed full ok f left e .many, pins-few 0 feed, ap length e)

@@ -13,10 +13,11 @@ use borrow.Author.Tests.{eqb-false}
 use Rattle.refusal.specs.Tests.{both, either}
 use Rattle.refusal.specs.declared.Verdict.the-variants.{Accepted}
 use Rattle.refusal.proofs.Tests.{fails-if, both-no, both-yes, either-right, choose-no}
-use Rattle.grid.specs.declared.Spot.{Spot}
+use Rattle.feed.specs.declared.Spot.{Spot}
 use Rattle.grid.proofs.Flat.{Site}
 use Rattle.tree.specs.declared.Run.{Run}
-use Rattle.tree.specs.Growth.{placeOf, spotAt, allInside, pinsOf, runsOf}
+use Rattle.feed.specs.Feeds.{placeOf, spotAt, allWithin}
+use Rattle.tree.specs.Growth.{pinsOf, runsOf}
 use Rattle.tree.specs.Boxes.{boxesShare, isEnd, common, clash, clashAny, boxesMeet}
 use Rattle.tree.specs.Trees.{treeWith, none, treeOf}
 use Rattle.tree.proofs.Deciding.{decide, either-false}
@@ -72,7 +73,7 @@ box-turn {a} {b} h =
       top = rw (max-comm (b .y) (a .y)) (h .top);
     }
 
-module _ (feed : List Spot) (full : length feed ≡ 32) (ok : allInside feed ≡ true) (f : ℕ) (left : List ℕ) (e : pinsOf feed ≡ f ∷ left)
+module _ (feed : List Spot) (full : length feed ≡ 32) (ok : allWithin feed ≡ true) (f : ℕ) (left : List ℕ) (e : pinsOf feed ≡ f ∷ left)
     {rs : List Run} (g : Grown (keyAt feed) (λ (a : ℕ). Among a (f ∷ left)) f rs) where
   w : Branching (λ (a : ℕ). Among a (f ∷ left)) f rs
   w = branching g
@@ -171,7 +172,7 @@ four-ends r s e =
       far-far = eqb-false (r .far) (s .far) (t .1);
     }
 
-module _ (feed : List Spot) (full : length feed ≡ 32) (ok : allInside feed ≡ true) where
+module _ (feed : List Spot) (full : length feed ≡ 32) (ok : allWithin feed ≡ true) where
   -- THE BOXES OF TWO RUNS WITHOUT A COMMON PIN SHARE NO POINT.
   pub boxes-apart : (r s : Run) → Among r (runsOf feed) → Among s (runsOf feed) → common r s ≡ false
       → boxesShare (placeOf (spotAt feed (r .near))) (placeOf (spotAt feed (r .far))) (placeOf (spotAt feed (s .near))) (placeOf (spotAt feed (s .far))) ≡ false

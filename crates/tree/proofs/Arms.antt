@@ -8,12 +8,12 @@ use lib.IntN.{ℤ}
 use borrow.Author.Tests.{eq-eqb, ne-eqb}
 use Rattle.refusal.specs.Tests.{both, either, choose}
 use Rattle.grid.specs.declared.Place.{Place}
-use Rattle.grid.specs.declared.Spot.{Spot}
+use Rattle.feed.specs.declared.Spot.{Spot}
 use Rattle.grid.specs.Weight.{comesBefore}
 use Rattle.tree.specs.declared.Run.{Run}
 use Rattle.tree.specs.declared.Offer.{Offer}
 use Rattle.tree.specs.declared.Choice.{Choice}
-use Rattle.tree.specs.Growth.{present, placeOf, spotAt}
+use Rattle.feed.specs.Feeds.{present, placeOf, spotAt}
 use Rattle.tree.specs.Boxes.{under, overlap, boxesShare, isEnd, common, clash}
 use Rattle.tree.specs.Offers.{noOffer, offerOf, firstOffer, betterOffer, nextOffer, betterChoice}
 

@@ -9,12 +9,13 @@ use lib.IntN.{ℤ}
 use lib.ListN.{length}
 use borrow.Author.Tests.{eqb-true, eqb-false, not-true}
 use Rattle.refusal.specs.Tests.{both, either, choose}
-use Rattle.grid.specs.declared.Spot.{Spot}
+use Rattle.feed.specs.declared.Spot.{Spot}
 use Rattle.grid.specs.Place.{difference, sameNumber, isStraight}
 use Rattle.grid.proofs.Signed.{off, I32}
 use Rattle.grid.proofs.Flat.{gap, gap-self, difference-gap}
 use Rattle.tree.specs.declared.Run.{Run}
-use Rattle.tree.specs.Growth.{placeOf, spotAt, allInside, pinsOf, runsAmong, runsOf}
+use Rattle.feed.specs.Feeds.{placeOf, spotAt, allWithin}
+use Rattle.tree.specs.Growth.{pinsOf, runsAmong, runsOf}
 use Rattle.tree.specs.Boxes.{isEnd}
 use Rattle.tree.specs.Bends.{bent, howMany, bentAt, bentFrom, bentInto}
 use Rattle.tree.proofs.Deciding.{either-false}
@@ -33,7 +34,7 @@ unfolding sameNumber
 number-apart a b ha hb e q =
     eqb-false (difference a b) 0 e (difference-gap a b ha hb ∙ ap (gap (off a)) (sym q) ∙ gap-self (off a))
 
-module _ (feed : List Spot) (ok : allInside feed ≡ true) where
+module _ (feed : List Spot) (ok : allWithin feed ≡ true) where
   -- The ends of a bent run share neither row nor column.
   bent-apart : (r : Run) → bent feed r ≡ true → (siteAt feed (r .near) .x ≡ siteAt feed (r .far) .x → ⊥) × (siteAt feed (r .near) .y ≡ siteAt feed (r .far) .y → ⊥)
   unfolding bent isStraight
@@ -79,7 +80,7 @@ unfolding howMany
 bent-turned feed [] m n = omega arith
 bent-turned feed (r ∷ l) m n = bent-turned feed l (r ∷ m) n ∙ omega arith
 
-module _ (feed : List Spot) (full : length feed ≡ 32) (ok : allInside feed ≡ true) (f : ℕ) (left : List ℕ) (e : pinsOf feed ≡ f ∷ left) where
+module _ (feed : List Spot) (full : length feed ≡ 32) (ok : allWithin feed ≡ true) (f : ℕ) (left : List ℕ) (e : pinsOf feed ≡ f ∷ left) where
   -- Two pins that runs join to one are no nearer to each other than either is to it.
   spread : {rs : List Run} → Grown (keyAt feed) (λ (a : ℕ). Among a (f ∷ left)) f rs → (i a b : ℕ) → Joined i a rs → Joined i b rs → (a ≡ b → ⊥)
       → Spread (siteAt feed) (siteAt feed i) a b
@@ -119,7 +120,7 @@ module _ (feed : List Spot) (full : length feed ≡ 32) (ok : allInside feed ≡
   six-some n = omega (arith, six-newest n, bent-turned feed (runsOf feed) [] n)
 
 -- AT MOST SIX BENT RUNS end at any pin of a feed.
-pub six-bent : (feed : List Spot) → length feed ≡ 32 → allInside feed ≡ true → (n : ℕ) → bentAt feed (runsOf feed) n ≤ 6
+pub six-bent : (feed : List Spot) → length feed ≡ 32 → allWithin feed ≡ true → (n : ℕ) → bentAt feed (runsOf feed) n ≤ 6
 unfolding howMany runsOf runsAmong
 six-bent feed full ok n = go (pinsOf feed) refl
   where
@@ -151,5 +152,5 @@ bent-split feed (r ∷ runs) n h =
     )
 
 -- OF THE BENT RUNS LEADING ON FROM A PIN AND THE ONE THAT REACHED IT there are at most six.
-pub six-leading : (feed : List Spot) → length feed ≡ 32 → allInside feed ≡ true → (n : ℕ) → bentFrom feed (runsOf feed) n + bentInto feed (runsOf feed) n ≤ 6
+pub six-leading : (feed : List Spot) → length feed ≡ 32 → allWithin feed ≡ true → (n : ℕ) → bentFrom feed (runsOf feed) n + bentInto feed (runsOf feed) n ≤ 6
 six-leading feed full ok n = omega (arith, six-bent feed full ok n, bent-split feed (runsOf feed) n (runs-join feed full ok .ends-differ))

@@ -13,11 +13,12 @@ use borrow.Author.Tests.{ltb-true, ltb-false, not-false, not-true}
 use Rattle.refusal.specs.Tests.{both}
 use Rattle.refusal.proofs.Tests.{both-left, both-right, both-of}
 use Rattle.grid.specs.declared.Place.{Place}
-use Rattle.grid.specs.declared.Spot.{Spot}
+use Rattle.feed.specs.declared.Spot.{Spot}
 use Rattle.grid.proofs.Signed.{off, I32, ltZ-off}
 use Rattle.grid.proofs.Flat.{Site, site, Held}
 use Rattle.tree.specs.declared.Run.{Run}
-use Rattle.tree.specs.Growth.{placeOf, spotAt, run}
+use Rattle.feed.specs.Feeds.{placeOf, spotAt}
+use Rattle.tree.specs.Growth.{run}
 use Rattle.tree.specs.Boxes.{belowBoth, under, overlap, boxesShare, common, clash, clashAny, boxesMeet}
 use Rattle.tree.proofs.Deciding.{decide, both-false, either-false}
 use Rattle.tree.proofs.FourPins.{InBox}

@@ -12,11 +12,12 @@ use borrow.Author.Tests.{ltb-true, ltb-false}
 use Rattle.refusal.specs.Tests.{choose}
 use Rattle.refusal.proofs.Tests.{choose-yes, choose-no}
 use Rattle.grid.specs.declared.Place.{Place}
-use Rattle.grid.specs.declared.Spot.{Spot}
+use Rattle.feed.specs.declared.Spot.{Spot}
 use Rattle.grid.specs.Weight.{comesBefore}
 use Rattle.tree.specs.declared.Offer.{Offer}
 use Rattle.tree.specs.declared.Choice.{Choice}
-use Rattle.tree.specs.Growth.{pairAt, spotAt}
+use Rattle.feed.specs.Feeds.{spotAt}
+use Rattle.tree.specs.Growth.{pairAt}
 use Rattle.tree.specs.Offers.{noOffer, firstOffer, nextOffer, firstOffers, nextOffers, betterChoice, choiceFrom, choiceOf}
 use Rattle.tree.proofs.Deciding.{opposite, decide}
 use Rattle.tree.proofs.Earliest.{Keyed}

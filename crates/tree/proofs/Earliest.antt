@@ -10,10 +10,10 @@ use lib.Dec.{ltb}
 use borrow.Author.Tests.{ltb-true, ltb-false}
 use Rattle.refusal.specs.Tests.{choose}
 use Rattle.refusal.proofs.Tests.{choose-yes, choose-no}
-use Rattle.grid.specs.declared.Spot.{Spot}
+use Rattle.feed.specs.declared.Spot.{Spot}
 use Rattle.grid.specs.Weight.{comesBefore}
 use Rattle.tree.specs.declared.Run.{Run}
-use Rattle.tree.specs.Growth.{run, pairAt, sooner, between, earliest, earliestOf, next}
+use Rattle.tree.specs.Growth.{run, pairAt, sooner, runsBetween, earliest, earliestOf, nextRun}
 use Rattle.tree.proofs.Deciding.{decide}
 use Rattle.tree.proofs.Membership.{Among, first, later, between-in, in-between}
 
@@ -120,8 +120,8 @@ module _ {feed : List Spot} {key : ℕ → ℕ → ℕ} (k : Keyed feed key) whe
 
   -- The run that is taken next is the earliest.
   pub next-earliest : (reached left : List ℕ) → ((a : ℕ) → Among a reached → a < 32) → ((a : ℕ) → Among a left → a < 32)
-      → (a b : ℕ) → Among a reached → Among b left → Earliest key reached left (next feed reached left)
-  unfolding next
+      → (a b : ℕ) → Among a reached → Among b left → Earliest key reached left (nextRun feed reached left)
+  unfolding nextRun
   next-earliest reached left low low' a b ha hb =
-      earliest-of reached left low low' (run a b) (between reached left) (in-between left ha hb) (λ s m. between-in reached left m)
+      earliest-of reached left low low' (run a b) (runsBetween reached left) (in-between left ha hb) (λ s m. between-in reached left m)
       (λ c d hc hd. in-between left hc hd)

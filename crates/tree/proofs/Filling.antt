@@ -1,32 +1,16 @@
--- The loops that fill the offers: one turn, and the end; and places of a feed that stand on the board. Assumes nothing.
-use mathlib.Core.Path.{_≡_, refl, sym, ap, _∙_}
-use mathlib.Core.Bool.{true}
-use mathlib.Core.List.{List, [], _∷_}
-use Prim.Native.Nat.{ℕ, zero, suc, _+_, _<_, _≤_}
+-- The loops that fill the offers: one turn, and the end. Assumes nothing.
+use mathlib.Core.Path.{_≡_, sym, ap, _∙_}
+use mathlib.Core.List.{List}
+use Prim.Native.Nat.{ℕ, _+_, _<_, _≤_}
 use native.Mathlib.Omega.{arith}
 use lib.ListN.{length, getD, set}
-use Rattle.refusal.proofs.Tests.{both-left, both-right, both-of}
-use Rattle.refusal.specs.Tests.{both}
 use Rattle.grid.specs.declared.Place.{Place}
-use Rattle.grid.specs.declared.Spot.{Spot}
-use Rattle.grid.specs.Place.{inside, onBoard}
+use Rattle.feed.specs.declared.Spot.{Spot}
 use Rattle.tree.specs.declared.Offer.{Offer}
-use Rattle.tree.specs.Growth.{placeOf, spotAt, allInside}
+use Rattle.feed.specs.Feeds.{spotAt}
 use Rattle.tree.specs.Offers.{noOffer, firstOffer, nextOffer, firstOffers, nextOffers}
 use Rattle.tree.proofs.Loops.{filled, filled-turn, filled-next, filled-end}
 use Rattle.tree.proofs.Choosing.{first-at, first-many, next-at, next-many}
-
--- Every place of the feed, and the middle of the board that stands in for a pin that is not there, is on the board.
-pub inside-at : (feed : List Spot) → allInside feed ≡ true → (k : ℕ) → inside (placeOf (spotAt feed k)) ≡ true
-unfolding allInside inside onBoard both
-inside-at [] e k = refl
-inside-at (s ∷ feed) e zero = both-left (inside (placeOf s)) (allInside feed) e
-inside-at (s ∷ feed) e (suc k) = inside-at feed (both-right (inside (placeOf s)) (allInside feed) e) k
-
-pub all-inside : (feed : List Spot) → ((k : ℕ) → k < length feed → inside (placeOf (spotAt feed k)) ≡ true) → allInside feed ≡ true
-unfolding allInside
-all-inside [] h = refl
-all-inside (s ∷ feed) h = both-of (h 0 (omega arith)) (all-inside feed (λ k l. h (suc k) (omega arith)))
 
 module _ (f : ℕ) (from : Place) (feed : List Spot) (l o : List Offer) (i : ℕ) (full : length l ≡ length feed)
     (so-far : o ≡ filled (firstOffers f from 0 feed) l i) where

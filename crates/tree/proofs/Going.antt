@@ -7,11 +7,12 @@ use native.Mathlib.Omega.{arith}
 use lib.ListN.{length, set, replicate, length-append}
 use lib.Seq.{set-at, append-snoc}
 use Rattle.refusal.proofs.Tests.{choose-yes, choose-no}
-use Rattle.grid.specs.declared.Spot.{Spot}
+use Rattle.feed.specs.declared.Spot.{Spot}
 use Rattle.tree.specs.declared.Run.{Run}
 use Rattle.tree.specs.declared.Offer.{Offer}
 use Rattle.tree.specs.declared.Choice.{Choice}
-use Rattle.tree.specs.Growth.{placeOf, spotAt, run}
+use Rattle.feed.specs.Feeds.{placeOf, spotAt}
+use Rattle.tree.specs.Growth.{run}
 use Rattle.tree.specs.Trees.{entries}
 use Rattle.tree.specs.Offers.{nextOffers, choiceOf, takenRuns, takenOf}
 

@@ -7,10 +7,11 @@ use mathlib.Core.Logic.{_⊎_, inl, inr, ⊎-elim}
 use Prim.Native.Nat.{ℕ, zero, suc, _<_}
 use native.Mathlib.Omega.{arith}
 use lib.ListN.{length, getD}
-use Rattle.grid.specs.declared.Spot.{Spot}
+use Rattle.feed.specs.declared.Spot.{Spot}
 use Rattle.grid.proofs.Flat.{same-or-not}
 use Rattle.tree.specs.declared.Run.{Run}
-use Rattle.tree.specs.Growth.{run, allInside, pinsOf, without, next, grown, runsAmong, runsOf}
+use Rattle.feed.specs.Feeds.{allWithin}
+use Rattle.tree.specs.Growth.{run, pinsOf, without, nextRun, grown, runsAmong, runsOf}
 use Rattle.tree.proofs.Membership.{Among, first, later, Distinct, also, without-in, in-without, length-without, distinct-without, pins-there, pins-distinct}
 use Rattle.tree.proofs.Earliest.{Keyed, Earliest, next-earliest}
 use Rattle.tree.proofs.Numbering.{keyAt, keyed}
@@ -32,7 +33,7 @@ grown-listed k zero reached (b ∷ left) a ha low low' d e = absurd (omega arith
 grown-listed k (suc turns) reached [] a ha low low' d e = absurd (omega arith)
 grown-listed {feed} k (suc turns) reached (b ∷ left) a ha low low' d e =
     let h = next-earliest k reached (b ∷ left) low low' a b ha (first refl) in
-    let t : ℕ = next feed reached (b ∷ left) .far in
+    let t : ℕ = nextRun feed reached (b ∷ left) .far in
     let n = length-without t d (h .to) in
     taking h
     (grown-listed k turns (t ∷ reached) (without t (b ∷ left)) t (first refl) (lows t (h .to))
@@ -167,7 +168,7 @@ listed-grown {key = key} {There = There} {o = o} (taking {reached = reached} {le
     into' a t n = in-without (r .far) (into a t (λ h. n (old h))) (λ q. n (new q))
 
 -- ---- the runs of a feed
-module _ (feed : List Spot) (full : length feed ≡ 32) (ok : allInside feed ≡ true) (f : ℕ) (left : List ℕ) (e : pinsOf feed ≡ f ∷ left) where
+module _ (feed : List Spot) (full : length feed ≡ 32) (ok : allWithin feed ≡ true) (f : ℕ) (left : List ℕ) (e : pinsOf feed ≡ f ∷ left) where
   distinct : Distinct (f ∷ left)
   unfolding pinsOf
   distinct = rw e at (pins-distinct 0 feed)

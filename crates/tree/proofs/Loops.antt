@@ -8,12 +8,13 @@ use native.Mathlib.Numerals.{add-one}
 use lib.ListN.{length, getD, set, take, drop, drop-of-length-le}
 use lib.Seq.{getD-take, drop-cons, take-suc, take-all, set-at, getD-at, length-take-le, append-snoc}
 use Rattle.refusal.proofs.Tests.{choose-yes, choose-no, either-left, either-right}
-use Rattle.grid.specs.declared.Spot.{Spot}
-use Rattle.grid.specs.declared.Spot.the-variants.{Absent}
+use Rattle.feed.specs.declared.Spot.{Spot}
+use Rattle.feed.specs.declared.Spot.the-variants.{Absent}
 use Rattle.tree.specs.declared.Run.{Run}
 use Rattle.tree.specs.declared.Offer.{Offer}
 use Rattle.tree.specs.declared.Choice.{Choice}
-use Rattle.tree.specs.Growth.{present, run}
+use Rattle.feed.specs.Feeds.{present}
+use Rattle.tree.specs.Growth.{run}
 use Rattle.tree.specs.Boxes.{clash, clashAny, boxesMeet}
 use Rattle.tree.specs.Offers.{noOffer, betterChoice, choiceFrom, firstFrom}
 

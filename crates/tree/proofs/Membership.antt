@@ -10,11 +10,12 @@ use lib.ListN.{length, getD}
 use borrow.Author.Tests.{eq-eqb, ne-eqb}
 use Rattle.refusal.specs.Tests.{choose}
 use Rattle.refusal.proofs.Tests.{choose-yes, choose-no}
-use Rattle.grid.specs.declared.Spot.{Spot}
-use Rattle.grid.specs.declared.Spot.the-variants.{Absent}
+use Rattle.feed.specs.declared.Spot.{Spot}
+use Rattle.feed.specs.declared.Spot.the-variants.{Absent}
 use Rattle.grid.proofs.Flat.{same-or-not}
 use Rattle.tree.specs.declared.Run.{Run}
-use Rattle.tree.specs.Growth.{present, run, keptIf, pinsFrom, without, runsFrom, between}
+use Rattle.feed.specs.Feeds.{present}
+use Rattle.tree.specs.Growth.{run, keptIf, pinsFrom, without, runsFrom, runsBetween}
 use Rattle.tree.proofs.Deciding.{opposite}
 
 -- a stands in the list.
@@ -177,11 +178,11 @@ unfolding runsFrom
 in-from near (first e) = first (ap (run near) e)
 in-from near (later h) = later (in-from near h)
 
-pub between-in : {r : Run} (nears fars : List ℕ) → Among r (between nears fars) → Among (r .near) nears × Among (r .far) fars
-unfolding between
+pub between-in : {r : Run} (nears fars : List ℕ) → Among r (runsBetween nears fars) → Among (r .near) nears × Among (r .far) fars
+unfolding runsBetween
 between-in {r} (n ∷ nears) fars h = go (in-either (runsFrom n fars) h) (between-in nears fars)
   where
-    go : Among r (runsFrom n fars) ⊎ Among r (between nears fars) → (Among r (between nears fars) → Among (r .near) nears × Among (r .far) fars)
+    go : Among r (runsFrom n fars) ⊎ Among r (runsBetween nears fars) → (Among r (runsBetween nears fars) → Among (r .near) nears × Among (r .far) fars)
         → Among (r .near) (n ∷ nears) × Among (r .far) fars
     go (inl k) ih = let z = from-in n fars k in (first (z .0), z .1)
     go (inr k) ih = let z = ih k in (later (z .0), z .1)
@@ -189,7 +190,7 @@ between-in {r} (n ∷ nears) fars h = go (in-either (runsFrom n fars) h) (betwee
 as-near : {a n b : ℕ} {l : List Run} → a ≡ n → Among (run n b) l → Among (run a b) l
 as-near e h = rw e h
 
-pub in-between : {a b : ℕ} {nears : List ℕ} (fars : List ℕ) → Among a nears → Among b fars → Among (run a b) (between nears fars)
-unfolding between
-in-between fars (first {b = n} {l = nears} e) k = in-front (between nears fars) (as-near e (in-from n k))
+pub in-between : {a b : ℕ} {nears : List ℕ} (fars : List ℕ) → Among a nears → Among b fars → Among (run a b) (runsBetween nears fars)
+unfolding runsBetween
+in-between fars (first {b = n} {l = nears} e) k = in-front (runsBetween nears fars) (as-near e (in-from n k))
 in-between fars (later {b = n} h) k = in-back (runsFrom n fars) (in-between fars h k)

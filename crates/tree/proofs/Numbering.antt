@@ -4,12 +4,13 @@ use mathlib.Core.Bool.{true}
 use mathlib.Core.List.{List}
 use Prim.Native.Nat.{ℕ, _<_}
 use native.Mathlib.Omega.{arith}
-use Rattle.grid.specs.declared.Spot.{Spot}
+use Rattle.feed.specs.declared.Spot.{Spot}
 use Rattle.grid.proofs.Flat.{Site, site, place-held}
 use Rattle.grid.proofs.Keys.{OnBoard, on-board, Fits, key, key-swap, key-one, before-key}
 use Rattle.grid.proofs.Order.{Pin, pin-fits}
-use Rattle.tree.specs.Growth.{placeOf, spotAt, pairAt, allInside}
-use Rattle.tree.proofs.Filling.{inside-at}
+use Rattle.feed.specs.Feeds.{placeOf, spotAt, allWithin}
+use Rattle.tree.specs.Growth.{pairAt}
+use Rattle.feed.proofs.Rules.{inside-at}
 use Rattle.tree.proofs.Earliest.{Keyed}
 
 -- Where a pin of a feed stands, in ℕ.
@@ -20,7 +21,7 @@ siteAt feed a = site (placeOf (spotAt feed a))
 unfoldable pub keyAt : List Spot → ℕ → ℕ → ℕ
 keyAt feed a b = key (siteAt feed a) a (siteAt feed b) b
 
-module _ (feed : List Spot) (ok : allInside feed ≡ true) where
+module _ (feed : List Spot) (ok : allWithin feed ≡ true) where
   -- Every pin's place is one of the board.
   pub stands : (a : ℕ) → OnBoard (placeOf (spotAt feed a))
   stands a = on-board (place-held (placeOf (spotAt feed a)) (inside-at feed ok a)) (inside-at feed ok a)

@@ -10,11 +10,12 @@ use lib.Seq.{take-append-seam}
 use Rattle.refusal.specs.Tests.{choose}
 use Rattle.refusal.specs.declared.Verdict.the-variants.{Accepted, NoPins, BoxesMeet}
 use Rattle.refusal.proofs.Tests.{choose-yes, choose-no}
-use Rattle.grid.specs.declared.Spot.{Spot}
+use Rattle.feed.specs.declared.Spot.{Spot}
 use Rattle.tree.specs.declared.Run.{Run}
 use Rattle.tree.specs.declared.Offer.{Offer}
 use Rattle.tree.specs.declared.Taken.{Taken}
-use Rattle.tree.specs.Growth.{present, placeOf, spotAt, run, allInside, pinsFrom, pinsOf, runsOf}
+use Rattle.feed.specs.Feeds.{present, placeOf, spotAt, allWithin}
+use Rattle.tree.specs.Growth.{run, pinsFrom, pinsOf, runsOf}
 use Rattle.tree.specs.Boxes.{boxesMeet}
 use Rattle.tree.specs.Trees.{entries, treeWith, none, treeOf}
 use Rattle.tree.specs.Offers.{firstOffers, choiceOf, takenRuns, takenOf, firstFrom}
@@ -74,7 +75,7 @@ no-pins feed full e = go (first-of 0 feed)
     go (nowhere f p) = sym (choose-yes _ _ (ap none p))
     go (there f left p) = absurd (omega arith)
 
-module _ (feed : List Spot) (full : length feed ≡ 32) (ok : allInside feed ≡ true) (t : Taken)
+module _ (feed : List Spot) (full : length feed ≡ 32) (ok : allWithin feed ≡ true) (t : Taken)
     (e : t ≡ takenOf (takenRuns feed 31 (firstOffers (firstFrom 0 feed) (placeOf (spotAt feed (firstFrom 0 feed))) 0 feed))) where
   pub count-few : t .count ≤ 31
   unfolding takenOf

@@ -8,11 +8,12 @@ use Prim.Native.Nat.{ℕ, zero, suc, _<_, _≤_}
 use native.Mathlib.Omega.{arith}
 use lib.ListN.{length, getD}
 use borrow.Author.Tests.{lt-ltb, ltb-true}
-use Rattle.grid.specs.declared.Spot.{Spot}
+use Rattle.feed.specs.declared.Spot.{Spot}
 use Rattle.grid.specs.Weight.{comesBefore}
 use Rattle.grid.proofs.Flat.{same-or-not}
 use Rattle.tree.specs.declared.Run.{Run}
-use Rattle.tree.specs.Growth.{run, pairAt, allInside, pinsOf, runsAmong, runsOf}
+use Rattle.feed.specs.Feeds.{allWithin}
+use Rattle.tree.specs.Growth.{run, pairAt, pinsOf, runsAmong, runsOf}
 use Rattle.tree.proofs.Membership.{Among, first, later, without-in}
 use Rattle.tree.proofs.Earliest.{Keyed}
 use Rattle.tree.proofs.Numbering.{keyAt, keyed}
@@ -325,7 +326,7 @@ module _ {feed : List Spot} {key : ℕ → ℕ → ℕ} {pins : List ℕ} {runs 
               absurd (omega (arith, least, sooner-out out (v .s) (v .t) s g (ways (v .s) (u .near) s near) (ways (v .t) (u .far) g far) n))
 
 -- ---- the runs of a feed
-module _ (feed : List Spot) (full : length feed ≡ 32) (ok : allInside feed ≡ true) (f : ℕ) (left : List ℕ) (e : pinsOf feed ≡ f ∷ left) where
+module _ (feed : List Spot) (full : length feed ≡ 32) (ok : allWithin feed ≡ true) (f : ℕ) (left : List ℕ) (e : pinsOf feed ≡ f ∷ left) where
   facts : Facts feed (keyAt feed) (f ∷ left) (runsOf feed)
   facts =
       record {
@@ -373,7 +374,7 @@ pub no-runs : (feed : List Spot) → pinsOf feed ≡ [] → runsOf feed ≡ []
 unfolding runsOf runsAmong
 no-runs feed e = rw e refl
 
-module _ (feed : List Spot) (full : length feed ≡ 32) (ok : allInside feed ≡ true) where
+module _ (feed : List Spot) (full : length feed ≡ 32) (ok : allWithin feed ≡ true) where
   -- THE RUNS JOIN ALL PINS.
   pub runs-join : JoinsAll (pinsOf feed) (runsOf feed)
   runs-join = go (pins-are feed)

@@ -13,12 +13,13 @@ use borrow.Author.Tests.{ltb-true, ltb-false, eq-eqb, ne-eqb, not-true}
 use Rattle.refusal.specs.Tests.{both, choose}
 use Rattle.refusal.proofs.Tests.{choose-yes, choose-no, both-left, both-right, both-of}
 use Rattle.grid.specs.declared.Place.{Place}
-use Rattle.grid.specs.declared.Spot.{Spot}
+use Rattle.feed.specs.declared.Spot.{Spot}
 use Rattle.grid.specs.Weight.{comesBefore}
 use Rattle.tree.specs.declared.Run.{Run}
 use Rattle.tree.specs.declared.Offer.{Offer}
 use Rattle.tree.specs.declared.Choice.{Choice}
-use Rattle.tree.specs.Growth.{present, placeOf, spotAt, run, pairAt, pinsFrom, without, next, grown, runsAmong, pinsOf, runsOf}
+use Rattle.feed.specs.Feeds.{present, placeOf, spotAt}
+use Rattle.tree.specs.Growth.{run, pairAt, pinsFrom, without, nextRun, grown, runsAmong, pinsOf, runsOf}
 use Rattle.tree.specs.Offers.{noOffer, offerOf, firstOffer, betterOffer, nextOffer, firstOffers, choiceOf, takenRuns}
 use Rattle.tree.proofs.Deciding.{opposite, decide}
 use Rattle.tree.proofs.Membership.{Among, first, later, Distinct, also, without-in, in-without, length-without, distinct-without, pins-there, there-pins, pins-distinct, pins-few}
@@ -203,10 +204,10 @@ module _ {feed : List Spot} {key : ℕ → ℕ → ℕ} (keyed : Keyed feed key)
       z .found b (omega (arith, h .many, h .short b (first refl))) (h .awaited b (first refl)) in
       let c = chosen-earliest h (choiceOf offers) z w in
       let low' : (k : ℕ) → Among k (b ∷ left) → k < 32 = λ k m. omega (arith, h .short k m) in
-      let same' : run (choiceOf offers .offer .near) (choiceOf offers .pin) ≡ next feed reached (b ∷ left) =
-      one-earliest keyed (h .low) low' (h .apart) (run (choiceOf offers .offer .near) (choiceOf offers .pin)) (next feed reached (b ∷ left)) c
+      let same' : run (choiceOf offers .offer .near) (choiceOf offers .pin) ≡ nextRun feed reached (b ∷ left) =
+      one-earliest keyed (h .low) low' (h .apart) (run (choiceOf offers .offer .near) (choiceOf offers .pin)) (nextRun feed reached (b ∷ left)) c
       (next-earliest keyed reached (b ∷ left) (h .low) low' a b ha (first refl)) in
-      let far : choiceOf offers .pin ≡ next feed reached (b ∷ left) .far = ap (λ (r : Run). r .far) same' in
+      let far : choiceOf offers .pin ≡ nextRun feed reached (b ∷ left) .far = ap (λ (r : Run). r .far) same' in
       let n = length-without (choiceOf offers .pin) (h .once) (c .to) in
       something feed most offers w
       ∙ ap₂ _∷_ same'

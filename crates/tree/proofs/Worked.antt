@@ -7,13 +7,14 @@ use lib.IntN.{ℤ, pos, negsuc}
 use lib.ListN.{length, replicate}
 use Rattle.refusal.specs.Tests.{both, either, choose}
 use Rattle.refusal.specs.declared.Verdict.the-variants.{Accepted, NoPins}
-use Rattle.grid.specs.declared.Spot.{Spot}
-use Rattle.grid.specs.declared.Spot.the-variants.{Absent, At}
+use Rattle.feed.specs.declared.Spot.{Spot}
+use Rattle.feed.specs.declared.Spot.the-variants.{Absent, At}
 use Rattle.grid.specs.declared.Place.{Place}
 use Rattle.grid.specs.Place.{onBoard, inside, difference, larger}
 use Rattle.grid.specs.Weight.{distanceOf, weightOf, pairOf, byPart, byNumber, comesBefore}
 use Rattle.tree.specs.declared.Run.{Run}
-use Rattle.tree.specs.Growth.{allInside, run, pairAt, sooner, keptIf, pinsFrom, without, runsFrom, between, earliest, earliestOf, next, grown, runsAmong, pinsOf, runsOf}
+use Rattle.feed.specs.Feeds.{within, allWithin}
+use Rattle.tree.specs.Growth.{run, pairAt, sooner, keptIf, pinsFrom, without, runsFrom, runsBetween, earliest, earliestOf, nextRun, grown, runsAmong, pinsOf, runsOf}
 use Rattle.tree.specs.Boxes.{belowBoth, under, overlap, boxesShare, isEnd, common, clash, clashAny, boxesMeet}
 use Rattle.tree.specs.Trees.{entries, treeWith, treeOf}
 
@@ -62,7 +63,7 @@ runs =
     ∷ []
 
 pub worked : map (λ spots. treeOf (feed spots)) boards ≡ map (treeWith Accepted) runs
-unfolding treeOf treeWith entries boxesMeet clashAny clash common isEnd boxesShare overlap under belowBoth runsOf pinsOf runsAmong grown next earliestOf earliest between runsFrom without pinsFrom keptIf sooner pairAt comesBefore byPart byNumber pairOf weightOf distanceOf difference larger both either choose
+unfolding treeOf treeWith entries boxesMeet clashAny clash common isEnd boxesShare overlap under belowBoth runsOf pinsOf runsAmong grown nextRun earliestOf earliest runsBetween runsFrom without pinsFrom keptIf sooner pairAt comesBefore byPart byNumber pairOf weightOf distanceOf difference larger both either choose
 worked = refl
 
 -- A feed with no pins: 17.
@@ -71,8 +72,8 @@ unfolding treeOf treeWith pinsOf pinsFrom keptIf choose
 nothing = refl
 
 -- What the code asks of a feed can be met: every board stands on the board's range.
-pub met : map (λ spots. allInside (feed spots)) boards ≡ replicate 8 true
-unfolding allInside inside onBoard both
+pub met : map (λ spots. allWithin (feed spots)) boards ≡ replicate 8 true
+unfolding allWithin within inside onBoard both
 met = refl
 
 -- Boxes that only touch share a point, at a corner or along a side; boxes a step apart do not.

@@ -4,10 +4,10 @@ use mathlib.Core.List.{List, [], _∷_}
 use Prim.Native.Nat.{ℕ, _+_}
 use lib.Dec.{eqb}
 use Rattle.refusal.specs.Tests.{both, choose}
-use Rattle.grid.specs.declared.Spot.{Spot}
+use Rattle.feed.specs.declared.Spot.{Spot}
 use Rattle.grid.specs.Place.{isStraight}
 use Rattle.tree.specs.declared.Run.{Run}
-use Rattle.tree.specs.Growth.{placeOf, spotAt}
+use Rattle.feed.specs.Feeds.{placeOf, spotAt}
 use Rattle.tree.specs.Boxes.{isEnd}
 
 -- A run that is not straight is bent.

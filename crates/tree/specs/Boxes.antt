@@ -7,9 +7,9 @@ use lib.Signed.{ltZ}
 use lib.Dec.{eqb}
 use Rattle.refusal.specs.Tests.{both, either}
 use Rattle.grid.specs.declared.Place.{Place}
-use Rattle.grid.specs.declared.Spot.{Spot}
+use Rattle.feed.specs.declared.Spot.{Spot}
 use Rattle.tree.specs.declared.Run.{Run}
-use Rattle.tree.specs.Growth.{placeOf, spotAt}
+use Rattle.feed.specs.Feeds.{placeOf, spotAt}
 
 -- A number is less than both c and d.
 unfoldable pub belowBoth : ℤ → ℤ → ℤ → Bool

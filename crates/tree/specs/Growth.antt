@@ -2,36 +2,15 @@
 use mathlib.Core.Bool.{Bool, true, false}
 use mathlib.Core.List.{List, [], _∷_, _++_}
 use Prim.Native.Nat.{ℕ, zero, suc}
-use lib.IntN.{pos}
 use lib.Dec.{eqb}
-use lib.ListN.{length, getD}
-use Rattle.refusal.specs.Tests.{both, choose}
+use lib.ListN.{length}
+use Rattle.refusal.specs.Tests.{choose}
 use Rattle.grid.specs.declared.Place.{Place}
-use Rattle.grid.specs.declared.Spot.{Spot}
-use Rattle.grid.specs.declared.Spot.the-variants.{Absent, At}
+use Rattle.feed.specs.Feeds.{present, placeOf, spotAt}
+use Rattle.feed.specs.declared.Spot.{Spot}
 use Rattle.grid.specs.declared.Pair.{Pair}
-use Rattle.grid.specs.Place.{inside}
 use Rattle.grid.specs.Weight.{pairOf, comesBefore}
 use Rattle.tree.specs.declared.Run.{Run}
-
--- A pin is there.
-abbrev pub present : Spot → Bool
-present Absent = false
-present (At p) = true
-
--- Where a pin stands; the middle of the board stands in for a pin that is not there.
-abbrev pub placeOf : Spot → Place
-placeOf Absent = record { x = pos 0; y = pos 0 }
-placeOf (At p) = p
-
--- What a feed has at a pin's number.
-abbrev pub spotAt : List Spot → ℕ → Spot
-spotAt feed i = getD feed i Absent
-
--- Every pin that is there stands on the board.
-unfoldable pub allInside : List Spot → Bool
-allInside [] = true
-allInside (s ∷ feed) = both (inside (placeOf s)) (allInside feed)
 
 -- The pair of two pins of a feed.
 unfoldable pub pairAt : List Spot → ℕ → ℕ → Pair
@@ -66,9 +45,9 @@ runsFrom near [] = []
 runsFrom near (far ∷ fars) = run near far ∷ runsFrom near fars
 
 -- Every run between a reached pin (near) and one not reached (far).
-unfoldable pub between : List ℕ → List ℕ → List Run
-between [] fars = []
-between (near ∷ nears) fars = runsFrom near fars ++ between nears fars
+unfoldable pub runsBetween : List ℕ → List ℕ → List Run
+runsBetween [] fars = []
+runsBetween (near ∷ nears) fars = runsFrom near fars ++ runsBetween nears fars
 
 -- The earliest of a run and some others.
 unfoldable pub earliest : List Spot → Run → List Run → Run
@@ -81,14 +60,14 @@ earliestOf feed [] = run 0 0
 earliestOf feed (r ∷ others) = earliest feed r others
 
 -- The run that is taken next: the earliest between a reached pin and one not reached.
-unfoldable pub next : List Spot → List ℕ → List ℕ → Run
-next feed reached left = earliestOf feed (between reached left)
+unfoldable pub nextRun : List Spot → List ℕ → List ℕ → Run
+nextRun feed reached left = earliestOf feed (runsBetween reached left)
 
 -- Runs are listed as they are taken, as many as there are pins left to reach.
 unfoldable pub grown : List Spot → ℕ → List ℕ → List ℕ → List Run
 grown feed zero reached left = []
 grown feed (suc turns) reached left =
-    let r : Run = next feed reached left in
+    let r : Run = nextRun feed reached left in
     r ∷ grown feed turns (r .far ∷ reached) (without (r .far) left)
 
 -- The runs when growing from the first of some pins.

@@ -7,13 +7,14 @@ use lib.Dec.{eqb}
 use lib.ListN.{length}
 use Rattle.refusal.specs.Tests.{both, choose}
 use Rattle.grid.specs.declared.Place.{Place}
-use Rattle.grid.specs.declared.Spot.{Spot}
+use Rattle.feed.specs.declared.Spot.{Spot}
 use Rattle.grid.specs.Weight.{pairOf, comesBefore}
 use Rattle.tree.specs.declared.Run.{Run}
 use Rattle.tree.specs.declared.Offer.{Offer}
 use Rattle.tree.specs.declared.Choice.{Choice}
 use Rattle.tree.specs.declared.Taken.{Taken}
-use Rattle.tree.specs.Growth.{present, placeOf, spotAt, run}
+use Rattle.feed.specs.Feeds.{present, placeOf, spotAt}
+use Rattle.tree.specs.Growth.{run}
 use Rattle.tree.specs.Trees.{entries}
 
 -- What a pin keeps that does not wait.

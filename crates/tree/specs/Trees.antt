@@ -6,7 +6,7 @@ use lib.ListN.{length, replicate}
 use Rattle.refusal.specs.Tests.{choose}
 use Rattle.refusal.specs.declared.Verdict.{Verdict}
 use Rattle.refusal.specs.declared.Verdict.the-variants.{Accepted, NoPins, BoxesMeet}
-use Rattle.grid.specs.declared.Spot.{Spot}
+use Rattle.feed.specs.declared.Spot.{Spot}
 use Rattle.tree.specs.declared.Run.{Run}
 use Rattle.tree.specs.declared.Tree.{Tree}
 use Rattle.tree.specs.Growth.{run, pinsOf, runsOf}

@@ -1,7 +1,7 @@
 // The runs of a feed: the tree that joins its pins, grown from the lowest-numbered pin, or why there is none.
+use feed::Spot;
 use grid::Pair;
 use grid::Place;
-use grid::Spot;
 use grid::Weight;
 use refusal::Verdict;
 ghost use mathlib.Core.Path.{_≡_};
@@ -10,7 +10,7 @@ ghost use mathlib.Core.List.{[]};
 ghost use Prim.Native.Nat.{_≤_};
 ghost use lib.ListN.{take, drop};
 ghost use Rattle.grid.specs.Place.{inside};
-ghost use Rattle.tree.specs.Growth.{present, placeOf, spotAt, allInside};
+ghost use Rattle.feed.specs.Feeds.{placeOf, spotAt, allWithin};
 ghost use Rattle.tree.specs.Boxes.{belowBoth, under, overlap, boxesShare, isEnd, common, clash, clashAny, boxesMeet};
 ghost use Rattle.tree.specs.Trees.{treeWith, treeOf};
 ghost use Rattle.tree.specs.Offers.{noOffer, offerOf, firstOffer, betterOffer, nextOffer, firstOffers, nextOffers, betterChoice, choiceOf, takenRuns, firstFrom, takenOf};
@@ -47,37 +47,6 @@ pub struct Taken {
     pub runs: [Run; 31],
 }
 
-// Whether a pin is there.
-fn is_there(spot: Spot) -> bool
-    ensures { λ r. ⌜ r ≡ present spot ⌝ }
-{
-    match spot {
-        Spot::Absent => false,
-        Spot::At(_) => true,
-    }
-}
-
-// Where a pin stands; the middle of the board where none does.
-fn place_of(spot: Spot) -> Place
-    ensures { λ r. ⌜ r ≡ placeOf spot ⌝ }
-{
-    match spot {
-        Spot::Absent => Place { x: 0, y: 0 },
-        Spot::At(place) => place,
-    }
-}
-
-// Where the pin with this number stands; the middle of the board where none does.
-pub fn place_at(feed: [Spot; 32], pin: usize) -> Place
-    ensures { λ r. ⌜ r ≡ placeOf (spotAt feed pin) ⌝ }
-{
-    if pin < 32 {
-        let spot = feed[pin];
-        return place_of(spot);
-    }
-    Place { x: 0, y: 0 }
-}
-
 // The lowest number of a pin that is there, or 32.
 fn first_pin(feed: [Spot; 32]) -> usize
     ensures { λ r. ⌜ r ≡ firstFrom 0 feed ⌝ }
@@ -85,7 +54,7 @@ fn first_pin(feed: [Spot; 32]) -> usize
     let mut pin = 0;
     while pin < 32 {
         let spot = feed[pin];
-        if is_there(spot) {
+        if feed::is_there(spot) {
             return pin;
         }
         pin += 1;
@@ -132,13 +101,13 @@ fn first_offer(first: usize, from: Place, pin: usize, spot: Spot) -> Offer
     requires { ⌜ (inside from ≡ true) × (inside (placeOf spot) ≡ true) ⌝ }
     ensures { λ r. ⌜ r ≡ firstOffer first from pin spot ⌝ }
 {
-    if !is_there(spot) {
+    if !feed::is_there(spot) {
         return no_offer();
     }
     if pin == first {
         return no_offer();
     }
-    offer_of(first, from, pin, place_of(spot))
+    offer_of(first, from, pin, feed::place_of(spot))
 }
 
 // The earlier of two offers.
@@ -165,16 +134,16 @@ fn next_offer(near: usize, from: Place, pin: usize, spot: Spot, kept: Offer) -> 
     if pin == near {
         return no_offer();
     }
-    let new = offer_of(near, from, pin, place_of(spot));
+    let new = offer_of(near, from, pin, feed::place_of(spot));
     better_offer(kept, new)
 }
 
 // What the pins keep when the first pin is reached.
 fn first_offers(feed: [Spot; 32], first: usize) -> [Offer; 32]
-    requires { ⌜ allInside feed ≡ true ⌝ }
+    requires { ⌜ allWithin feed ≡ true ⌝ }
     ensures { λ r. ⌜ r ≡ firstOffers first (placeOf (spotAt feed first)) 0 feed ⌝ }
 {
-    let from = place_at(feed, first);
+    let from = feed::place_at(feed, first);
     let none = no_offer();
     let mut offers = [none; 32];
     let mut pin = 0;
@@ -188,10 +157,10 @@ fn first_offers(feed: [Spot; 32], first: usize) -> [Offer; 32]
 
 // What the pins keep when one more pin is reached: one weight for each pin that waits.
 fn next_offers(feed: [Spot; 32], kept: [Offer; 32], near: usize) -> [Offer; 32]
-    requires { ⌜ allInside feed ≡ true ⌝ }
+    requires { ⌜ allWithin feed ≡ true ⌝ }
     ensures { λ r. ⌜ r ≡ nextOffers near (placeOf (spotAt feed near)) 0 feed kept ⌝ }
 {
-    let from = place_at(feed, near);
+    let from = feed::place_at(feed, near);
     let mut offers = kept;
     let mut pin = 0;
     while pin < 32 {
@@ -242,7 +211,7 @@ fn earliest_offer(offers: [Offer; 32]) -> Choice
 
 // The runs that are taken from these offers on, always the earliest offer.
 fn take_runs(feed: [Spot; 32], opening: [Offer; 32]) -> Taken
-    requires { ⌜ allInside feed ≡ true ⌝ }
+    requires { ⌜ allWithin feed ≡ true ⌝ }
     ensures { λ r. ⌜ r ≡ takenOf (takenRuns feed 31 opening) ⌝ }
 {
     let mut offers = opening;
@@ -327,10 +296,10 @@ fn do_clash(feed: [Spot; 32], a: Run, b: Run) -> bool
     if have_common(a, b) {
         return false;
     }
-    let p = place_at(feed, a.near);
-    let q = place_at(feed, a.far);
-    let s = place_at(feed, b.near);
-    let t = place_at(feed, b.far);
+    let p = feed::place_at(feed, a.near);
+    let q = feed::place_at(feed, a.far);
+    let s = feed::place_at(feed, b.near);
+    let t = feed::place_at(feed, b.far);
     boxes_share(p, q, s, t)
 }
 
@@ -380,7 +349,7 @@ fn refused(verdict: Verdict) -> Tree
 
 // The runs of these pins, or 17 or 18.
 pub fn tree_of(feed: [Spot; 32]) -> Tree
-    requires { ⌜ allInside feed ≡ true ⌝ }
+    requires { ⌜ allWithin feed ≡ true ⌝ }
     ensures { λ r. ⌜ r ≡ treeOf feed ⌝ }
 {
     let first = first_pin(feed);

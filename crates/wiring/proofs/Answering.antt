@@ -15,14 +15,15 @@ use Rattle.refusal.specs.Refusals.{accepted, turn}
 use Rattle.refusal.specs.declared.Verdict.{Verdict}
 use Rattle.refusal.specs.declared.Verdict.the-variants.{Accepted, NoPins, BoxesMeet, RoomTooSmall}
 use Rattle.grid.specs.declared.Place.{Place}
-use Rattle.grid.specs.declared.Spot.{Spot}
+use Rattle.feed.specs.declared.Spot.{Spot}
 use Rattle.grid.specs.Place.{onBoard, inside}
 use Rattle.tree.specs.declared.Run.{Run}
 use Rattle.tree.specs.declared.Tree.{Tree}
-use Rattle.tree.specs.Growth.{run, placeOf, spotAt, allInside, pinsOf, runsOf}
+use Rattle.feed.specs.Feeds.{placeOf, spotAt, allWithin, allApart}
+use Rattle.tree.specs.Growth.{run, pinsOf, runsOf}
 use Rattle.tree.specs.Boxes.{boxesMeet}
 use Rattle.tree.specs.Trees.{entries, treeWith, none, treeOf}
-use Rattle.tree.proofs.Filling.{inside-at}
+use Rattle.feed.proofs.Rules.{inside-at}
 use Rattle.tree.proofs.Membership.{pins-few}
 use Rattle.tree.proofs.Result.{take-entries as entries-take}
 use Rattle.tree.proofs.Spanning.{runs-many}
@@ -31,8 +32,8 @@ use Rattle.copper.specs.declared.Leg.{Leg}
 use Rattle.copper.specs.declared.Shape.the-variants.{Straight}
 use Rattle.copper.specs.Shapes.{shapeOf, legsOf}
 use Rattle.copper_laws.proofs.Tallies.{leastOf}
-use Rattle.least.specs.declared.Found.{Found}
-use Rattle.least.specs.Asking.{base, placeAt, nearAt, markOf, foundTree, Grown}
+use Rattle.least.specs.declared.Least.{Least}
+use Rattle.least.specs.Asking.{base, placeAt, nearAt, markOf, leastOfTree, Grown}
 use Rattle.least.proofs.Whole.{tree-cost}
 use Rattle.least.proofs.Alike.{Alike, found-alike}
 use Rattle.wiring.specs.declared.Shaped.{Shaped}
@@ -41,7 +42,6 @@ use Rattle.wiring.specs.declared.Laid.{Laid}
 use Rattle.wiring.specs.Choices.{nearEnd, farEnd, bestChoice, legsOfChoice, lengthOfChoice, weighedOf}
 use Rattle.wiring.specs.Answer.{shaped, shapedRuns, runEntries, legEntries, laidWith, turnedAway, answerWith, wiringVerdict, wiringWith, wiringFavouring}
 use Rattle.wiring.specs.Reaching.{runAt, reachedPin, reachedNear, reachedPlace, reachedFrom, valuesFrom, xsOf, ysOf, nearsOf, upperIn, shapedIn, entriesIn, legsOfEntry, legsOfEntries, strip, shapesBy}
-use Rattle.wiring.specs.Crowding.{crowded}
 use Rattle.wiring.proofs.Filling.{values-long, value-at}
 use Rattle.wiring.proofs.Laying.{grown}
 use Rattle.wiring.proofs.Best.{length-found, shapes-found}
@@ -183,7 +183,7 @@ legs-shaped feed [] shapes = refl
 legs-shaped feed (r ∷ runs) [] = refl
 legs-shaped feed (r ∷ runs) (s ∷ shapes) = ap (λ (l : List Leg). legsOf s (nearEnd feed r) (farEnd feed r) ++ l) (legs-shaped feed runs shapes)
 
-module _ (feed : List Spot) (full : length feed ≡ 32) (ok : allInside feed ≡ true) (free : crowded feed ≡ false) (t : Tree) (w : Wired feed t) where
+module _ (feed : List Spot) (full : length feed ≡ 32) (ok : allWithin feed ≡ true) (free : allApart feed ≡ true) (t : Tree) (w : Wired feed t) where
   abbrev runs : List Run
   runs = runsOf feed
 
@@ -252,16 +252,16 @@ module _ (feed : List Spot) (full : length feed ≡ 32) (ok : allInside feed ≡
         far-ends = λ r l. place-is (suc r) (omega (arith, few));
       }
 
-  module _ (favoured : Bool) (f : Found) (ef : f ≡ foundTree (placeAt xs ys) (nearAt nears) favoured n) where
+  module _ (favoured : Bool) (f : Least) (ef : f ≡ leastOfTree (placeAt xs ys) (nearAt nears) favoured n) where
     abbrev choice : List Shape
     choice = bestChoice favoured feed runs
 
-    found-is : f ≡ foundTree (reachedPlace feed runs) (reachedNear runs) favoured n
+    found-is : f ≡ leastOfTree (reachedPlace feed runs) (reachedNear runs) favoured n
     found-is = ef ∙ found-alike (placeAt xs ys) (reachedPlace feed runs) (nearAt nears) (reachedNear runs) n alike favoured
 
     cost-is : f .cost ≡ leastOf (reachedPlace feed runs) (reachedNear runs) base (markOf favoured) n
-    unfolding foundTree
-    cost-is = ap (λ (z : Found). z .cost) found-is ∙ tree-cost (reachedPlace feed runs) (reachedNear runs) favoured n
+    unfolding leastOfTree
+    cost-is = ap (λ (z : Least). z .cost) found-is ∙ tree-cost (reachedPlace feed runs) (reachedNear runs) favoured n
 
     length-is : f .cost / base ≡ lengthOfChoice feed runs choice
     length-is = ap (λ (c : ℕ). c / base) cost-is ∙ length-found feed full ok (w .first) (w .left) (w .pins) free (w .clear) few favoured
@@ -270,8 +270,8 @@ module _ (feed : List Spot) (full : length feed ≡ 32) (ok : allInside feed ≡
     shapes-is = ap (λ (c : ℕ). shapesBy feed (upperIn favoured (c % base)) runs) cost-is ∙ shapes-found feed full ok (w .first) (w .left) (w .pins) free (w .clear) few favoured
 
     weighed-is : f .weighed ≡ weighedOf feed runs (pinsOf feed)
-    unfolding foundTree
-    weighed-is = ap (λ (z : Found). z .weighed) found-is ∙ weighed-told feed full ok (w .first) (w .left) (w .pins)
+    unfolding leastOfTree
+    weighed-is = ap (λ (z : Least). z .weighed) found-is ∙ weighed-told feed full ok (w .first) (w .left) (w .pins)
 
     module _ (E : List Shaped) (eE : E ≡ entriesIn feed favoured (f .cost % base) (entries runs) n) (S : Strip) (eS : S ≡ strip (legsOfEntries feed (take n E))) where
       entries-is : E ≡ runEntries (shapedRuns runs choice)
@@ -319,7 +319,7 @@ module _ (feed : List Spot) (full : length feed ≡ 32) (ok : allInside feed ≡
           rw v (unfold accepted choose answerWith laidWith in rw (length-is, weighed-is, entries-is, many-is, legs-is, count-is))
 
 -- ---- the same of the tree as the code has it
-module _ (feed : List Spot) (full : length feed ≡ 32) (ok : allInside feed ≡ true) (free : crowded feed ≡ false) (favoured : Bool) (room : ℕ)
+module _ (feed : List Spot) (full : length feed ≡ 32) (ok : allWithin feed ≡ true) (free : allApart feed ≡ true) (favoured : Bool) (room : ℕ)
     (t : Tree) (et : t ≡ treeOf feed) (b : Bool) (eb : b ≡ accepted (t .verdict)) where
   pub wire-refused : not b ≡ true → turnedAway (t .verdict) ≡ wiringFavouring favoured feed room
   wire-refused y = tree-refuses favoured feed room t et (sym eb ∙ not-true b y)
@@ -335,9 +335,9 @@ module _ (feed : List Spot) (full : length feed ≡ 32) (ok : allInside feed ≡
       pub wire-grown : Grown xs ys nears (t .count)
       wire-grown = rw (ex, ey, en, w .count, w .runs) (tree-grown feed full ok free t w)
 
-      module _ (f : Found) (ef : f ≡ foundTree (placeAt xs ys) (nearAt nears) favoured (t .count)) (E : List Shaped) (eE : E ≡ entriesIn feed favoured (f .cost % base) (t .runs) (t .count))
+      module _ (f : Least) (ef : f ≡ leastOfTree (placeAt xs ys) (nearAt nears) favoured (t .count)) (E : List Shaped) (eE : E ≡ entriesIn feed favoured (f .cost % base) (t .runs) (t .count))
           (S : Strip) (eS : S ≡ strip (legsOfEntries feed (take (t .count) E))) where
-        found-as : f ≡ foundTree (placeAt (xsOf feed (entries (runsOf feed))) (ysOf feed (entries (runsOf feed)))) (nearAt (nearsOf (entries (runsOf feed)) (length (runsOf feed)))) favoured (length (runsOf feed))
+        found-as : f ≡ leastOfTree (placeAt (xsOf feed (entries (runsOf feed))) (ysOf feed (entries (runsOf feed)))) (nearAt (nearsOf (entries (runsOf feed)) (length (runsOf feed)))) favoured (length (runsOf feed))
         found-as = rw (ex, ey, en, w .count, w .runs) at ef
 
         entries-as : E ≡ entriesIn feed favoured (f .cost % base) (entries (runsOf feed)) (length (runsOf feed))

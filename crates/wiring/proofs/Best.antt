@@ -10,10 +10,11 @@ use native.Mathlib.Omega.{arith}
 use lib.ListN.{length}
 use borrow.Author.Tests.{not-false}
 use Rattle.grid.specs.declared.Place.{Place}
-use Rattle.grid.specs.declared.Spot.{Spot}
+use Rattle.feed.specs.declared.Spot.{Spot}
 use Rattle.grid.specs.Place.{isStraight}
 use Rattle.tree.specs.declared.Run.{Run}
-use Rattle.tree.specs.Growth.{allInside, pinsOf, runsOf}
+use Rattle.feed.specs.Feeds.{allWithin, allApart}
+use Rattle.tree.specs.Growth.{pinsOf, runsOf}
 use Rattle.tree.specs.Boxes.{boxesMeet}
 use Rattle.tree.proofs.Membership.{Among}
 use Rattle.copper.specs.declared.Shape.{Shape}
@@ -27,7 +28,6 @@ use Rattle.copper_laws.proofs.Wired.{first-shortest}
 use Rattle.least.specs.Asking.{base, markOf}
 use Rattle.wiring.specs.Choices.{nearEnd, farEnd, choicesOf, legsOfChoice, lengthOfChoice, bestChoice}
 use Rattle.wiring.specs.Reaching.{runAt, reachedNear, reachedPlace, upperIn, shapesBy}
-use Rattle.wiring.specs.Crowding.{crowded}
 use Rattle.wiring.proofs.Ordered.{bends, maskFrom, choice-told, told-choice, choice-long, choices-rising, choice-may, bends-told, first-found}
 use Rattle.wiring.proofs.Masks.{maskBy, mask-sum, mask-choice, mask-less, mask-read}
 use Rattle.wiring.proofs.Laying.{places-held, near-place, far-place, laid}
@@ -78,8 +78,8 @@ split-length mask long l = add-mul-div-right mask long {z = base} (omega arith) 
 split-mask : (mask long : ℕ) → mask < base → (mask + long * base) % base ≡ mask
 split-mask mask long l = add-mul-mod-self-right mask long base ∙ mod-eq-of-lt l
 
-module _ (feed : List Spot) (full : length feed ≡ 32) (ok : allInside feed ≡ true) (f : ℕ) (left : List ℕ) (e : pinsOf feed ≡ f ∷ left)
-    (free : crowded feed ≡ false) (clear : boxesMeet feed (runsOf feed) ≡ false) (few : length (runsOf feed) ≤ 31) (favoured : Bool) where
+module _ (feed : List Spot) (full : length feed ≡ 32) (ok : allWithin feed ≡ true) (f : ℕ) (left : List ℕ) (e : pinsOf feed ≡ f ∷ left)
+    (free : allApart feed ≡ true) (clear : boxesMeet feed (runsOf feed) ≡ false) (few : length (runsOf feed) ≤ 31) (favoured : Bool) where
   abbrev runs : List Run
   runs = runsOf feed
 

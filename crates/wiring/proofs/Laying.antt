@@ -2,7 +2,7 @@
 -- and a search that found no boxes that meet.
 use mathlib.Core.Path.{_≡_, refl, sym, ap, _∙_, subst, fun-ext}
 use mathlib.Core.Bool.{Bool, true, false}
-use mathlib.Core.List.{List, [], _∷_}
+use mathlib.Core.List.{List, _∷_}
 use mathlib.Core.Logic.{_⊎_, inl, inr}
 use Prim.Native.Nat.{ℕ, zero, suc, _+_, _≤_, _<_}
 use native.Mathlib.Omega.{arith}
@@ -12,49 +12,41 @@ use lib.ListN.{length, getD}
 use borrow.Author.Tests.{eq-eqb, eqb-true, eqb-false, lt-ltb}
 use Rattle.refusal.proofs.Tests.{both-of, both-left, both-right}
 use Rattle.grid.specs.declared.Place.{Place}
-use Rattle.grid.specs.declared.Spot.{Spot}
-use Rattle.grid.specs.declared.Spot.the-variants.{Absent}
+use Rattle.feed.specs.declared.Spot.{Spot}
+use Rattle.feed.specs.declared.Spot.the-variants.{Absent, At}
 use Rattle.grid.specs.Place.{leastGap, difference, sameNumber, closer, tooNear, samePlace}
 use Rattle.grid.proofs.Signed.{I32, difference-off}
 use Rattle.grid.proofs.Flat.{Site, site, Held, order}
 use Rattle.tree.specs.declared.Run.{Run}
-use Rattle.tree.specs.Growth.{present, placeOf, spotAt, allInside, pinsOf, runsOf}
+use Rattle.feed.specs.Feeds.{present, placeOf, spotAt, meets, allWithin, allApart}
+use Rattle.feed.proofs.Rules.{apart-pair}
+use Rattle.tree.specs.Growth.{pinsOf, runsOf}
 use Rattle.tree.specs.Boxes.{boxesMeet}
-use Rattle.tree.proofs.Deciding.{opposite, either-false}
+use Rattle.tree.proofs.Deciding.{opposite}
 use Rattle.tree.proofs.Membership.{Among, pins-there}
 use Rattle.tree.proofs.Listing.{Rooted, nearAt, farAt, pins-low, runs-rooted}
 use Rattle.tree.proofs.Numbering.{stands}
 use Rattle.copper_laws.proofs.Laid.{Laid}
 use Rattle.copper_laws.proofs.Planted.{pinAt, planted}
 use Rattle.wiring.specs.Reaching.{reachedPin, reachedNear, reachedPlace}
-use Rattle.wiring.specs.Crowding.{crowd, crowdAny, crowded}
 use Rattle.wiring.proofs.Positions.{near-before, near-pin, far-pin, first-pin}
 
--- No two pins that are there are too near where the test says so.
-any-apart : (s : Spot) (l : List Spot) → crowdAny s l ≡ false → (j : ℕ) → j < length l → crowd s (getD l j Absent) ≡ false
-unfolding crowdAny
-any-apart s [] e j h = absurd (omega arith)
-any-apart s (t ∷ l) e zero h = either-false (crowd s t) (crowdAny s l) e .0
-any-apart s (t ∷ l) e (suc j) h = any-apart s l (either-false (crowd s t) (crowdAny s l) e .1) j (omega arith)
-
-all-apart : (l : List Spot) → crowded l ≡ false → (i j : ℕ) → i < j → j < length l → crowd (getD l i Absent) (getD l j Absent) ≡ false
-unfolding crowded
-all-apart [] e i j h k = absurd (omega arith)
-all-apart (s ∷ l) e i zero h k = absurd (omega arith)
-all-apart (s ∷ l) e zero (suc j) h k = any-apart s l (either-false (crowdAny s l) (crowded l) e .0) j (omega arith)
-all-apart (s ∷ l) e (suc i) (suc j) h k = all-apart l (either-false (crowdAny s l) (crowded l) e .1) i j (omega arith) (omega arith)
-
--- Two pins at one place are too near.
+-- Two numbers that are the same differ by less than the least gap.
 same-closer : (a b : ℤ) → sameNumber a b ≡ true → closer a b ≡ true
 unfolding sameNumber closer
 same-closer a b e = lt-ltb (difference a b) leastGap (let z : difference a b < leastGap = omega (arith, eqb-true (difference a b) 0 e) in z)
 
-same-crowd : (s t : Spot) → present s ≡ true → present t ≡ true → samePlace (placeOf s) (placeOf t) ≡ true → crowd s t ≡ true
-unfolding crowd tooNear samePlace
-same-crowd s t a b e =
-    both-of (both-of a b)
-    (both-of (same-closer (placeOf s .x) (placeOf t .x) (both-left (sameNumber (placeOf s .x) (placeOf t .x)) (sameNumber (placeOf s .y) (placeOf t .y)) e))
-    (same-closer (placeOf s .y) (placeOf t .y) (both-right (sameNumber (placeOf s .x) (placeOf t .x)) (sameNumber (placeOf s .y) (placeOf t .y)) e)))
+-- Two places that are the same are too near.
+same-near : (p q : Place) → samePlace p q ≡ true → tooNear p q ≡ true
+unfolding tooNear samePlace
+same-near p q e = both-of (same-closer (p .x) (q .x) (both-left _ _ e)) (same-closer (p .y) (q .y) (both-right _ _ e))
+
+-- Two pins that are there at one place meet.
+same-meet : (s t : Spot) → present s ≡ true → present t ≡ true → samePlace (placeOf s) (placeOf t) ≡ true → meets s t ≡ true
+unfolding meets
+same-meet Absent t a b e = absurd (opposite a refl)
+same-meet (At p) Absent a b e = absurd (opposite b refl)
+same-meet (At p) (At q) a b e = same-near p q e
 
 turned : (a b : ℤ) → I32 a → I32 b → sameNumber a b ≡ true → sameNumber b a ≡ true
 unfolding sameNumber
@@ -67,7 +59,7 @@ place-turned a b p q e =
     both-of (turned (a .x) (b .x) (p .x) (q .x) (both-left (sameNumber (a .x) (b .x)) (sameNumber (a .y) (b .y)) e))
     (turned (a .y) (b .y) (p .y) (q .y) (both-right (sameNumber (a .x) (b .x)) (sameNumber (a .y) (b .y)) e))
 
-module _ (feed : List Spot) (full : length feed ≡ 32) (ok : allInside feed ≡ true) (f : ℕ) (left : List ℕ) (e : pinsOf feed ≡ f ∷ left) where
+module _ (feed : List Spot) (full : length feed ≡ 32) (ok : allWithin feed ≡ true) (f : ℕ) (left : List ℕ) (e : pinsOf feed ≡ f ∷ left) where
   abbrev runs : List Run
   runs = runsOf feed
 
@@ -99,7 +91,7 @@ module _ (feed : List Spot) (full : length feed ≡ 32) (ok : allInside feed ≡
   pub grown : (r : ℕ) → r < n → near r ≤ r
   grown = near-before f left runs root
 
-  module _ (free : crowded feed ≡ false) where
+  module _ (free : allApart feed ≡ true) where
     there : (a : ℕ) → Among a (f ∷ left) → present (spotAt feed a) ≡ true
     unfolding pinsOf
     there a m =
@@ -110,7 +102,7 @@ module _ (feed : List Spot) (full : length feed ≡ 32) (ok : allInside feed ≡
     -- No two pins stand at one place.
     apart : (a b : ℕ) → a < b → b < 32 → Among a (f ∷ left) → Among b (f ∷ left) → samePlace (placeOf (spotAt feed a)) (placeOf (spotAt feed b)) ≡ true → ⊥
     apart a b l k m o h =
-        opposite (same-crowd (spotAt feed a) (spotAt feed b) (there a m) (there b o) h) (all-apart feed free a b l (omega arith))
+        opposite (same-meet (spotAt feed a) (spotAt feed b) (there a m) (there b o) h) (apart-pair feed a b free l)
 
     distinct : (a b : ℕ) → Among a (f ∷ left) → Among b (f ∷ left) → samePlace (placeOf (spotAt feed a)) (placeOf (spotAt feed b)) ≡ true → a ≡ b
     distinct a b m o h = go (order a b) (order b a)

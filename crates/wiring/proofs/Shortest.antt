@@ -13,9 +13,10 @@ use borrow.Author.Tests.{ltb-true, ltb-false}
 use Rattle.refusal.specs.Tests.{choose}
 use Rattle.refusal.specs.Refusals.{accepted}
 use Rattle.refusal.specs.declared.Verdict.{Verdict}
-use Rattle.grid.specs.declared.Spot.{Spot}
+use Rattle.feed.specs.declared.Spot.{Spot}
 use Rattle.tree.specs.declared.Run.{Run}
-use Rattle.tree.specs.Growth.{allInside, pinsOf, runsOf}
+use Rattle.feed.specs.Feeds.{allWithin}
+use Rattle.tree.specs.Growth.{pinsOf, runsOf}
 use Rattle.tree.proofs.Membership.{Among, first, later, in-either}
 use Rattle.tree.proofs.Spanning.{none-among}
 use Rattle.copper.specs.declared.Shape.{Shape}
@@ -128,7 +129,7 @@ length-of-legs favoured feed room =
     of-none v = unfold turnedAway lengthOf different stepsOfAll in refl
 
 -- CHOICES WEIGHED NEVER EXCEED 64 TIMES the number of pins.
-pub weighed-few : (favoured : Bool) (feed : List Spot) (room : ℕ) → length feed ≡ 32 → allInside feed ≡ true
+pub weighed-few : (favoured : Bool) (feed : List Spot) (room : ℕ) → length feed ≡ 32 → allWithin feed ≡ true
     → wiringFavouring favoured feed room .wiring .weighed ≤ 64 * length (pinsOf feed)
 unfolding wiringFavouring wiringWith
 weighed-few favoured feed room full ok =

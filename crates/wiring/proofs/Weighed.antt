@@ -12,11 +12,12 @@ use lib.Pow.{pow-mono}
 use borrow.Author.Tests.{eq-eqb, ne-eqb, eqb-true, eqb-false}
 use Rattle.refusal.specs.Tests.{both, choose}
 use Rattle.grid.specs.declared.Place.{Place}
-use Rattle.grid.specs.declared.Spot.{Spot}
+use Rattle.feed.specs.declared.Spot.{Spot}
 use Rattle.grid.proofs.Signed.{eqb-same}
 use Rattle.grid.specs.Place.{isStraight}
 use Rattle.tree.specs.declared.Run.{Run}
-use Rattle.tree.specs.Growth.{allInside, keptIf, without, pinsOf, runsOf}
+use Rattle.feed.specs.Feeds.{allWithin}
+use Rattle.tree.specs.Growth.{keptIf, without, pinsOf, runsOf}
 use Rattle.tree.specs.Bends.{bent, howMany, bentFrom, bentInto}
 use Rattle.tree.proofs.Membership.{Among, first, later, Distinct, also, without-none, distinct-without, pins-distinct}
 use Rattle.tree.proofs.Listing.{Listed, done, taking, Rooted, nearAt, farAt, runs-listed, runs-rooted}
@@ -75,9 +76,9 @@ power-once w c k e = rw (let y : 0 + c ≡ c = omega arith in y) e
 module _ (at : ℕ → Place) (near : ℕ → ℕ) where
   -- The choices weighed at a pin are a power of two.
   weighed-power : (m i : ℕ) → whole.weighedAt at near m i
-      ≡ 2 ^ sumBelow m (λ r. one (both (eqb (near r) i) (asked.isBent at near r))) * choose (asked.bentInto at near i) 2 1
+      ≡ 2 ^ sumBelow m (λ r. one (both (eqb (near r) i) (asked.isBent at near r))) * choose (asked.isBentInto at near i) 2 1
   unfolding whole.weighedAt sumBelow
-  weighed-power zero i = go (asked.bentInto at near i)
+  weighed-power zero i = go (asked.isBentInto at near i)
     where
       go : (t : Bool) → doubledIf t 1 ≡ 2 ^ 0 * choose t 2 1
       go true = unfold doubledIf choose in refl
@@ -85,7 +86,7 @@ module _ (at : ℕ → Place) (near : ℕ → ℕ) where
   weighed-power (suc m) i = go (eqb (near m) i) (asked.isBent at near m) (weighed-power m i)
     where
       k : ℕ
-      k = choose (asked.bentInto at near i) 2 1
+      k = choose (asked.isBentInto at near i) 2 1
 
       c : ℕ
       c = sumBelow m (λ r. one (both (eqb (near r) i) (asked.isBent at near r)))
@@ -124,15 +125,15 @@ none-long : {A : Type 0} (l : List A) → length l ≡ 0 → l ≡ []
 none-long l z = drop-of-length-le l {i = 0} (omega arith)
 
 -- A pin alone.
-lone : (at : ℕ → Place) (near : ℕ → ℕ) (feed : List Spot) (f : ℕ) → asked.weighedOf at near 0 0 ≡ sumOver (weighedAt feed []) (f ∷ [])
-unfolding asked.weighedOf asked.weighedFrom asked.bentInto doubledIf choose sumOver weighedAt howMany
+lone : (at : ℕ → Place) (near : ℕ → ℕ) (feed : List Spot) (f : ℕ) → asked.weighedBelow at near 0 0 ≡ sumOver (weighedAt feed []) (f ∷ [])
+unfolding asked.weighedBelow asked.weighedFrom asked.isBentInto doubledIf choose sumOver weighedAt howMany
 lone at near feed f = refl
 
 pins-once : (feed : List Spot) (f : ℕ) (left : List ℕ) → pinsOf feed ≡ f ∷ left → Distinct (f ∷ left)
 unfolding pinsOf
 pins-once feed f left e = rw e at (pins-distinct 0 feed)
 
-module _ (feed : List Spot) (full : length feed ≡ 32) (ok : allInside feed ≡ true) (f : ℕ) (left : List ℕ) (e : pinsOf feed ≡ f ∷ left) where
+module _ (feed : List Spot) (full : length feed ≡ 32) (ok : allWithin feed ≡ true) (f : ℕ) (left : List ℕ) (e : pinsOf feed ≡ f ∷ left) where
   abbrev runs : List Run
   runs = runsOf feed
 
@@ -165,8 +166,8 @@ module _ (feed : List Spot) (full : length feed ≡ 32) (ok : allInside feed ≡
           by false y = absurd (reached-once f left runs root a b p q (eqb-false a b y) z)
 
   -- Whether a bent run reached a pin, as the definition counts.
-  into-told : (i : ℕ) → 0 < n → i < suc n → twice (asked.bentInto at near i) ≡ twiceSome (bentInto feed runs (reachedPin runs i))
-  unfolding asked.bentInto
+  into-told : (i : ℕ) → 0 < n → i < suc n → twice (asked.isBentInto at near i) ≡ twiceSome (bentInto feed runs (reachedPin runs i))
+  unfolding asked.isBentInto
   into-told zero o l =
       sym
       (doubled-none (bentInto feed runs (reachedPin runs 0))
@@ -202,7 +203,7 @@ module _ (feed : List Spot) (full : length feed ≡ 32) (ok : allInside feed ≡
   over-pins [] = refl
   over-pins (p ∷ pins) = ap (λ (z : ℕ). weighedAt feed runs p + z) (over-pins pins)
 
-  many-told : 0 < n → asked.weighedOf at near n 0 ≡ sumOver (weighedAt feed runs) (f ∷ left)
+  many-told : 0 < n → asked.weighedBelow at near n 0 ≡ sumOver (weighedAt feed runs) (f ∷ left)
   unfolding sumOver
   many-told o =
       whole.tree-weighed at near n (grown feed full ok f left e)
@@ -215,17 +216,17 @@ module _ (feed : List Spot) (full : length feed ≡ 32) (ok : allInside feed ≡
       rest : Distinct (f ∷ left) → Distinct left
       rest (also out d) = d
 
-  one-told : n ≡ 0 → asked.weighedOf at near n 0 ≡ sumOver (weighedAt feed runs) (f ∷ left)
+  one-told : n ≡ 0 → asked.weighedBelow at near n 0 ≡ sumOver (weighedAt feed runs) (f ∷ left)
   one-told z =
-      subst (λ (k : ℕ). asked.weighedOf at near k 0 ≡ sumOver (weighedAt feed runs) (f ∷ left)) (sym z)
-      (subst (λ (l : List ℕ). asked.weighedOf at near 0 0 ≡ sumOver (weighedAt feed runs) (f ∷ l)) (sym (none-long left (sym (root .many) ∙ z)))
-      (subst (λ (l : List Run). asked.weighedOf at near 0 0 ≡ sumOver (weighedAt feed l) (f ∷ [])) (sym (none-long runs z)) (lone at near feed f)))
+      subst (λ (k : ℕ). asked.weighedBelow at near k 0 ≡ sumOver (weighedAt feed runs) (f ∷ left)) (sym z)
+      (subst (λ (l : List ℕ). asked.weighedBelow at near 0 0 ≡ sumOver (weighedAt feed runs) (f ∷ l)) (sym (none-long left (sym (root .many) ∙ z)))
+      (subst (λ (l : List Run). asked.weighedBelow at near 0 0 ≡ sumOver (weighedAt feed l) (f ∷ [])) (sym (none-long runs z)) (lone at near feed f)))
 
   -- Choices weighed, as they are counted, are those of the definition.
-  pub weighed-told : asked.weighedOf at near n 0 ≡ weighedOf feed runs (pinsOf feed)
+  pub weighed-told : asked.weighedBelow at near n 0 ≡ weighedOf feed runs (pinsOf feed)
   weighed-told = go (eqb n 0) refl ∙ sym (over-pins (f ∷ left)) ∙ ap (weighedOf feed runs) (sym e)
     where
-      go : (t : Bool) → eqb n 0 ≡ t → asked.weighedOf at near n 0 ≡ sumOver (weighedAt feed runs) (f ∷ left)
+      go : (t : Bool) → eqb n 0 ≡ t → asked.weighedBelow at near n 0 ≡ sumOver (weighedAt feed runs) (f ∷ left)
       go true y = one-told (eqb-true n 0 y)
       go false y = let ne : n ≡ 0 → ⊥ = eqb-false n 0 y in many-told (omega (arith, ne))
 
@@ -242,7 +243,7 @@ power-six c i l = go (eqb i 0) refl
         let p : 2 ^ suc c ≤ 2 ^ 6 = pow-mono (let z : suc c ≤ 6 = omega (arith, ne) in z) in
         unfold choose in (let z : 2 ^ c * 2 ≤ 64 = omega (arith, pow-suc 2 c, p) in z)
 
-module _ (feed : List Spot) (full : length feed ≡ 32) (ok : allInside feed ≡ true) where
+module _ (feed : List Spot) (full : length feed ≡ 32) (ok : allWithin feed ≡ true) where
   -- At most 64 choices are weighed at a pin ..
   pub pin-most : (p : ℕ) → weighedAt feed (runsOf feed) p ≤ 64
   unfolding weighedAt

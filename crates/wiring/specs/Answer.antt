@@ -9,7 +9,7 @@ use Rattle.refusal.specs.Tests.{choose}
 use Rattle.refusal.specs.Refusals.{accepted, turn}
 use Rattle.refusal.specs.declared.Verdict.{Verdict}
 use Rattle.refusal.specs.declared.Verdict.the-variants.{Accepted, NoPins, BoxesMeet, RoomTooSmall}
-use Rattle.grid.specs.declared.Spot.{Spot}
+use Rattle.feed.specs.declared.Spot.{Spot}
 use Rattle.tree.specs.declared.Run.{Run}
 use Rattle.tree.specs.Growth.{pinsOf, runsOf}
 use Rattle.tree.specs.Boxes.{boxesMeet}

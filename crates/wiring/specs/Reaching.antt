@@ -7,9 +7,10 @@ use lib.Dec.{eqb}
 use lib.ListN.{length, getD, set, take}
 use Rattle.refusal.specs.Tests.{choose}
 use Rattle.grid.specs.declared.Place.{Place}
-use Rattle.grid.specs.declared.Spot.{Spot}
+use Rattle.feed.specs.declared.Spot.{Spot}
 use Rattle.tree.specs.declared.Run.{Run}
-use Rattle.tree.specs.Growth.{run, placeOf, spotAt}
+use Rattle.feed.specs.Feeds.{placeOf, spotAt}
+use Rattle.tree.specs.Growth.{run}
 use Rattle.copper.specs.declared.Shape.{Shape}
 use Rattle.copper.specs.declared.Leg.{Leg}
 use Rattle.copper.specs.Shapes.{shapeOf, legsOf}

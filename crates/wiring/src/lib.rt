@@ -1,19 +1,18 @@
 // Wiring: the best shapes of the runs, the answer with its legs, and the choices weighed.
 use copper::Leg;
 use copper::Shape;
+use feed::Spot;
+use feed::place_at;
 use grid::Place;
-use grid::Spot;
 use refusal::Verdict;
 use tree::Run;
-use tree::place_at;
 ghost use mathlib.Core.Path.{_≡_};
 ghost use mathlib.Core.Bool.{true, false};
 ghost use Prim.Native.Nat.{_+_, _≤_, _<_};
 ghost use lib.ListN.{take};
-ghost use Rattle.tree.specs.Growth.{allInside};
+ghost use Rattle.feed.specs.Feeds.{allWithin, allApart};
 ghost use Rattle.wiring.specs.Answer.{noLeg, turnedAway, wiringFavouring, wiringOf};
 ghost use Rattle.wiring.specs.Reaching.{reachedPin, reachedPlace, reachedFrom, xsOf, ysOf, nearsOf, upperIn, shapedIn, entriesIn, putLegs, legsOfEntry, legsOfEntries, strip};
-ghost use Rattle.wiring.specs.Crowding.{crowded};
 
 // A run entry of the answer: near, far, shape.
 pub struct Shaped {
@@ -63,7 +62,7 @@ fn reached_place(feed: [Spot; 32], runs: [Run; 31], i: usize) -> Place
     ensures { λ r. ⌜ r ≡ reachedPlace feed runs i ⌝ }
 {
     let pin = reached_pin(runs, i);
-    tree::place_at(feed, pin)
+    feed::place_at(feed, pin)
 }
 
 // The x of the pins, as they are reached.
@@ -142,8 +141,8 @@ fn shaped_in(feed: [Spot; 32], favoured: bool, mask: u64, runs: [Run; 31], at: u
     ensures { λ r. ⌜ r ≡ shapedIn feed favoured mask runs at ⌝ }
 {
     let run = runs[at];
-    let near = tree::place_at(feed, run.near);
-    let far = tree::place_at(feed, run.far);
+    let near = feed::place_at(feed, run.near);
+    let far = feed::place_at(feed, run.far);
     let upper = upper_in(favoured, mask, at);
     let shape = copper::shape_of(upper, near, far);
     Shaped {
@@ -184,8 +183,8 @@ fn put_legs(legs: [Leg; 62], at: usize, feed: [Spot; 32], entry: Shaped) -> [Leg
     ensures { λ r. ⌜ r ≡ putLegs legs at (legsOfEntry feed entry) ⌝ }
 {
     let shape = entry.shape;
-    let near = tree::place_at(feed, entry.near);
-    let far = tree::place_at(feed, entry.far);
+    let near = feed::place_at(feed, entry.near);
+    let far = feed::place_at(feed, entry.far);
     let mut more = legs;
     more[at] = copper::first_leg(shape, near, far);
     if copper::leg_count(shape) == 2 {
@@ -253,7 +252,7 @@ pub fn refused(verdict: Verdict) -> Laid
 
 // The wiring of a feed, where one shape is favoured: false for lower, true for upper.
 fn wire_favouring(feed: [Spot; 32], room: usize, favoured: bool) -> Laid
-    requires { ⌜ (allInside feed ≡ true) × (crowded feed ≡ false) ⌝ }
+    requires { ⌜ (allWithin feed ≡ true) × (allApart feed ≡ true) ⌝ }
     ensures { λ r. ⌜ r ≡ wiringFavouring favoured feed room ⌝ }
 {
     let tree = tree::tree_of(feed);
@@ -287,7 +286,7 @@ fn wire_favouring(feed: [Spot; 32], room: usize, favoured: bool) -> Laid
 
 // The wiring of a feed whose pins stand on the board, no two of them too near, with room for so many legs.
 pub fn wire_feed(feed: [Spot; 32], room: usize) -> Laid
-    requires { ⌜ (allInside feed ≡ true) × (crowded feed ≡ false) ⌝ }
+    requires { ⌜ (allWithin feed ≡ true) × (allApart feed ≡ true) ⌝ }
     ensures { λ r. ⌜ r ≡ wiringOf feed room ⌝ }
 {
     wire_favouring(feed, room, false)

@@ -12,7 +12,8 @@ use Rattle.refusal.specs.declared.Verdict.the-variants.{Accepted, PlaceTaken, D
 use Rattle.grid.specs.declared.Place.{Place}
 use Rattle.grid.specs.Place.{onBoard, inside, difference, closer, tooNear, sameNumber, samePlace}
 use Rattle.drawing.specs.declared.Pin.{Pin}
-use Rattle.drawing.specs.Pins.{pins, absent, there, holding, isThere, sameHeld, samePin, samePins, meets, meetsAny, crowded, within, settled, allWithin, allApart, lawful}
+use Rattle.feed.specs.Feeds.{mostPins, meets, meetsAny, crowded, within, settled, allWithin, allApart, meetsOther}
+use Rattle.drawing.specs.Pins.{absent, there, holding, isThere, sameHeld, samePin, samePins, lawful, spotOf, feedOf}
 use Rattle.drawing.specs.Edits.{movedPin, made, unmade, standsAt, fits, placeable, movable, makeable, takeable, heldBy, placed}
 use Rattle.pinmap.specs.Map.{noPins, readFrom, wrongLength, readMap}
 use Rattle.journal.specs.declared.Record.{Record}
@@ -32,12 +33,12 @@ pinAt a b = there (holding (at a b))
 
 -- A drawing of these pins and no others.
 abbrev pub drawn : List Pin → List Pin
-drawn l = take pins (l ++ replicate pins absent)
+drawn l = take mostPins (l ++ replicate mostPins absent)
 
 -- Pin 0 is placed at (1,1), and a move to (1,1) is 9.
 pub own-place-refused : answers emptyDesk (opening 0 7 [] ∷ placing 0 0 (at (pos 1) (pos 1)) ∷ moving 0 0 (at (pos 1) (pos 1)) ∷ [])
     ≡ Accepted ∷ Accepted ∷ PlaceTaken ∷ []
-unfolding answers both either choose accepted turn onBoard inside difference closer tooNear sameNumber samePlace isThere sameHeld samePin samePins meets meetsAny crowded within settled allWithin allApart lawful movedPin made unmade standsAt fits placeable movable makeable takeable heldBy noPins readFrom wrongLength readMap own kept filled seated inTurn sameJob jobAmong turnedOpening turnedPlacing turnedMoving verdictOf jobOf jobsApart soundOpen soundClosed soundSeat soundTo sound edited effect answerOf step emptyDesk
+unfolding answers both either choose accepted turn onBoard inside difference closer tooNear sameNumber samePlace isThere sameHeld samePin samePins meets meetsAny meetsOther crowded within settled allWithin allApart spotOf feedOf lawful movedPin made unmade standsAt fits placeable movable makeable takeable heldBy noPins readFrom wrongLength readMap own kept filled seated inTurn sameJob jobAmong turnedOpening turnedPlacing turnedMoving verdictOf jobOf jobsApart soundOpen soundClosed soundSeat soundTo sound edited effect answerOf step emptyDesk
 own-place-refused = refl
 
 -- A seat open for a job, with these pins and so many standing edits.
@@ -83,5 +84,5 @@ abbrev pub undo : Desk → Verdict
 undo d = answerOf d (undoing 0)
 
 pub broken-refused : (undo whole ≡ Accepted) × (map undo broken ≡ replicate 10 DeskBroken)
-unfolding both either choose turn onBoard inside difference closer tooNear sameNumber samePlace isThere sameHeld samePin samePins meets meetsAny crowded within settled allWithin allApart lawful movedPin made unmade standsAt fits placeable movable makeable takeable own kept filled seated inTurn sameJob jobAmong turnedUndoing verdictOf jobOf jobsApart soundOpen soundClosed soundSeat soundTo sound answerOf
+unfolding both either choose turn onBoard inside difference closer tooNear sameNumber samePlace isThere sameHeld samePin samePins meets meetsAny meetsOther crowded within settled allWithin allApart spotOf feedOf lawful movedPin made unmade standsAt fits placeable movable makeable takeable own kept filled seated inTurn sameJob jobAmong turnedUndoing verdictOf jobOf jobsApart soundOpen soundClosed soundSeat soundTo sound answerOf
 broken-refused = (refl, refl)

@@ -12,7 +12,8 @@ use Rattle.refusal.specs.declared.Verdict.the-variants.{Accepted, NothingStands
 use Rattle.grid.specs.Number.{first, second, third, fourth}
 use Rattle.grid.specs.Place.{onBoard, inside, difference, closer, tooNear, sameNumber, samePlace}
 use Rattle.drawing.specs.declared.Pin.{Pin}
-use Rattle.drawing.specs.Pins.{pins, isThere, sameHeld, samePin, samePins, meets, meetsAny, crowded, within, settled, allWithin, allApart, lawful}
+use Rattle.feed.specs.Feeds.{meets, meetsAny, crowded, within, settled, allWithin, allApart, meetsOther}
+use Rattle.drawing.specs.Pins.{isThere, sameHeld, samePin, samePins, lawful, spotOf, feedOf}
 use Rattle.drawing.specs.Edits.{movedPin, made, unmade, standsAt, fits, placeable, movable, makeable, takeable, heldBy}
 use Rattle.pinmap.specs.Record.{recordBytes, pinBytes}
 use Rattle.pinmap.specs.Map.{noPins, readFrom, wrongLength, readMap, mapFrom, mapOf, written}
@@ -71,5 +72,5 @@ table =
 
 -- W1 TO W8 AND D1 TO D3 HOLD.
 pub worked : AllHold table
-unfolding Holds AllHold after answers both either choose accepted turn onBoard inside difference closer tooNear sameNumber samePlace isThere sameHeld samePin samePins meets meetsAny crowded within settled allWithin allApart lawful movedPin made unmade standsAt fits placeable movable makeable takeable heldBy noPins readFrom wrongLength readMap own kept filled seated inTurn sameJob jobAmong turnedOpening turnedClosing turnedPlacing turnedMoving turnedRemoving turnedUndoing turnedRedoing verdictOf jobOf jobsApart soundOpen soundClosed soundSeat soundTo sound edited effect answerOf step emptyDesk mapFrom mapOf recordBytes pinBytes first second third fourth turnedWriting written writtenOf bufferOf
+unfolding Holds AllHold after answers both either choose accepted turn onBoard inside difference closer tooNear sameNumber samePlace isThere sameHeld samePin samePins meets meetsAny meetsOther crowded within settled allWithin allApart spotOf feedOf lawful movedPin made unmade standsAt fits placeable movable makeable takeable heldBy noPins readFrom wrongLength readMap own kept filled seated inTurn sameJob jobAmong turnedOpening turnedClosing turnedPlacing turnedMoving turnedRemoving turnedUndoing turnedRedoing verdictOf jobOf jobsApart soundOpen soundClosed soundSeat soundTo sound edited effect answerOf step emptyDesk mapFrom mapOf recordBytes pinBytes first second third fourth turnedWriting written writtenOf bufferOf
 worked = (boards.worked, ((refl, refl, refl), ((refl, refl, refl), ((refl, refl, refl), ((refl, refl, refl), tt)))))

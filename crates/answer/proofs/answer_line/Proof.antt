@@ -6,7 +6,7 @@ use lib.IntN.{ℤ, pos}
 use lib.ListN.{length-replicate}
 use borrow.Author.Needs.{needs}
 use Rattle.desk.specs.Calls.{closing, placing, moving, removing, undoing, redoing}
-use Rattle.script.specs.Answers.{strayLine}
+use Rattle.script.specs.Answers.{notACallLine}
 use Rattle.answer.specs.Answered.{followed, printed}
 use Rattle.answer.proofs.Ordered.{open-count, write-room, bare-counts}
 use Rattle.answer.proofs.Telling.{held, called}
@@ -23,8 +23,8 @@ enum-told c = search needs
 enum-told-2 : tie.Need-enum-told-2
 enum-told-2 c = search needs
 
-print-stray-requires : tie.Need-print-stray-requires
-print-stray-requires c κs = search needs
+print-not-a-call-requires : tie.Need-print-not-a-call-requires
+print-not-a-call-requires c κs = search needs
 
 enum-known-order : tie.Need-enum-known-order
 enum-known-order c = search needs
@@ -129,7 +129,7 @@ returns-2 c =
     let e = c .before .before .before .before .read-line .ensures .0 in
     let f = c .before .before .enum-told2 .given .1 in
     answers (s .args .desk) (s .args .number) (s .args .line .now) (s .args .out .now) e f
-    (refl, held (strayLine (s .args .number)) (s .args .out .now) 200 (omega arith) (c .print-stray .ensures))
+    (refl, held (notACallLine (s .args .number)) (s .args .out .now) 200 (omega arith) (c .print-not-a-call .ensures))
 
 returns-3 : tie.Need-returns-3
 unfolding followed printed
@@ -241,7 +241,7 @@ answer-line-spec =
     read-line-requires
     enum-told
     enum-told-2
-    print-stray-requires
+    print-not-a-call-requires
     enum-known-order
     open-requires
     enum-known-order-2

@@ -44,8 +44,8 @@ returns-3 c =
 count-of-requires : tie.Need-count-of-requires
 count-of-requires c κs = used-within (c .before .before .before .before .before .before .before .args .t1) (sym (c .before .before .before .before .before .before .is-sound .ensures) ∙ not-false _ (c .before .before .before .before .before .if1 .left))
 
-feed-requires : tie.Need-feed-requires
-feed-requires c κs = search needs
+feed-of-requires : tie.Need-feed-of-requires
+feed-of-requires c κs = search needs
 
 sub-print-drawn : tie.Need-sub-print-drawn
 sub-print-drawn c =
@@ -60,7 +60,7 @@ returns-4 : tie.Need-returns-4
 returns-4 c =
     let s = c .before .before .before .before .before .before .before .before .before .before .before .before .before in
     pins-drawn (s .args .t1) (s .args .seat) (s .args .out .now) (sym (c .before .before .before .before .before .before .before .before .before .before .before .before .is-sound .ensures) ∙ not-false _ (c .before .before .before .before .before .before .before .before .before .before .before .if1 .left))
-    (c .before .before .before .before .before .before .before .before .before .before .if2 .left) (not-false _ (c .before .before .before .before .before .before .before .if3 .left)) (c .before .before .before .before .before .count-of .ensures) (c .before .before .before .feed .ensures) (c .print-drawn .ensures)
+    (c .before .before .before .before .before .before .before .before .before .before .if2 .left) (not-false _ (c .before .before .before .before .before .before .before .if3 .left)) (c .before .before .before .before .before .count-of .ensures) (c .before .before .before .feed-of .ensures) (c .print-drawn .ensures)
 
 pub show-pins-spec : {M : Type 1} → statement M
 show-pins-spec =
@@ -76,7 +76,7 @@ show-pins-spec =
     print-closed-requires
     returns-3
     count-of-requires
-    feed-requires
+    feed-of-requires
     sub-print-drawn
     print-drawn-requires
     returns-4)

@@ -6,11 +6,10 @@ use mathlib.Core.Bool.{false}
 use mathlib.Core.List.{List}
 use Rattle.refusal.specs.Refusals.{accepted}
 use Rattle.refusal.specs.declared.Verdict.the-variants.{ListLengths, NoPins, Outside, PlaceTaken}
-use Rattle.grid.specs.declared.Spot.{Spot}
-use Rattle.tree.specs.Growth.{allInside}
+use Rattle.feed.specs.declared.Spot.{Spot}
+use Rattle.feed.specs.Feeds.{allWithin, allApart}
 use Rattle.wiring.specs.Answer.{wiringOf}
-use Rattle.wiring.specs.Crowding.{crowded}
-use Rattle.bare.specs.Bare.{feedOf, wrongLengths}
+use Rattle.bare.specs.Bare.{feedOfLists, wrongLengths}
 use Rattle.bare.proofs.Verdicts.{lengths-right, lengths-wrong, no-pins, one-outside, two-near, all-well, turned, wired}
 use Rattle.bare.proofs.wire_bare.Statement.{statement}
 use Rattle.bare.proofs.wire_bare.Tie as tie
@@ -19,13 +18,13 @@ use Rattle.bare.proofs.wire_bare.Tie as tie
 right : (c : tie.Else1) → wrongLengths (c .before .before .args .xs .now) (c .before .before .args .ys .now) ≡ false
 right c = sym (c .before .wrong-lengths .ensures) ∙ c .if1 .left
 
-within : (c : tie.After-are-inside)
-    → allInside (feedOf (c .before .before .before .before .before .args .xs .now) (c .before .before .before .before .before .args .ys .now)) ≡ c .are-inside .result
-within c = sym (c .are-inside .ensures ∙ ap allInside (c .before .feed-of .ensures))
+within : (c : tie.After-are-within)
+    → allWithin (feedOfLists (c .before .before .before .before .before .args .xs .now) (c .before .before .before .before .before .args .ys .now)) ≡ c .are-within .result
+within c = sym (c .are-within .ensures ∙ ap allWithin (c .before .feed-of-lists .ensures))
 
-near : (c : tie.After-is-crowded)
-    → crowded (feedOf (c .before .before .before .before .before .before .before .args .xs .now) (c .before .before .before .before .before .before .before .args .ys .now)) ≡ c .is-crowded .result
-near c = sym (c .is-crowded .ensures ∙ ap crowded (c .before .before .before .feed-of .ensures))
+near : (c : tie.After-are-apart)
+    → allApart (feedOfLists (c .before .before .before .before .before .before .before .args .xs .now) (c .before .before .before .before .before .before .before .args .ys .now)) ≡ c .are-apart .result
+near c = sym (c .are-apart .ensures ∙ ap allApart (c .before .before .before .feed-of-lists .ensures))
 
 wrong-lengths-requires : tie.Need-wrong-lengths-requires
 wrong-lengths-requires c κs = search needs
@@ -46,11 +45,11 @@ returns-2 : tie.Need-returns-2
 unfolding accepted
 returns-2 c = let d = c .before in c .refused2 .ensures ∙ turned _ _ _ NoPins refl (no-pins _ _ (right (d .before)) (d .if2 .taken))
 
-feed-of-requires : tie.Need-feed-of-requires
-feed-of-requires c κs = lengths-right _ _ (right (c .before))
+feed-of-lists-requires : tie.Need-feed-of-lists-requires
+feed-of-lists-requires c κs = lengths-right _ _ (right (c .before))
 
-are-inside-requires : tie.Need-are-inside-requires
-are-inside-requires c κs = search needs
+are-within-requires : tie.Need-are-within-requires
+are-within-requires c κs = search needs
 
 refused-requires-3 : tie.Need-refused-requires-3
 refused-requires-3 c κs = search needs
@@ -62,8 +61,8 @@ returns-3 c =
     let d = e .before .before .before in
     c .refused3 .ensures ∙ turned _ _ _ Outside refl (one-outside _ _ (right (d .before)) (d .if2 .left) (within (e .before) ∙ not-true _ (e .if3 .taken)))
 
-is-crowded-requires : tie.Need-is-crowded-requires
-is-crowded-requires c κs = search needs
+are-apart-requires : tie.Need-are-apart-requires
+are-apart-requires c κs = search needs
 
 refused-requires-4 : tie.Need-refused-requires-4
 refused-requires-4 c κs = search needs
@@ -74,12 +73,12 @@ returns-4 c =
     let g = c .before in
     let e = g .before .before in
     let d = e .before .before .before in
-    c .refused4 .ensures ∙ turned _ _ _ PlaceTaken refl (two-near _ _ (right (d .before)) (d .if2 .left) (within (e .before) ∙ not-false _ (e .if3 .left)) (near (g .before) ∙ g .if4 .taken))
+    c .refused4 .ensures ∙ turned _ _ _ PlaceTaken refl (two-near _ _ (right (d .before)) (d .if2 .left) (within (e .before) ∙ not-false _ (e .if3 .left)) (near (g .before) ∙ not-true _ (g .if4 .taken)))
 
 wire-feed-requires : tie.Need-wire-feed-requires
 wire-feed-requires c κs =
     let e = c .before .before in
-    (sym (e .before .are-inside .ensures) ∙ not-false _ (e .if3 .left), sym (c .before .is-crowded .ensures) ∙ c .if4 .left)
+    (sym (e .before .are-within .ensures) ∙ not-false _ (e .if3 .left), sym (c .before .are-apart .ensures) ∙ not-false _ (c .if4 .left))
 
 returns-5 : tie.Need-returns-5
 unfolding accepted
@@ -87,9 +86,9 @@ returns-5 c =
     let g = c .before in
     let e = g .before .before in
     let d = e .before .before .before in
-    let w = all-well _ _ (right (d .before)) (d .if2 .left) (within (e .before) ∙ not-false _ (e .if3 .left)) (near (g .before) ∙ g .if4 .left) in
+    let w = all-well _ _ (right (d .before)) (d .if2 .left) (within (e .before) ∙ not-false _ (e .if3 .left)) (near (g .before) ∙ not-false _ (g .if4 .left)) in
     c .wire-feed .ensures
-    ∙ ap (λ (feed : List Spot). wiringOf feed (d .before .before .before .args .room)) (e .before .before .feed-of .ensures)
+    ∙ ap (λ (feed : List Spot). wiringOf feed (d .before .before .before .args .room)) (e .before .before .feed-of-lists .ensures)
     ∙ wired _ _ _ (ap accepted (sym w))
 
 pub wire-bare-spec : {M : Type 1} → statement M
@@ -101,11 +100,11 @@ wire-bare-spec =
     returns
     refused-requires-2
     returns-2
-    feed-of-requires
-    are-inside-requires
+    feed-of-lists-requires
+    are-within-requires
     refused-requires-3
     returns-3
-    is-crowded-requires
+    are-apart-requires
     refused-requires-4
     returns-4
     wire-feed-requires

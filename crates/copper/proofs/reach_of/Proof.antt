@@ -6,7 +6,7 @@ use mir.Facts.{toZ-ofZ}
 use borrow.Author.Tests.{not-true, not-false}
 use Rattle.refusal.specs.Tests.{choose}
 use Rattle.grid.proofs.Signed.{le-rd}
-use Rattle.copper.specs.Arms.{beyond, reach}
+use Rattle.copper.specs.Arms.{stepsBeyond, reach}
 use borrow.Author.Needs.{needs}
 use Rattle.copper.proofs.reach_of.Statement.{statement}
 use Rattle.copper.proofs.reach_of.Tie as tie
@@ -19,7 +19,7 @@ ahead-requires : tie.Need-ahead-requires
 ahead-requires c κs = search needs
 
 returns-2 : tie.Need-returns-2
-unfolding reach beyond choose
+unfolding reach stepsBeyond choose
 returns-2 c =
     let s : tie.Start = c .before .before .before in
     let f = s .fits in
@@ -28,7 +28,7 @@ returns-2 c =
     rw (g, e, c .ahead .ensures, toZ-ofZ (f .a), toZ-ofZ (f .b))
 
 returns-3 : tie.Need-returns-3
-unfolding reach beyond choose
+unfolding reach stepsBeyond choose
 returns-3 c =
     let s : tie.Start = c .before .before in
     let f = s .fits in

@@ -1,8 +1,9 @@
 -- `drawing::can_move` meets its contract, by its three tests. Assumes nothing.
 use borrow.Author.Needs.{needs}
+use borrow.Author.Tests.{not-true, not-false}
 use mathlib.Core.Path.{sym, ap, _∙_}
 use mathlib.Core.Bool.{not}
-use Rattle.refusal.proofs.Tests.{both-arm, both-stop, both-no, both-yes}
+use Rattle.refusal.proofs.Tests.{both-no, both-yes}
 use Rattle.drawing.specs.Edits.{movable}
 use Rattle.drawing.proofs.can_move.Statement.{statement}
 use Rattle.drawing.proofs.can_move.Tie as tie
@@ -16,26 +17,31 @@ array-copy-out-q c = search needs
 stands-at-requires : tie.Need-stands-at-requires
 stands-at-requires c κs = search needs
 
-same-place-requires : tie.Need-same-place-requires
-same-place-requires c κs = search needs
-
-has-room-requires : tie.Need-has-room-requires
-has-room-requires c κs = search needs
-
 returns : tie.Need-returns
 unfolding movable
-returns c = both-arm (c .before .before .before .stands-at .ensures) (sym (both-no _ (ap not (sym (c .before .same-place .ensures) ∙ c .if2 .taken)))) (c .before .before .if1 .taken)
+returns c = sym (both-no _ (sym (c .before .stands-at .ensures) ∙ not-true _ (c .if1 .taken)))
+
+same-place-requires : tie.Need-same-place-requires
+same-place-requires c κs = search needs
 
 returns-2 : tie.Need-returns-2
 unfolding movable
 returns-2 c =
-    both-arm (c .before .before .before .before .stands-at .ensures)
-    (c .has-room .ensures ∙ sym (both-yes _ (ap not (sym (c .before .before .same-place .ensures) ∙ c .before .if2 .left))))
-    (c .before .before .before .if1 .taken)
+    let d = c .before .before in
+    sym (both-yes _ (sym (d .before .stands-at .ensures) ∙ not-false _ (d .if1 .left))
+    ∙ both-no _ (ap not (sym (c .before .same-place .ensures) ∙ c .if2 .taken)))
+
+has-room-requires : tie.Need-has-room-requires
+has-room-requires c κs = search needs
 
 returns-3 : tie.Need-returns-3
 unfolding movable
-returns-3 c = both-stop _ (c .before .stands-at .ensures) (c .if1 .left)
+returns-3 c =
+    let e = c .before in
+    let d = e .before .before in
+    c .has-room .ensures
+    ∙ sym (both-yes _ (sym (d .before .stands-at .ensures) ∙ not-false _ (d .if1 .left))
+    ∙ both-yes _ (ap not (sym (e .before .same-place .ensures) ∙ e .if2 .left)))
 
 pub can-move-spec : {M : Type 1} → statement M
 can-move-spec =
@@ -44,8 +50,8 @@ can-move-spec =
     mul-q
     array-copy-out-q
     stands-at-requires
-    same-place-requires
-    has-room-requires
     returns
+    same-place-requires
     returns-2
+    has-room-requires
     returns-3)

@@ -1,9 +1,15 @@
 -- `drawing::can_take_back` meets its contract: the edit is taken back and made again. Assumes nothing.
 use borrow.Author.Needs.{needs}
-use mathlib.Core.Path.{sym}
-use Rattle.refusal.proofs.Tests.{both-arm, both-stop, both-no}
+use borrow.Author.Tests.{not-true, not-false}
+use mathlib.Core.Path.{_≡_, sym, ap, _∙_}
+use mathlib.Core.List.{List}
+use native.Mathlib.Omega.{arith}
+use lib.ListN.{length}
+use Rattle.refusal.proofs.Tests.{both-no}
+use Rattle.feed.specs.declared.Spot.{Spot}
+use Rattle.feed.specs.Feeds.{mostPins, settled}
 use Rattle.drawing.specs.Edits.{takeable}
-use Rattle.drawing.proofs.Tests.{pin-above}
+use Rattle.drawing.proofs.Tests.{pin-above, unmakeable, unsettled, remade}
 use Rattle.drawing.proofs.can_take_back.Statement.{statement}
 use Rattle.drawing.proofs.can_take_back.Tie as tie
 
@@ -20,31 +26,58 @@ take-back-requires c κs = search needs
 can-make-requires : tie.Need-can-make-requires
 can-make-requires c κs = search needs
 
+returns-2 : tie.Need-returns-2
+returns-2 c =
+    let t = c .before .before in
+    let p = t .before .before in
+    let w : length (p .before .args .t1) ≡ mostPins = omega arith in
+    unmakeable _ w _ (p .pin-of .ensures) (t .take-back .ensures) (sym (c .before .can-make .ensures) ∙ not-true _ (c .if2 .taken))
+
+feed-of-requires : tie.Need-feed-of-requires
+feed-of-requires c κs = search needs
+
 is-settled-requires : tie.Need-is-settled-requires
 is-settled-requires c κs = search needs
+
+returns-3 : tie.Need-returns-3
+returns-3 c =
+    let f = c .before .before in
+    let m = f .before in
+    let t = m .before .before in
+    let p = t .before .before in
+    let w : length (p .before .args .t1) ≡ mostPins = omega arith in
+    unsettled _ w _ (p .pin-of .ensures) (t .take-back .ensures) (sym (m .before .can-make .ensures) ∙ not-false _ (m .if2 .left))
+    (ap (λ (feed : List Spot). settled feed (p .pin-of .result)) (sym (f .feed-of .ensures)) ∙ sym (c .before .is-settled .ensures) ∙ not-true _ (c .if3 .taken))
 
 make-requires : tie.Need-make-requires
 make-requires c κs = search needs
 
-same-pins-requires : tie.Need-same-pins-requires
-same-pins-requires c κs = search needs
+mul-remade : tie.Need-mul-remade
+mul-remade c = search needs
 
-returns-2 : tie.Need-returns-2
-unfolding takeable
-returns-2 c =
-    rw (← c .before .before .before .before .before .before .take-back .ensures, ← c .before .make .ensures)
-    (both-arm (c .before .before .before .before .before .can-make .ensures)
-    (both-arm (rw (c .before .before .before .before .before .before .before .before .pin-of .ensures) at (c .before .before .before .is-settled .ensures)) (c .same-pins .ensures) (c .before .before .if3 .taken)) (c .before .before .before .before .if2 .taken))
+array-copy-out-remade : tie.Need-array-copy-out-remade
+array-copy-out-remade c = search needs
 
-returns-3 : tie.Need-returns-3
-unfolding takeable
-returns-3 c =
-    rw (← c .before .before .before .before .take-back .ensures)
-    (both-arm (c .before .before .before .can-make .ensures) (both-stop _ (rw (c .before .before .before .before .before .before .pin-of .ensures) at (c .before .is-settled .ensures)) (c .if3 .left)) (c .before .before .if2 .taken))
+mul-pin : tie.Need-mul-pin
+mul-pin c = search needs
+
+array-copy-out-pin : tie.Need-array-copy-out-pin
+array-copy-out-pin c = search needs
+
+same-pin-requires : tie.Need-same-pin-requires
+same-pin-requires c κs = search needs
 
 returns-4 : tie.Need-returns-4
-unfolding takeable
-returns-4 c = rw (← c .before .before .take-back .ensures) (both-stop _ (c .before .can-make .ensures) (c .if2 .left))
+returns-4 c =
+    let s = c .before .before .before .before in
+    let f = s .before .before in
+    let m = f .before in
+    let t = m .before .before in
+    let p = t .before .before in
+    let w : length (p .before .args .t1) ≡ mostPins = omega arith in
+    remade _ w _ (p .pin-of .ensures) (t .take-back .ensures) (sym (m .before .can-make .ensures) ∙ not-false _ (m .if2 .left))
+    (ap (λ (feed : List Spot). settled feed (p .pin-of .result)) (sym (f .feed-of .ensures)) ∙ sym (s .before .is-settled .ensures) ∙ not-false _ (s .if3 .left))
+    (omega arith) _ (c .before .before .before .make .ensures) (c .same-pin .ensures)
 
 pub can-take-back-spec : {M : Type 1} → statement M
 can-take-back-spec =
@@ -54,9 +87,14 @@ can-take-back-spec =
     returns
     take-back-requires
     can-make-requires
-    is-settled-requires
-    make-requires
-    same-pins-requires
     returns-2
+    feed-of-requires
+    is-settled-requires
     returns-3
+    make-requires
+    mul-remade
+    array-copy-out-remade
+    mul-pin
+    array-copy-out-pin
+    same-pin-requires
     returns-4)

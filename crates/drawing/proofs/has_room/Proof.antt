@@ -1,8 +1,9 @@
 -- `drawing::has_room` meets its contract, by its two tests. Assumes nothing.
 use borrow.Author.Needs.{needs}
+use borrow.Author.Tests.{not-true, not-false}
 use mathlib.Core.Path.{sym, ap, _∙_}
 use mathlib.Core.Bool.{not}
-use Rattle.refusal.proofs.Tests.{both-arm, both-stop}
+use Rattle.refusal.proofs.Tests.{both-no, both-yes}
 use Rattle.drawing.specs.Edits.{fits}
 use Rattle.drawing.proofs.has_room.Statement.{statement}
 use Rattle.drawing.proofs.has_room.Tie as tie
@@ -10,21 +11,18 @@ use Rattle.drawing.proofs.has_room.Tie as tie
 is-inside-requires : tie.Need-is-inside-requires
 is-inside-requires c κs = search needs
 
+returns : tie.Need-returns
+unfolding fits
+returns c = sym (both-no _ (sym (c .before .is-inside .ensures) ∙ not-true _ (c .if1 .taken)))
+
 is-crowded-requires : tie.Need-is-crowded-requires
 is-crowded-requires c κs = search needs
 
-returns : tie.Need-returns
-unfolding fits
-returns c = both-arm (c .before .before .before .is-inside .ensures) (sym (ap not (sym (c .before .is-crowded .ensures) ∙ c .if2 .taken))) (c .before .before .if1 .taken)
-
 returns-2 : tie.Need-returns-2
 unfolding fits
-returns-2 c = both-arm (c .before .before .before .is-inside .ensures) (sym (ap not (sym (c .before .is-crowded .ensures) ∙ c .if2 .left))) (c .before .before .if1 .taken)
-
-returns-3 : tie.Need-returns-3
-unfolding fits
-returns-3 c = both-stop _ (c .before .is-inside .ensures) (c .if1 .left)
+returns-2 c =
+    let d = c .before in
+    ap not (c .is-crowded .ensures) ∙ sym (both-yes _ (sym (d .before .is-inside .ensures) ∙ not-false _ (d .if1 .left)))
 
 pub has-room-spec : {M : Type 1} → statement M
-has-room-spec =
-    tie.close (tie.spec is-inside-requires is-crowded-requires returns returns-2 returns-3)
+has-room-spec = tie.close (tie.spec is-inside-requires returns is-crowded-requires returns-2)

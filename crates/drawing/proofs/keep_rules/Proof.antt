@@ -1,31 +1,40 @@
 -- `drawing::keep_rules` meets its contract, by its two tests; an array has its length. Assumes nothing.
 use borrow.Author.Needs.{needs}
-use mathlib.Core.Path.{_≡_, sym, _∙_}
+use borrow.Author.Tests.{not-true, not-false, eq-eqb}
+use mathlib.Core.Path.{_≡_, sym, ap, _∙_}
 use native.Mathlib.Omega.{arith}
-use borrow.Author.Tests.{eq-eqb}
 use lib.ListN.{length}
-use Rattle.refusal.proofs.Tests.{both-arm, both-stop, both-yes}
-use Rattle.drawing.specs.Pins.{pins, lawful}
+use Rattle.refusal.proofs.Tests.{both-no, both-yes}
+use Rattle.feed.specs.Feeds.{mostPins, allWithin, allApart}
+use Rattle.drawing.specs.Pins.{lawful}
 use Rattle.drawing.proofs.keep_rules.Statement.{statement}
 use Rattle.drawing.proofs.keep_rules.Tie as tie
+
+feed-of-requires : tie.Need-feed-of-requires
+feed-of-requires c κs = search needs
 
 are-within-requires : tie.Need-are-within-requires
 are-within-requires c κs = search needs
 
-are-apart-requires : tie.Need-are-apart-requires
-are-apart-requires c κs = search needs
-
 returns : tie.Need-returns
 unfolding lawful
 returns c =
-    let h : length (c .before .before .before .args .pins) ≡ pins = omega arith in
-    both-arm (c .before .before .are-within .ensures) (c .are-apart .ensures) (c .before .if1 .taken) ∙ sym (both-yes _ (eq-eqb _ _ h))
+    let d = c .before .before in
+    let h : length (d .before .args .pins) ≡ mostPins = omega arith in
+    let w = ap allWithin (sym (d .feed-of .ensures)) ∙ sym (c .before .are-within .ensures) ∙ not-true _ (c .if1 .taken) in
+    sym (both-yes _ (eq-eqb _ _ h) ∙ both-no _ w)
+
+are-apart-requires : tie.Need-are-apart-requires
+are-apart-requires c κs = search needs
 
 returns-2 : tie.Need-returns-2
 unfolding lawful
 returns-2 c =
-    let h : length (c .before .before .args .pins) ≡ pins = omega arith in
-    both-stop _ (c .before .are-within .ensures) (c .if1 .left) ∙ sym (both-yes _ (eq-eqb _ _ h))
+    let d = c .before .before .before in
+    let h : length (d .before .args .pins) ≡ mostPins = omega arith in
+    let w = ap allWithin (sym (d .feed-of .ensures)) ∙ sym (c .before .before .are-within .ensures) ∙ not-false _ (c .before .if1 .left) in
+    c .are-apart .ensures ∙ ap allApart (d .feed-of .ensures) ∙ sym (both-yes _ (eq-eqb _ _ h) ∙ both-yes _ w)
 
 pub keep-rules-spec : {M : Type 1} → statement M
-keep-rules-spec = tie.close (tie.spec are-within-requires are-apart-requires returns returns-2)
+keep-rules-spec =
+    tie.close (tie.spec feed-of-requires are-within-requires returns are-apart-requires returns-2)

@@ -1,5 +1,5 @@
 -- `least::least_cost` meets its contract: it asks the first pin. Assumes nothing.
-use Rattle.least.specs.Asking.{askedPin, foundTree}
+use Rattle.least.specs.Asking.{askedPin, leastOfTree}
 use Rattle.least.proofs.Whole.{askable}
 use Rattle.least.proofs.least_cost.Statement.{statement}
 use Rattle.least.proofs.least_cost.Tie as tie
@@ -8,7 +8,7 @@ pin-best-requires : tie.Need-pin-best-requires
 pin-best-requires c κs = askable _ _ _ _ (c .pre)
 
 returns : tie.Need-returns
-unfolding foundTree askedPin
+unfolding leastOfTree askedPin
 returns c = rw (c .pin-best .ensures)
 
 pub least-cost-spec : {M : Type 1} → statement M

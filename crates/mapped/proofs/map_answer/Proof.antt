@@ -6,8 +6,8 @@ use Rattle.mapped.proofs.Opening.{answer-refused, answer-wired, printed
 use Rattle.mapped.proofs.map_answer.Statement.{statement}
 use Rattle.mapped.proofs.map_answer.Tie as tie
 
-job-in-requires : tie.Need-job-in-requires
-job-in-requires c κs = search needs
+job-of-map-requires : tie.Need-job-of-map-requires
+job-of-map-requires c κs = search needs
 
 empty-requires : tie.Need-empty-requires
 empty-requires c κs = search needs
@@ -30,7 +30,7 @@ returns c =
     let o = w .before .before .before .before in
     let s = o .before .before .before .before in
     printed (s .args .out .now)
-    (answer-wired (s .args .map .now) (o .before .before .job-in .ensures) (o .before .empty .ensures) (o .«open» .ensures) (w .wire .ensures) (sym (w .before .before .before .is-accepted .ensures) ∙ w .before .before .if1 .taken))
+    (answer-wired (s .args .map .now) (o .before .before .job-of-map .ensures) (o .before .empty .ensures) (o .«open» .ensures) (w .wire .ensures) (sym (w .before .before .before .is-accepted .ensures) ∙ w .before .before .if1 .taken))
     (c .print-map .ensures .0 .0)
     (c .print-map .ensures .0 .1)
     (c .print-map .ensures .1)
@@ -43,7 +43,7 @@ returns-2 c =
     let o = c .before .before .before .before in
     let s = o .before .before .before .before in
     printed (s .args .out .now)
-    (answer-refused (s .args .map .now) (o .before .before .job-in .ensures) (o .before .empty .ensures) (o .«open» .ensures) (sym (c .before .before .before .is-accepted .ensures) ∙ c .before .before .if1 .left))
+    (answer-refused (s .args .map .now) (o .before .before .job-of-map .ensures) (o .before .empty .ensures) (o .«open» .ensures) (sym (c .before .before .before .is-accepted .ensures) ∙ c .before .before .if1 .left))
     (c .print-verdict .ensures .0 .0)
     (omega (arith, c .print-verdict .ensures .0 .1))
     (c .print-verdict .ensures .1)
@@ -52,7 +52,7 @@ pub map-answer-spec : {M : Type 1} → statement M
 map-answer-spec =
     tie.close
     (tie.spec
-    job-in-requires
+    job-of-map-requires
     empty-requires
     open-requires
     is-accepted-requires

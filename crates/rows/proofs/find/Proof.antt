@@ -2,7 +2,7 @@
 use borrow.Author.Needs.{needs}
 use borrow.Author.Tests.{le-leb, lt-leb}
 use Rattle.refusal.specs.Tests.{choose}
-use Rattle.journal.specs.Journal.{seats}
+use Rattle.journal.specs.Journal.{mostSeats}
 use Rattle.rows.proofs.find.Statement.{statement}
 use Rattle.rows.proofs.find.Tie as tie
 
@@ -14,7 +14,7 @@ closed-seat-requires c κs = search needs
 
 returns : tie.Need-returns
 unfolding choose
-returns c = rw (c .before .before .are-sound .ensures, c .closed-seat .ensures, le-leb seats (c .before .before .before .args .number) (c .before .if1 .taken))
+returns c = rw (c .before .before .are-sound .ensures, c .closed-seat .ensures, le-leb mostSeats (c .before .before .before .args .number) (c .before .if1 .taken))
 
 mul-seat : tie.Need-mul-seat
 mul-seat c = search needs
@@ -24,7 +24,7 @@ array-copy-out-seat c = search needs
 
 returns-2 : tie.Need-returns-2
 unfolding choose
-returns-2 c = rw (c .before .before .are-sound .ensures, lt-leb seats (c .before .before .before .args .number) (c .before .if1 .left))
+returns-2 c = rw (c .before .before .are-sound .ensures, lt-leb mostSeats (c .before .before .before .args .number) (c .before .if1 .left))
 
 pub find-spec : {M : Type 1} → statement M
 find-spec =

@@ -6,7 +6,7 @@ use mathlib.Core.List.{[]}
 use borrow.Author.Tests.{le-leb, lt-leb}
 use Rattle.refusal.proofs.Rows.{firstOf}
 use Rattle.rows.specs.Refusals.{turnedPlacing}
-use Rattle.rows.specs.Found.{lookIn}
+use Rattle.rows.specs.Found.{lookAtFound}
 use Rattle.rows.proofs.Rows.{hit, miss, refused, went, closing-stops, closing-goes}
 use Rattle.rows.proofs.turned_placing.Statement.{statement}
 use Rattle.rows.proofs.turned_placing.Tie as tie
@@ -19,11 +19,11 @@ is-accepted-requires c κs = search needs
 
 returns : tie.Need-returns
 unfolding firstOf turnedPlacing
-returns c = closing-stops (lookIn (c .before .before .before .args .found) [] 0) (c .before .before .turned-closing .ensures) _ (refused _ (c .before .is-accepted .ensures) (c .if1 .taken))
+returns c = closing-stops (lookAtFound (c .before .before .before .args .found) [] 0) (c .before .before .turned-closing .ensures) _ (refused _ (c .before .is-accepted .ensures) (c .if1 .taken))
 
 returns-2 : tie.Need-returns-2
 unfolding firstOf turnedPlacing
-returns-2 c = closing-goes (lookIn (c .before .before .before .before .args .found) [] 0) (c .before .before .before .turned-closing .ensures) (went _ (c .before .before .is-accepted .ensures) (c .before .if1 .left)) (hit _ _ (le-leb _ _ (c .if2 .taken)))
+returns-2 c = closing-goes (lookAtFound (c .before .before .before .before .args .found) [] 0) (c .before .before .before .turned-closing .ensures) (went _ (c .before .before .is-accepted .ensures) (c .before .if1 .left)) (hit _ _ (le-leb _ _ (c .if2 .taken)))
 
 mul-there : tie.Need-mul-there
 mul-there c = search needs
@@ -36,25 +36,25 @@ is-there-requires c κs = search needs
 
 returns-3 : tie.Need-returns-3
 unfolding firstOf turnedPlacing
-returns-3 c = closing-goes (lookIn (c .before .before .before .before .before .before .before .before .before .args .found) [] 0) (c .before .before .before .before .before .before .before .before .turned-closing .ensures) (went _ (c .before .before .before .before .before .before .before .is-accepted .ensures) (c .before .before .before .before .before .before .if1 .left)) (miss _ (lt-leb _ _ (c .before .before .before .before .before .if2 .left)) (hit _ _ (sym (c .before .is-there .ensures) ∙ c .if3 .taken)))
+returns-3 c = closing-goes (lookAtFound (c .before .before .before .before .before .before .before .before .before .args .found) [] 0) (c .before .before .before .before .before .before .before .before .turned-closing .ensures) (went _ (c .before .before .before .before .before .before .before .is-accepted .ensures) (c .before .before .before .before .before .before .if1 .left)) (miss _ (lt-leb _ _ (c .before .before .before .before .before .if2 .left)) (hit _ _ (sym (c .before .is-there .ensures) ∙ c .if3 .taken)))
 
 is-inside-requires : tie.Need-is-inside-requires
 is-inside-requires c κs = search needs
 
 returns-4 : tie.Need-returns-4
 unfolding firstOf turnedPlacing
-returns-4 c = closing-goes (lookIn (c .before .before .before .before .before .before .before .before .before .before .before .args .found) [] 0) (c .before .before .before .before .before .before .before .before .before .before .turned-closing .ensures) (went _ (c .before .before .before .before .before .before .before .before .before .is-accepted .ensures) (c .before .before .before .before .before .before .before .before .if1 .left)) (miss _ (lt-leb _ _ (c .before .before .before .before .before .before .before .if2 .left)) (miss _ (sym (c .before .before .before .is-there .ensures) ∙ c .before .before .if3 .left) (hit _ _ (ap not (sym (c .before .is-inside .ensures)) ∙ c .if4 .taken))))
+returns-4 c = closing-goes (lookAtFound (c .before .before .before .before .before .before .before .before .before .before .before .args .found) [] 0) (c .before .before .before .before .before .before .before .before .before .before .turned-closing .ensures) (went _ (c .before .before .before .before .before .before .before .before .before .is-accepted .ensures) (c .before .before .before .before .before .before .before .before .if1 .left)) (miss _ (lt-leb _ _ (c .before .before .before .before .before .before .before .if2 .left)) (miss _ (sym (c .before .before .before .is-there .ensures) ∙ c .before .before .if3 .left) (hit _ _ (ap not (sym (c .before .is-inside .ensures)) ∙ c .if4 .taken))))
 
 is-crowded-requires : tie.Need-is-crowded-requires
 is-crowded-requires c κs = search needs
 
 returns-5 : tie.Need-returns-5
 unfolding firstOf turnedPlacing
-returns-5 c = closing-goes (lookIn (c .before .before .before .before .before .before .before .before .before .before .before .before .before .args .found) [] 0) (c .before .before .before .before .before .before .before .before .before .before .before .before .turned-closing .ensures) (went _ (c .before .before .before .before .before .before .before .before .before .before .before .is-accepted .ensures) (c .before .before .before .before .before .before .before .before .before .before .if1 .left)) (miss _ (lt-leb _ _ (c .before .before .before .before .before .before .before .before .before .if2 .left)) (miss _ (sym (c .before .before .before .before .before .is-there .ensures) ∙ c .before .before .before .before .if3 .left) (miss _ (ap not (sym (c .before .before .before .is-inside .ensures)) ∙ c .before .before .if4 .left) (hit _ _ (sym (c .before .is-crowded .ensures) ∙ c .if5 .taken)))))
+returns-5 c = closing-goes (lookAtFound (c .before .before .before .before .before .before .before .before .before .before .before .before .before .args .found) [] 0) (c .before .before .before .before .before .before .before .before .before .before .before .before .turned-closing .ensures) (went _ (c .before .before .before .before .before .before .before .before .before .before .before .is-accepted .ensures) (c .before .before .before .before .before .before .before .before .before .before .if1 .left)) (miss _ (lt-leb _ _ (c .before .before .before .before .before .before .before .before .before .if2 .left)) (miss _ (sym (c .before .before .before .before .before .is-there .ensures) ∙ c .before .before .before .before .if3 .left) (miss _ (ap not (sym (c .before .before .before .is-inside .ensures)) ∙ c .before .before .if4 .left) (hit _ _ (sym (c .before .is-crowded .ensures) ∙ c .if5 .taken)))))
 
 returns-6 : tie.Need-returns-6
 unfolding firstOf turnedPlacing
-returns-6 c = closing-goes (lookIn (c .before .before .before .before .before .before .before .before .before .before .before .before .before .args .found) [] 0) (c .before .before .before .before .before .before .before .before .before .before .before .before .turned-closing .ensures) (went _ (c .before .before .before .before .before .before .before .before .before .before .before .is-accepted .ensures) (c .before .before .before .before .before .before .before .before .before .before .if1 .left)) (miss _ (lt-leb _ _ (c .before .before .before .before .before .before .before .before .before .if2 .left)) (miss _ (sym (c .before .before .before .before .before .is-there .ensures) ∙ c .before .before .before .before .if3 .left) (miss _ (ap not (sym (c .before .before .before .is-inside .ensures)) ∙ c .before .before .if4 .left) (miss _ (sym (c .before .is-crowded .ensures) ∙ c .if5 .left) (miss _ refl refl)))))
+returns-6 c = closing-goes (lookAtFound (c .before .before .before .before .before .before .before .before .before .before .before .before .before .args .found) [] 0) (c .before .before .before .before .before .before .before .before .before .before .before .before .turned-closing .ensures) (went _ (c .before .before .before .before .before .before .before .before .before .before .before .is-accepted .ensures) (c .before .before .before .before .before .before .before .before .before .before .if1 .left)) (miss _ (lt-leb _ _ (c .before .before .before .before .before .before .before .before .before .if2 .left)) (miss _ (sym (c .before .before .before .before .before .is-there .ensures) ∙ c .before .before .before .before .if3 .left) (miss _ (ap not (sym (c .before .before .before .is-inside .ensures)) ∙ c .before .before .if4 .left) (miss _ (sym (c .before .is-crowded .ensures) ∙ c .if5 .left) (miss _ refl refl)))))
 
 pub turned-placing-spec : {M : Type 1} → statement M
 turned-placing-spec =

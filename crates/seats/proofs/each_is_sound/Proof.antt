@@ -5,17 +5,17 @@ use mathlib.Core.Bool.{true}
 use Prim.Native.Nat.{_≤_, _-_}
 use native.Mathlib.Omega.{arith}
 use lib.ListN.{take}
-use Rattle.journal.specs.Journal.{seats}
+use Rattle.journal.specs.Journal.{mostSeats}
 use Rattle.seats.specs.Sound.{soundTo}
 use Rattle.seats.proofs.Tests.{seats-none, seats-next, seats-stop}
 use Rattle.seats.proofs.each_is_sound.Statement.{statement}
 use Rattle.seats.proofs.each_is_sound.Tie as tie
 
 abbrev Inv-loop : tie.InvT-loop
-Inv-loop journal used l i₀ i = (i ≤ seats) × (soundTo i l (take used journal) ≡ true)
+Inv-loop journal used l i₀ i = (i ≤ mostSeats) × (soundTo i l (take used journal) ≡ true)
 
 abbrev μ-loop : tie.MeasureT-loop
-μ-loop journal used l i₀ i = seats - i
+μ-loop journal used l i₀ i = mostSeats - i
 
 loop-holds : tie.Need-loop-holds Inv-loop μ-loop
 loop-holds c = (omega arith, seats-none _ _)
@@ -42,7 +42,7 @@ returns : tie.Need-returns Inv-loop μ-loop
 returns c = seats-stop _ _ _ (c .before .seat-is-sound .ensures) (c .before .before .before .loop-test .taken) (c .if1 .left)
 
 returns-2 : tie.Need-returns-2 Inv-loop μ-loop
-returns-2 c = let e : c .before .loop .i ≡ seats = omega arith in sym (rw e at (c .before .loop .inv .1))
+returns-2 c = let e : c .before .loop .i ≡ mostSeats = omega arith in sym (rw e at (c .before .loop .inv .1))
 
 pub each-is-sound-spec : {M : Type 1} → statement M
 each-is-sound-spec =

@@ -5,14 +5,14 @@ use native.Mathlib.Omega.{arith}
 use lib.ListN.{take, getD}
 use Rattle.script.proofs.Printing.{Put, then-put, put-as}
 use Rattle.shown.proofs.Lines.{lines-more, first-all}
-use Rattle.shown.specs.Shown.{legText, linesOf}
+use Rattle.shown.specs.Shown.{legText, lineForEach}
 use Rattle.wiring.specs.Answer.{noLeg}
 use borrow.Author.Needs.{needs}
 use Rattle.shown.proofs.put_legs.Statement.{statement}
 use Rattle.shown.proofs.put_legs.Tie as tie
 
 abbrev Inv-loop : tie.InvT-loop
-Inv-loop count out₀ at legs most next₀ i₀ out next i = ((i ≤ most) × (next ≤ at + i * 92)) × Put out₀ at (linesOf legText (take i legs)) next out
+Inv-loop count out₀ at legs most next₀ i₀ out next i = ((i ≤ most) × (next ≤ at + i * 92)) × Put out₀ at (lineForEach legText (take i legs)) next out
 
 abbrev μ-loop : tie.MeasureT-loop
 μ-loop count out₀ at legs most next₀ i₀ out next i = most - i
@@ -21,7 +21,7 @@ smaller-requires : tie.Need-smaller-requires Inv-loop μ-loop
 smaller-requires c κs = search needs
 
 loop-holds : tie.Need-loop-holds Inv-loop μ-loop
-unfolding linesOf
+unfolding lineForEach
 loop-holds c = ((omega arith, omega arith), (omega arith, refl))
 
 mul-leg : tie.Need-mul-leg Inv-loop μ-loop
@@ -45,7 +45,7 @@ loop-again c =
     let q = c .before .before .before .before .loop in
     let e = c .put-leg .ensures in
     let a = getD (s .t1) (q .i) noLeg in
-    let h = then-put (s .out .now) (s .at) (linesOf legText (take (q .i) (s .t1))) (legText a) (q .inv .1) (e .0 .0, e .1) in
+    let h = then-put (s .out .now) (s .at) (lineForEach legText (take (q .i) (s .t1))) (legText a) (q .inv .1) (e .0 .0, e .1) in
     ((omega arith, omega (arith, e .0 .1)), put-as (s .out .now) (s .at) (lines-more legText noLeg (s .t1) (q .i) (omega arith)) h)
 
 returns : tie.Need-returns Inv-loop μ-loop
@@ -54,7 +54,7 @@ returns c =
     let q = c .before .loop in
     let n = c .before .before .smaller .ensures in
     let e = first-all (s .t1) (s .count) 62 (q .i) (omega arith) (omega (arith, n)) in
-    let h = put-as (s .out .now) (s .at) (ap (linesOf legText) e) (q .inv .1) in
+    let h = put-as (s .out .now) (s .at) (ap (lineForEach legText) e) (q .inv .1) in
     ((h .0, omega (arith, n)), h .1)
 
 pub put-legs-spec : {M : Type 1} → statement M

@@ -7,7 +7,7 @@ use lib.Seq.{take-all}
 use Rattle.script.proofs.Printing.{Put, then-put, put-as}
 use Rattle.shown.proofs.Lines.{pins-more}
 use Rattle.shown.specs.Shown.{spotText, pinsText}
-use Rattle.grid.specs.declared.Spot.the-variants.{Absent}
+use Rattle.feed.specs.declared.Spot.the-variants.{Absent}
 use borrow.Author.Needs.{needs}
 use Rattle.shown.proofs.put_pins.Statement.{statement}
 use Rattle.shown.proofs.put_pins.Tie as tie

@@ -5,7 +5,7 @@ use native.Mathlib.Omega.{arith}
 use lib.ListN.{take, getD}
 use Rattle.script.proofs.Printing.{Put, then-put, put-as}
 use Rattle.shown.proofs.Lines.{lines-more, first-all}
-use Rattle.shown.specs.Shown.{shapedLine, linesOf}
+use Rattle.shown.specs.Shown.{shapedLine, lineForEach}
 use Rattle.copper.specs.declared.Shape.the-variants.{Straight}
 use Rattle.wiring.specs.Answer.{shaped}
 use borrow.Author.Needs.{needs}
@@ -13,7 +13,7 @@ use Rattle.shown.proofs.put_runs.Statement.{statement}
 use Rattle.shown.proofs.put_runs.Tie as tie
 
 abbrev Inv-loop : tie.InvT-loop
-Inv-loop count out₀ at runs most next₀ i₀ out next i = ((i ≤ most) × (next ≤ at + i * 51)) × Put out₀ at (linesOf shapedLine (take i runs)) next out
+Inv-loop count out₀ at runs most next₀ i₀ out next i = ((i ≤ most) × (next ≤ at + i * 51)) × Put out₀ at (lineForEach shapedLine (take i runs)) next out
 
 abbrev μ-loop : tie.MeasureT-loop
 μ-loop count out₀ at runs most next₀ i₀ out next i = most - i
@@ -22,7 +22,7 @@ smaller-requires : tie.Need-smaller-requires Inv-loop μ-loop
 smaller-requires c κs = search needs
 
 loop-holds : tie.Need-loop-holds Inv-loop μ-loop
-unfolding linesOf
+unfolding lineForEach
 loop-holds c = ((omega arith, omega arith), (omega arith, refl))
 
 mul-run : tie.Need-mul-run Inv-loop μ-loop
@@ -46,7 +46,7 @@ loop-again c =
     let q = c .before .before .before .before .loop in
     let e = c .put-shaped .ensures in
     let a = getD (s .t1) (q .i) (shaped 0 0 Straight) in
-    let h = then-put (s .out .now) (s .at) (linesOf shapedLine (take (q .i) (s .t1))) (shapedLine a) (q .inv .1) (e .0 .0, e .1) in
+    let h = then-put (s .out .now) (s .at) (lineForEach shapedLine (take (q .i) (s .t1))) (shapedLine a) (q .inv .1) (e .0 .0, e .1) in
     ((omega arith, omega (arith, e .0 .1)), put-as (s .out .now) (s .at) (lines-more shapedLine (shaped 0 0 Straight) (s .t1) (q .i) (omega arith)) h)
 
 returns : tie.Need-returns Inv-loop μ-loop
@@ -55,7 +55,7 @@ returns c =
     let q = c .before .loop in
     let n = c .before .before .smaller .ensures in
     let e = first-all (s .t1) (s .count) 31 (q .i) (omega arith) (omega (arith, n)) in
-    let h = put-as (s .out .now) (s .at) (ap (linesOf shapedLine) e) (q .inv .1) in
+    let h = put-as (s .out .now) (s .at) (ap (lineForEach shapedLine) e) (q .inv .1) in
     ((h .0, omega (arith, n)), h .1)
 
 pub put-runs-spec : {M : Type 1} → statement M

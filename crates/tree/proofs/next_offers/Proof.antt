@@ -1,6 +1,7 @@
 -- `tree::next_offers` meets its contract: the array is filled from the front. Assumes nothing.
 use Rattle.grid.specs.declared.Place.{Place}
-use Rattle.tree.proofs.Filling.{inside-at, next-fill, next-full}
+use Rattle.feed.proofs.Rules.{inside-at}
+use Rattle.tree.proofs.Filling.{next-fill, next-full}
 use borrow.Author.Needs.{needs}
 use native.Mathlib.Omega.{arith}
 use mathlib.Core.Path.{_≡_, ap, _∙_}

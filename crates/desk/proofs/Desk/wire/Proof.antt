@@ -7,11 +7,11 @@ use Rattle.desk.proofs.Desk.wire.Tie as tie
 find-requires : tie.Need-find-requires
 find-requires c κs = search needs
 
-wiring-requires : tie.Need-wiring-requires
-wiring-requires c κs = found-lawful (c .before .args .self) (c .before .args .seat) (c .find .ensures)
+feed-wired-requires : tie.Need-feed-wired-requires
+feed-wired-requires c κs = found-lawful (c .before .args .self) (c .before .args .seat) (c .find .ensures)
 
 returns : tie.Need-returns
-returns c = wire-laid (c .before .before .args .self) (c .before .before .args .seat) (c .before .find .ensures) (c .before .before .args .room) (c .wiring .ensures)
+returns c = wire-laid (c .before .before .args .self) (c .before .before .args .seat) (c .before .find .ensures) (c .before .before .args .room) (c .feed-wired .ensures)
 
 pub wire-spec : {M : Type 1} → statement M
-wire-spec = tie.close (tie.spec find-requires wiring-requires returns)
+wire-spec = tie.close (tie.spec find-requires feed-wired-requires returns)

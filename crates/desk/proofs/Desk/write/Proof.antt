@@ -7,14 +7,14 @@ use Rattle.desk.proofs.Desk.write.Tie as tie
 find-requires : tie.Need-find-requires
 find-requires c κs = search needs
 
-writing-requires : tie.Need-writing-requires
-writing-requires c κs = search needs
+map-written-requires : tie.Need-map-written-requires
+map-written-requires c κs = search needs
 
 same-length : tie.Need-same-length
 same-length c = search needs
 
 returns : tie.Need-returns
-returns c = write-done (c .before .before .before .before .before .before .args .self) (c .before .before .before .before .before .before .args .seat) (c .before .before .before .before .find .ensures) (c .before .before .before .before .before .before .args .buffer .now) (c .before .before .writing .ensures .0) (c .before .before .writing .ensures .1)
+returns c = write-done (c .before .before .before .before .before .before .args .self) (c .before .before .before .before .before .before .args .seat) (c .before .before .before .before .find .ensures) (c .before .before .before .before .before .before .args .buffer .now) (c .before .before .map-written .ensures .0) (c .before .before .map-written .ensures .1)
 
 pub write-spec : {M : Type 1} → statement M
-write-spec = tie.close (tie.spec find-requires writing-requires same-length returns)
+write-spec = tie.close (tie.spec find-requires map-written-requires same-length returns)

@@ -1,0 +1,4 @@
+-- The laws of feeds that other crates cite.
+pub mod Near
+pub mod Rules
+pub mod Loops

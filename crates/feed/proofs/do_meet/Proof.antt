@@ -1,0 +1,45 @@
+-- `feed::do_meet` meets its contract, by the cases of both pins. Assumes nothing.
+use borrow.Author.Needs.{needs}
+use Rattle.feed.specs.Feeds.{meets}
+use Rattle.feed.proofs.do_meet.Statement.{statement}
+use Rattle.feed.proofs.do_meet.Tie as tie
+
+enum-told : tie.Need-enum-told
+enum-told c = search needs
+
+enum-known-a : tie.Need-enum-known-a
+enum-known-a c = search needs
+
+enum-told-2 : tie.Need-enum-told-2
+enum-told-2 c = search needs
+
+enum-known-b : tie.Need-enum-known-b
+enum-known-b c = search needs
+
+too-near-requires : tie.Need-too-near-requires
+too-near-requires c κs = search needs
+
+returns : tie.Need-returns
+unfolding meets
+returns c = rw (c .enum-told .given .1)
+
+returns-2 : tie.Need-returns-2
+unfolding meets
+returns-2 c = rw (c .before .before .before .a .given .1, c .enum-told2 .given .1)
+
+returns-3 : tie.Need-returns-3
+unfolding meets
+returns-3 c = rw (c .before .before .before .before .before .a .given .1, c .before .before .b .given .1) (c .too-near .ensures)
+
+pub do-meet-spec : {M : Type 1} → statement M
+do-meet-spec =
+    tie.close
+    (tie.spec
+    enum-told
+    enum-known-a
+    enum-told-2
+    enum-known-b
+    too-near-requires
+    returns
+    returns-2
+    returns-3)

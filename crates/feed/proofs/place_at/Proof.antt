@@ -1,0 +1,28 @@
+-- `feed::place_at` meets its contract, by the arm taken. Assumes nothing.
+use mathlib.Core.Path.{sym, ap}
+use native.Mathlib.Omega.{arith}
+use lib.ListN.{List·getD-eq-default}
+use Rattle.feed.specs.declared.Spot.the-variants.{Absent}
+use Rattle.feed.specs.Feeds.{placeOf}
+use borrow.Author.Needs.{needs}
+use Rattle.feed.proofs.place_at.Statement.{statement}
+use Rattle.feed.proofs.place_at.Tie as tie
+
+mul-spot : tie.Need-mul-spot
+mul-spot c = search needs
+
+array-copy-out-spot : tie.Need-array-copy-out-spot
+array-copy-out-spot c = search needs
+
+place-of-requires : tie.Need-place-of-requires
+place-of-requires c κs = search needs
+
+returns : tie.Need-returns
+returns c = search needs
+
+returns-2 : tie.Need-returns-2
+returns-2 c = sym (ap placeOf (List·getD-eq-default (c .before .args .t1) Absent (omega arith)))
+
+pub place-at-spec : {M : Type 1} → statement M
+place-at-spec =
+    tie.close (tie.spec mul-spot array-copy-out-spot place-of-requires returns returns-2)

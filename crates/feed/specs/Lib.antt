@@ -1,0 +1,2 @@
+-- What the words of a feed mean.
+pub mod Feeds

@@ -1,0 +1,145 @@
+// Feeds: what stands at each pin number of one, where its pins stand, and whether they are on the board and apart.
+use grid::Place;
+ghost use mathlib.Core.Path.{_≡_};
+ghost use Prim.Native.Nat.{_<_, _≤_};
+ghost use lib.ListN.{drop};
+ghost use Rattle.feed.specs.Feeds.{mostPins, present, placeOf, spotAt, within, meets, meetsAny, meetsOther, crowded, settled, allWithin, allApart};
+
+// Pins are numbered from 0 to one less than this.
+pub const PINS: usize = 32;
+
+// What stands at a pin's number: nothing, or a pin at a place.
+pub enum Spot {
+    Absent,
+    At(Place),
+}
+
+// Whether a pin is there.
+pub fn is_there(spot: Spot) -> bool
+    ensures { λ r. ⌜ r ≡ present spot ⌝ }
+{
+    match spot {
+        Spot::Absent => false,
+        Spot::At(_) => true,
+    }
+}
+
+// Where a pin stands; the middle of the board where none does.
+pub fn place_of(spot: Spot) -> Place
+    ensures { λ r. ⌜ r ≡ placeOf spot ⌝ }
+{
+    match spot {
+        Spot::Absent => Place { x: 0, y: 0 },
+        Spot::At(place) => place,
+    }
+}
+
+// Where the pin with this number stands; the middle of the board where none does.
+pub fn place_at(feed: [Spot; PINS], pin: usize) -> Place
+    ensures { λ r. ⌜ r ≡ placeOf (spotAt feed pin) ⌝ }
+{
+    if pin < PINS {
+        let spot = feed[pin];
+        return place_of(spot);
+    }
+    Place { x: 0, y: 0 }
+}
+
+// Whether a pin, if it is there, is on the board.
+fn is_within(spot: Spot) -> bool
+    ensures { λ r. ⌜ r ≡ within spot ⌝ }
+{
+    match spot {
+        Spot::Absent => true,
+        Spot::At(place) => grid::is_inside(place),
+    }
+}
+
+// Whether two pins are there and too near each other.
+fn do_meet(a: Spot, b: Spot) -> bool
+    ensures { λ r. ⌜ r ≡ meets a b ⌝ }
+{
+    match a {
+        Spot::Absent => false,
+        Spot::At(p) => match b {
+            Spot::Absent => false,
+            Spot::At(q) => grid::too_near(p, q),
+        },
+    }
+}
+
+// Whether a pin is too near one of those numbered `from` and above.
+fn meets_any(spot: Spot, feed: [Spot; PINS], from: usize) -> bool
+    requires { ⌜ from ≤ mostPins ⌝ }
+    ensures { λ r. ⌜ r ≡ meetsAny spot (drop from feed) ⌝ }
+{
+    let mut number = from;
+    while number < PINS {
+        let other = feed[number];
+        if do_meet(spot, other) {
+            return true;
+        }
+        number += 1;
+    }
+    false
+}
+
+// Whether a pin of that number would be too near another, if it stood so.
+fn meets_other(feed: [Spot; PINS], pin: usize, spot: Spot) -> bool
+    requires { ⌜ pin < mostPins ⌝ }
+    ensures { λ r. ⌜ r ≡ meetsOther feed pin spot ⌝ }
+{
+    let mut others = feed;
+    others[pin] = Spot::Absent;
+    meets_any(spot, others, 0)
+}
+
+// Whether a pin other than `pin` stands too near to a place.
+pub fn is_crowded(feed: [Spot; PINS], pin: usize, at: Place) -> bool
+    requires { ⌜ pin < mostPins ⌝ }
+    ensures { λ r. ⌜ r ≡ crowded feed pin at ⌝ }
+{
+    meets_other(feed, pin, Spot::At(at))
+}
+
+// Whether a pin, if it is there, is on the board with no other pin too near to it.
+pub fn is_settled(feed: [Spot; PINS], pin: usize) -> bool
+    requires { ⌜ pin < mostPins ⌝ }
+    ensures { λ r. ⌜ r ≡ settled feed pin ⌝ }
+{
+    let spot = feed[pin];
+    if !is_within(spot) {
+        return false;
+    }
+    !meets_other(feed, pin, spot)
+}
+
+// Whether every pin that is there is on the board.
+pub fn are_within(feed: [Spot; PINS]) -> bool
+    ensures { λ r. ⌜ r ≡ allWithin feed ⌝ }
+{
+    let mut pin = 0;
+    while pin < PINS {
+        let spot = feed[pin];
+        if !is_within(spot) {
+            return false;
+        }
+        pin += 1;
+    }
+    true
+}
+
+// Whether no two pins are too near each other.
+pub fn are_apart(feed: [Spot; PINS]) -> bool
+    ensures { λ r. ⌜ r ≡ allApart feed ⌝ }
+{
+    let mut pin = 0;
+    while pin < PINS {
+        let spot = feed[pin];
+        if meets_any(spot, feed, pin + 1) {
+            return false;
+        }
+        pin += 1;
+    }
+    true
+}
