@@ -7,7 +7,7 @@ use lib.IntN.{ℤ}
 use lib.ListN.{length, take}
 use Rattle.desk.specs.declared.Desk.{Desk}
 use Rattle.script.specs.declared.Order.{Order}
-use Rattle.script.specs.Text.{over, room}
+use Rattle.script.specs.Text.{over, answerBytes}
 use Rattle.script.specs.Numbers.{mostPairs, mostNumbers}
 use Rattle.script.specs.Orders.{orderOf, mapGiven, xsGiven, ysGiven}
 use Rattle.answer.specs.Answered.{Holds, followed, played, printed, answered}
@@ -17,7 +17,7 @@ use Rattle.answer.proofs.Ordered.{open-count, bare-counts, first-stored
 abbrev pub Answers : Desk → ℕ → List ℕ → List ℕ → Desk → ℕ → List ℕ → Type 0
 Answers d number line old r n new =
     (r ≡ played d line)
-    × ((n ≡ length (answered d number line)) × ((n ≤ room) × (new ≡ over (answered d number line) old)))
+    × ((n ≡ length (answered d number line)) × ((n ≤ answerBytes) × (new ≡ over (answered d number line) old)))
 
 -- The answer to the order is that to the line.
 pub answers : (d : Desk) (number : ℕ) (line old : List ℕ) {o p : Order} {r : Desk} {n : ℕ} {new : List ℕ} → o ≡ orderOf line → o ≡ p
@@ -35,13 +35,14 @@ module _ (line : List ℕ) {o : Order} (e : o ≡ orderOf line) where
       let h = open-count line e f in
       ap (take n) g ∙ first-stored old (mapGiven line) (h .0) (omega arith)
 
-  -- The lists of a bare wiring.
+  -- The x of a bare wiring.
   pub across-lent : {legs across up : ℕ} (old : List ℤ) {xs : List ℤ} → o ≡ Order.Bare legs across up → xs ≡ over (xsGiven line) old
       → length old ≡ mostNumbers → take across xs ≡ xsGiven line
   across-lent {across} old f g k =
       let h = bare-counts line e f .0 in
       ap (take across) g ∙ first-stored old (xsGiven line) (h .0) (omega arith)
 
+  -- And its y.
   pub up-lent : {legs across up : ℕ} (old : List ℤ) {ys : List ℤ} → o ≡ Order.Bare legs across up → ys ≡ over (ysGiven line) old
       → length old ≡ mostNumbers → take up ys ≡ ysGiven line
   up-lent {up} old f g k =

@@ -150,15 +150,17 @@ module _ (line : List ℕ) {o : Order} (e : o ≡ orderOf line) where
   of : {p : Order} → o ≡ p → Fair (mapGiven line) (xsGiven line) (ysGiven line) p
   of f = rw (sym e ∙ f) at (fair line)
 
-  -- The counts of an order that was read.
+  -- An opening that was read counts the bytes of its map, and they fit into the buffer lent for them.
   pub open-count : {s job n : ℕ} → o ≡ Order.Open s job n → (n ≡ length (mapGiven line)) × (n ≤ mostPairs)
   unfolding Fair
   open-count f = of f
 
+  -- A writing is lent no more than the most room.
   pub write-room : {s room : ℕ} → o ≡ Order.Write s room → room ≤ mostRoom
   unfolding Fair
   write-room f = of f
 
+  -- A bare wiring counts its x and its y, and both fit.
   pub bare-counts : {room across up : ℕ} → o ≡ Order.Bare room across up
       → ((across ≡ length (xsGiven line)) × (across ≤ mostNumbers)) × ((up ≡ length (ysGiven line)) × (up ≤ mostNumbers))
   unfolding Fair

@@ -16,7 +16,7 @@ use Rattle.desk.specs.declared.Written.{Written}
 use Rattle.desk.specs.declared.Wired.{Wired}
 use Rattle.desk.specs.Calls.{Call}
 use Rattle.desk.specs.Desk.{step, writtenOf, bufferOf, wiredOf}
-use Rattle.script.specs.Text.{over, room}
+use Rattle.script.specs.Text.{over, answerBytes}
 use Rattle.script.specs.Orders.{mostRoom}
 use Rattle.script.specs.Answers.{verdictLine, writtenLine}
 use Rattle.shown.specs.Shown.{laidText}
@@ -26,7 +26,8 @@ use Rattle.answer.specs.Answered.{Holds, callText, lentBytes, writingTex
 abbrev pub Left : List ℕ → List ℕ → ℕ → ℕ → List ℕ → Type 0
 Left text old most n new = ((n ≡ length text) × (n ≤ most)) × (new ≡ over text old)
 
-pub held : (text old : List ℕ) (most : ℕ) {n : ℕ} {new : List ℕ} → most ≤ room → Left text old most n new → Holds text old n new
+-- Within the room of an answer the buffer holds the text, from its start on.
+pub held : (text old : List ℕ) (most : ℕ) {n : ℕ} {new : List ℕ} → most ≤ answerBytes → Left text old most n new → Holds text old n new
 held text old most k h = record { bytes = h .0 .0; within = omega (arith, h .0 .1); buffer = h .1 }
 
 -- Writing and wiring leave the desk as it is.
@@ -39,20 +40,21 @@ unfolding wiredOf
 wire-kept d s legs e = ap (λ (x : Wired). x .desk) e
 
 module _ (d : Desk) (old : List ℕ) {n : ℕ} {new : List ℕ} where
-  -- The verdict of a call.
+  -- A call whose verdict is printed.
   pub called : (call : Call) {a : Answered} {r : Desk} → a ≡ step d call
       → (r ≡ a .desk) × Holds (verdictLine (a .verdict)) old n new → (r ≡ step d call .desk) × Holds (callText d call) old n new
   unfolding callText
   called call e h = (h .0 ∙ ap (λ (x : Answered). x .desk) e, rw e at (h .1))
 
-  -- A writing, accepted and refused.
+  -- A writing that was accepted: its bytes and the whole buffer are printed.
   pub write-done : (s : ℕ) (buffer : List ℕ) {w : Written} {after : List ℕ} → w ≡ writtenOf d s buffer → after ≡ bufferOf d s buffer
-      → accepted (w .verdict) ≡ true → Left (writtenLine (w .bytes) after) old room n new
+      → accepted (w .verdict) ≡ true → Left (writtenLine (w .bytes) after) old answerBytes n new
       → (w .desk ≡ d) × Holds (writingText d s buffer) old n new
   unfolding writingText choose
   write-done s buffer {w} {after} e f a h =
-      (write-kept d s buffer e, rw (← e, a, ← f) (held (writtenLine (w .bytes) after) old room (omega arith) h))
+      (write-kept d s buffer e, rw (← e, a, ← f) (held (writtenLine (w .bytes) after) old answerBytes (omega arith) h))
 
+  -- One that was refused: its verdict is.
   pub write-refused : (s : ℕ) (buffer : List ℕ) {w : Written} → w ≡ writtenOf d s buffer
       → accepted (w .verdict) ≡ false → Left (verdictLine (w .verdict)) old 200 n new
       → (w .desk ≡ d) × Holds (writingText d s buffer) old n new
@@ -60,21 +62,22 @@ module _ (d : Desk) (old : List ℕ) {n : ℕ} {new : List ℕ} where
   write-refused s buffer {w} e a h =
       (write-kept d s buffer e, rw (← e, a) (held (verdictLine (w .verdict)) old 200 (omega arith) h))
 
-  -- A wiring of a seat.
-  pub wire-done : (s legs : ℕ) {w : Wired} → w ≡ wiredOf d s legs → Left (laidText (w .laid)) old room n new
+  -- A wiring of a seat, printed as it is laid.
+  pub wire-done : (s legs : ℕ) {w : Wired} → w ≡ wiredOf d s legs → Left (laidText (w .laid)) old answerBytes n new
       → (w .desk ≡ d) × Holds (laidText (wiredOf d s legs .laid)) old n new
-  wire-done s legs {w} e h = (wire-kept d s legs e, rw (← e) (held (laidText (w .laid)) old room (omega arith) h))
+  wire-done s legs {w} e h = (wire-kept d s legs e, rw (← e) (held (laidText (w .laid)) old answerBytes (omega arith) h))
 
--- A bare wiring.
+-- A bare wiring is printed as it is laid.
 pub bare-done : (xs ys : List ℤ) (legs : ℕ) (old : List ℕ) {n : ℕ} {new : List ℕ} {l : Laid} → l ≡ bareOf xs ys legs
-    → Left (laidText l) old room n new → Holds (laidText (bareOf xs ys legs)) old n new
-bare-done xs ys legs old {n} {new} {l} e h = rw (← e) (held (laidText l) old room (omega arith) h)
+    → Left (laidText l) old answerBytes n new → Holds (laidText (bareOf xs ys legs)) old n new
+bare-done xs ys legs old {n} {new} {l} e h = rw (← e) (held (laidText l) old answerBytes (omega arith) h)
 
--- The first bytes of the most room.
+-- The first of many equal bytes.
 first-same : (n m b : ℕ) → n ≤ m → take n (replicate m b) ≡ replicate n b
 first-same zero m b h = refl
 first-same (suc n) zero b h = absurd (omega arith)
 first-same (suc n) (suc m) b h = ap (λ (l : List ℕ). b ∷ l) (first-same n m b (omega arith))
 
+-- So many bytes of the most room are what a writing of that room is lent.
 pub lent-first : (n : ℕ) {l : List ℕ} → l ≡ lentBytes mostRoom → n ≤ mostRoom → take n l ≡ lentBytes n
-lent-first n e h = ap (take n) e ∙ first-same n mostRoom 238 h
+lent-first n e h = ap (take n) e ∙ first-same n mostRoom 0xEE h

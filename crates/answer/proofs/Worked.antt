@@ -5,9 +5,9 @@ use Prim.Native.Nat.{ℕ, _+_}
 use Prim.Native.String.{String}
 use Rattle.refusal.specs.Tests.{both, either, choose}
 use Rattle.refusal.specs.Refusals.{accepted, turn}
-use Rattle.grid.specs.Number.{first, second, third, fourth}
+use Rattle.grid.specs.Number.{firstByte, secondByte, thirdByte, fourthByte}
 use Rattle.grid.specs.Place.{onBoard, inside, difference, closer, tooNear, sameNumber, samePlace}
-use Rattle.feed.specs.Feeds.{meets, meetsAny, crowded, within, settled, allWithin, allApart, meetsOther}
+use Rattle.feed.specs.Feeds.{spotsTooNear, tooNearAny, crowded, within, settled, allWithin, allApart, tooNearOther}
 use Rattle.drawing.specs.Pins.{isThere, sameHeld, samePin, samePins, lawful, spotOf, feedOf}
 use Rattle.drawing.specs.Edits.{movedPin, made, unmade, standsAt, fits, placeable, movable, makeable, takeable, heldBy}
 use Rattle.pinmap.specs.Record.{recordBytes, pinBytes}
@@ -20,7 +20,7 @@ use Rattle.script.specs.Text.{text, same}
 use Rattle.script.specs.Words.{endOf, beforeFirst, pieces, nonEmpty, wordsOf}
 use Rattle.script.specs.Numbers.{between, allDigits, valueFrom, isNumber, hasMinus, isCoordinate, signed, isHex, hexValue, allPairs, bytesOf, isMap}
 use Rattle.script.specs.Orders.{only, seatCall, pairCall, isOpenCall, openCall, lentCall, isPlacing, placeCall, callOf, isSkipped, asked, isLong, orderOf, mapIn, mapAsked, mapGiven}
-use Rattle.script.specs.Answers.{shown, integer, placeText, hexDigit, hex, carriedText, toldLine, hexPart, writtenLine, drawingLine, pinLine, notACallLine}
+use Rattle.script.specs.Answers.{digits, integer, placeText, hexDigit, hex, carriedText, toldLine, hexPart, writtenLine, drawingLine, pinLine, notACallLine}
 use Rattle.shown.specs.Shown.{spotText, pinsText, pinsThere, drawnText}
 use Rattle.answer.specs.Answered.{followed, played, callText, writingText, lookText, seatText, printed, answered}
 
@@ -29,10 +29,11 @@ told : Desk → ℕ → List String → List ℕ
 told d number [] = []
 told d number (line ∷ rest) = answered d number (text line) ++ told (played d (text line)) (number + 1) rest
 
+-- D3 and what a log does beside: undo, `pins` of seats of each kind, a line that is not a call.
 worked :
     told emptyDesk 1
     ("# D3" ∷ "open 0 7 -" ∷ "place 0 0 1 -1" ∷ "write 0 13" ∷ "pins 0" ∷ "undo 0" ∷ "pins 0" ∷ "undo 0" ∷ "pins 1" ∷ "pins 8" ∷ "draw 0" ∷ [])
     ≡ text
     "0\n0\n0 12 0007000000000001ffffffffee\njob 7 pins 1 standing 1 taken 0\npin 0 1 -1\n0\njob 7 pins 0 standing 0 taken 1\nrefused 10\nclosed\nrefused 1\nline 11: not a call\n"
-unfolding told both either choose accepted turn onBoard inside difference closer tooNear sameNumber samePlace isThere sameHeld samePin samePins meets meetsAny meetsOther crowded within settled allWithin allApart spotOf feedOf lawful movedPin made unmade standsAt fits placeable movable makeable takeable heldBy first second third fourth recordBytes pinBytes noPins readFrom wrongLength readMap mapFrom mapOf written own kept filled seated inTurn sameJob jobAmong turnedOpening turnedClosing turnedPlacing turnedUndoing turnedWriting verdictOf jobOf jobsApart soundOpen soundClosed soundSeat soundTo sound edited effect answerOf step emptyDesk writtenOf bufferOf same endOf beforeFirst pieces nonEmpty wordsOf between allDigits valueFrom isNumber hasMinus isCoordinate signed isHex hexValue allPairs bytesOf isMap only seatCall pairCall isOpenCall openCall lentCall isPlacing placeCall callOf isSkipped asked isLong orderOf mapIn mapAsked mapGiven shown integer placeText hexDigit hex carriedText toldLine hexPart writtenLine drawingLine pinLine notACallLine spotText pinsText pinsThere drawnText followed played callText writingText lookText seatText printed answered
+unfolding told both either choose accepted turn onBoard inside difference closer tooNear sameNumber samePlace isThere sameHeld samePin samePins spotsTooNear tooNearAny tooNearOther crowded within settled allWithin allApart spotOf feedOf lawful movedPin made unmade standsAt fits placeable movable makeable takeable heldBy firstByte secondByte thirdByte fourthByte recordBytes pinBytes noPins readFrom wrongLength readMap mapFrom mapOf written own kept filled seated inTurn sameJob jobAmong turnedOpening turnedClosing turnedPlacing turnedUndoing turnedWriting verdictOf jobOf jobsApart soundOpen soundClosed soundSeat soundTo sound edited effect answerOf step emptyDesk writtenOf bufferOf same endOf beforeFirst pieces nonEmpty wordsOf between allDigits valueFrom isNumber hasMinus isCoordinate signed isHex hexValue allPairs bytesOf isMap only seatCall pairCall isOpenCall openCall lentCall isPlacing placeCall callOf isSkipped asked isLong orderOf mapIn mapAsked mapGiven digits integer placeText hexDigit hex carriedText toldLine hexPart writtenLine drawingLine pinLine notACallLine spotText pinsText pinsThere drawnText followed played callText writingText lookText seatText printed answered
 worked = refl

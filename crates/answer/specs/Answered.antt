@@ -15,7 +15,7 @@ use Rattle.desk.specs.Calls.{Call, opening, closing, placing, moving, removing,
 use Rattle.desk.specs.Refusals.{Look, seatAbove}
 use Rattle.desk.specs.Desk.{lookAt, step, writtenOf, bufferOf, wiredOf}
 use Rattle.script.specs.declared.Order.{Order}
-use Rattle.script.specs.Text.{over, room}
+use Rattle.script.specs.Text.{over, answerBytes}
 use Rattle.script.specs.Orders.{orderOf, mapGiven, xsGiven, ysGiven}
 use Rattle.script.specs.Answers.{verdictLine, writtenLine, closedLine, notACallLine}
 use Rattle.shown.specs.Shown.{laidText, drawnText}
@@ -92,5 +92,5 @@ answered d number line = printed d number (mapGiven line) (xsGiven line) (ysGive
 -- So many bytes of a lent buffer are the text, from its start on, no more than its room; what lies after them stays.
 pub record Holds (text before : List ℕ) (count : ℕ) (after : List ℕ) : Type 0 where
   pub bytes : count ≡ length text
-  pub within : count ≤ room
+  pub within : count ≤ answerBytes
   pub buffer : after ≡ over text before

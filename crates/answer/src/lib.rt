@@ -7,7 +7,7 @@ use script::MOST_NUMBERS;
 use script::MOST_PAIRS;
 use script::MOST_ROOM;
 use script::Order;
-use script::answers::ROOM;
+use script::answers::ANSWER_BYTES;
 use script::answers::print_closed;
 use script::answers::print_not_a_call;
 use script::answers::print_verdict;
@@ -20,7 +20,7 @@ ghost use lib.ListN.{length, take};
 ghost use Rattle.bare.specs.Bare.{bareOf};
 ghost use Rattle.desk.specs.Calls.{opening};
 ghost use Rattle.desk.specs.Desk.{step, wiredOf};
-ghost use Rattle.script.specs.Text.{over, room};
+ghost use Rattle.script.specs.Text.{over, answerBytes};
 ghost use Rattle.script.specs.Numbers.{mostPairs, mostNumbers};
 ghost use Rattle.script.specs.Orders.{mostRoom};
 ghost use Rattle.script.specs.Answers.{verdictLine};
@@ -34,7 +34,7 @@ pub struct Answer {
 }
 
 // Prints the verdict of a call, and hands on the desk that follows.
-fn told(call: Answered, out: &mut [u8; ROOM]) -> Answer
+fn told(call: Answered, out: &mut [u8; ANSWER_BYTES]) -> Answer
     ensures { λ r. ⌜ r .desk ≡ call .desk ⌝ }
     ensures { λ r. ⌜ Holds (verdictLine (call .verdict)) (now (out .entry)) (r .bytes) (now (out .exit)) ⌝ }
 {
@@ -51,7 +51,7 @@ fn open(
     job: u16,
     map: &[u8; MOST_PAIRS],
     bytes: usize,
-    out: &mut [u8; ROOM],
+    out: &mut [u8; ANSWER_BYTES],
 ) -> Answer
     requires { ⌜ bytes ≤ mostPairs ⌝ }
     ensures { λ r. ⌜ r .desk ≡ step desk (opening seat job (take bytes (now (map .entry)))) .desk ⌝ }
@@ -62,7 +62,7 @@ fn open(
 }
 
 // Writes a map into a lent buffer.
-fn write_into(desk: Desk, seat: usize, buffer: &mut [u8], out: &mut [u8; ROOM]) -> Answer
+fn write_into(desk: Desk, seat: usize, buffer: &mut [u8], out: &mut [u8; ANSWER_BYTES]) -> Answer
     ensures { λ r. ⌜ r .desk ≡ desk ⌝ }
     ensures { λ r. ⌜ Holds (writingText desk seat (now (buffer .entry))) (now (out .entry)) (r .bytes) (now (out .exit)) ⌝ }
 {
@@ -85,7 +85,7 @@ fn lent_bytes() -> [u8; MOST_ROOM]
 }
 
 // Writes a map into lent room.
-fn write(desk: Desk, seat: usize, room: usize, out: &mut [u8; ROOM]) -> Answer
+fn write(desk: Desk, seat: usize, room: usize, out: &mut [u8; ANSWER_BYTES]) -> Answer
     requires { ⌜ room ≤ mostRoom ⌝ }
     ensures { λ r. ⌜ r .desk ≡ desk ⌝ }
     ensures { λ r. ⌜ Holds (writingText desk seat (lentBytes room)) (now (out .entry)) (r .bytes) (now (out .exit)) ⌝ }
@@ -95,7 +95,7 @@ fn write(desk: Desk, seat: usize, room: usize, out: &mut [u8; ROOM]) -> Answer
 }
 
 // Wires a seat.
-fn wire(desk: Desk, seat: usize, room: usize, out: &mut [u8; ROOM]) -> Answer
+fn wire(desk: Desk, seat: usize, room: usize, out: &mut [u8; ANSWER_BYTES]) -> Answer
     ensures { λ r. ⌜ r .desk ≡ desk ⌝ }
     ensures { λ r. ⌜ Holds (laidText (wiredOf desk seat room .laid)) (now (out .entry)) (r .bytes) (now (out .exit)) ⌝ }
 {
@@ -113,7 +113,7 @@ fn wire_bare(
     ys: &[i32; MOST_NUMBERS],
     up: usize,
     room: usize,
-    out: &mut [u8; ROOM],
+    out: &mut [u8; ANSWER_BYTES],
 ) -> usize
     requires { ⌜ (across ≤ mostNumbers) × (up ≤ mostNumbers) ⌝ }
     ensures { λ r. ⌜ Holds (laidText (bareOf (take across (now (xs .entry))) (take up (now (ys .entry))) room)) (now (out .entry)) r (now (out .exit)) ⌝ }
@@ -125,7 +125,7 @@ fn wire_bare(
 }
 
 // Shows the drawing at a seat; 28 comes first, as for every call.
-fn show_pins(desk: Desk, seat: usize, out: &mut [u8; ROOM]) -> usize
+fn show_pins(desk: Desk, seat: usize, out: &mut [u8; ANSWER_BYTES]) -> usize
     ensures { λ r. ⌜ Holds (seatText desk seat) (now (out .entry)) r (now (out .exit)) ⌝ }
 {
     if !desk.is_sound() {
@@ -147,10 +147,10 @@ fn show_pins(desk: Desk, seat: usize, out: &mut [u8; ROOM]) -> usize
 }
 
 // Answers the line of that number, without its newline.
-pub fn answer_line(desk: Desk, number: usize, line: &[u8], out: &mut [u8; ROOM]) -> Answer
+pub fn answer_line(desk: Desk, number: usize, line: &[u8], out: &mut [u8; ANSWER_BYTES]) -> Answer
     ensures { λ r. ⌜ r .desk ≡ played desk (now (line .entry)) ⌝ }
     ensures { λ r. ⌜ r .bytes ≡ length (answered desk number (now (line .entry))) ⌝ }
-    ensures { λ r. ⌜ r .bytes ≤ room ⌝ }
+    ensures { λ r. ⌜ r .bytes ≤ answerBytes ⌝ }
     ensures { λ _. ⌜ now (out .exit) ≡ over (answered desk number (now (line .entry))) (now (out .entry)) ⌝ }
 {
     let mut map = [0u8; MOST_PAIRS];

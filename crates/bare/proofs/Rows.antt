@@ -61,6 +61,7 @@ module _ (xs ys : List ℤ) (room : ℕ) where
   unfolding firstOf
   wired-is right e = wiring-verdict (feedOfLists xs ys) room ∙ passes-by NoPins _ (pins-there xs ys right e)
 
+  -- The answer carries the first of the rows that applies.
   answer-is : bareOf xs ys room .wiring .verdict ≡ firstOf (bareRows xs ys room) Accepted
   unfolding bareOf bareVerdict bareRows firstOf distinct unlike both accepted
   answer-is =

@@ -35,30 +35,36 @@ module _ (xs ys : List ℤ) where
       let s = passed (not (allApart (feedOfLists xs ys))) PlaceTaken _ refl (r .1) in
       (p .0, not-false (allWithin (feedOfLists xs ys)) (r .0), not-false (allApart (feedOfLists xs ys)) (s .0))
 
+  -- Wrong lengths are refused with 16,
   pub lengths-wrong : wrongLengths xs ys ≡ true → ListLengths ≡ bareVerdict xs ys
   unfolding bareVerdict turn choose
   lengths-wrong e = rw e
 
   module _ (right : wrongLengths xs ys ≡ false) where
+    -- then no pins with 17,
     pub no-pins : length xs ≡ 0 → NoPins ≡ bareVerdict xs ys
     unfolding bareVerdict turn choose
     no-pins e = rw (right, eq-eqb (length xs) 0 e)
 
     module _ (some : length xs ≡ 0 → ⊥) where
+      -- then a pin outside the board with 8,
       pub one-outside : allWithin (feedOfLists xs ys) ≡ false → Outside ≡ bareVerdict xs ys
       unfolding bareVerdict turn choose
       one-outside e = rw (right, ne-eqb (length xs) 0 some, e)
 
+      -- then two pins at one place with 9;
       pub two-near : allWithin (feedOfLists xs ys) ≡ true → allApart (feedOfLists xs ys) ≡ false → PlaceTaken ≡ bareVerdict xs ys
       unfolding bareVerdict turn choose
       two-near e f = rw (right, ne-eqb (length xs) 0 some, e, f)
 
+      -- and what is left is accepted.
       pub all-well : allWithin (feedOfLists xs ys) ≡ true → allApart (feedOfLists xs ys) ≡ true → Accepted ≡ bareVerdict xs ys
       unfolding bareVerdict turn choose
       all-well e f = rw (right, ne-eqb (length xs) 0 some, e, f)
 
 -- The whole answer: a refusal, or the wiring of the feed.
 module _ (xs ys : List ℤ) (room : ℕ) where
+  -- What the rows refuse is turned away with their verdict.
   pub refused : accepted (bareVerdict xs ys) ≡ false → turnedAway (bareVerdict xs ys) ≡ bareOf xs ys room
   unfolding bareOf
   refused e = sym (choose-no _ _ e)
@@ -67,6 +73,7 @@ module _ (xs ys : List ℤ) (room : ℕ) where
   pub turned : (v : Verdict) → accepted v ≡ false → v ≡ bareVerdict xs ys → turnedAway v ≡ bareOf xs ys room
   turned v n e = ap turnedAway e ∙ refused (ap accepted (sym e) ∙ n)
 
+  -- What they accept is wired.
   pub wired : accepted (bareVerdict xs ys) ≡ true → wiringOf (feedOfLists xs ys) room ≡ bareOf xs ys room
   unfolding bareOf
   wired e = sym (choose-yes _ _ e)

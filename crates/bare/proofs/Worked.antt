@@ -9,17 +9,18 @@ use Rattle.refusal.specs.Refusals.{accepted, turn}
 use Rattle.refusal.specs.declared.Verdict.the-variants.{Accepted}
 use Rattle.grid.specs.Place.{difference, larger, sameNumber, onBoard, inside, closer, tooNear, isStraight}
 use Rattle.grid.specs.Weight.{distanceOf, weightOf, pairOf, byPart, byNumber, comesBefore}
-use Rattle.feed.specs.Feeds.{within, meets, meetsAny, allWithin, allApart}
+use Rattle.feed.specs.Feeds.{within, spotsTooNear, tooNearAny, allWithin, allApart}
 use Rattle.tree.specs.Growth.{pairAt, sooner, keptIf, pinsFrom, without, runsFrom, runsBetween, earliest, earliestOf, nextRun, grown, runsAmong, pinsOf, runsOf}
 use Rattle.tree.specs.Boxes.{belowBoth, under, overlap, boxesShare, isEnd, common, clash, clashAny, boxesMeet}
 use Rattle.tree.specs.Bends.{bent, howMany}
+use Rattle.tree.specs.Trees.{mostRuns}
 use Rattle.copper.specs.declared.Shape.the-variants.{Straight, Lower, Upper}
 use Rattle.copper.specs.Shapes.{lowerCorner, upperCorner, legsOf}
 use Rattle.copper.specs.Length.{sameStep, stepsAcross, stepsUp, smaller, stepsOf, stepsOfAll, among, different, lengthOf}
 use Rattle.wiring.specs.declared.Shaped.{Shaped}
 use Rattle.wiring.specs.declared.Wiring.{Wiring}
 use Rattle.wiring.specs.Choices.{bentShapes, shapesOf, withShape, withShapes, choicesOf, legsOfChoice, lengthOfChoice, shortest, shortestOf, bestChoice, weighedAt, weighedOf}
-use Rattle.wiring.specs.Answer.{shaped, shapedRuns, runEntries, legEntries, laidWith, turnedAway, answerWith, wiringVerdict, wiringWith, wiringFavouring, wiringOf}
+use Rattle.wiring.specs.Answer.{shaped, noRun, mostLegs, shapedRuns, runEntries, legEntries, laidWith, turnedAway, answerWith, wiringVerdict, wiringWith, wiringFavouring, wiringOf}
 use Rattle.bare.specs.Bare.{spotsOf, feedOfLists, wrongLengths, bareVerdict, bareOf}
 
 -- Minus one, minus two, minus three.
@@ -37,9 +38,11 @@ pub record Board : Type 0 where
   pub xs : List ℤ
   pub ys : List ℤ
 
+-- A board from these lists.
 abbrev pub board : List ℤ → List ℤ → Board
 board xs ys = record { xs = xs; ys = ys }
 
+-- The pins of W1 to W8.
 abbrev pub boards : List Board
 boards =
     board (pos 5 ∷ []) (pos 5 ∷ [])
@@ -59,11 +62,12 @@ answer long runs legs weighed =
       verdict = Accepted;
       length = long;
       count = length runs;
-      runs = runs ++ replicate (31 - length runs) (shaped 0 0 Straight);
+      runs = runs ++ replicate (mostRuns - length runs) noRun;
       legs = legs;
       weighed = weighed;
     }
 
+-- Their lengths, runs and shapes, legs and choices weighed.
 abbrev pub answers : List Wiring
 answers =
     answer 0 [] 0 1
@@ -77,6 +81,6 @@ answers =
     ∷ []
 
 -- W1 to W8.
-pub worked : map (λ (b : Board). bareOf (b .xs) (b .ys) 62 .wiring) boards ≡ answers
-unfolding bareOf bareVerdict wrongLengths feedOfLists spotsOf within allApart meetsAny meets wiringOf wiringFavouring wiringWith wiringVerdict answerWith turnedAway laidWith legEntries runEntries shapedRuns weighedOf weighedAt howMany bent bestChoice shortestOf shortest lengthOfChoice legsOfChoice choicesOf withShapes withShape shapesOf bentShapes lengthOf different among stepsOfAll stepsOf smaller stepsUp stepsAcross sameStep legsOf lowerCorner upperCorner isStraight boxesMeet clashAny clash common isEnd boxesShare overlap under belowBoth runsOf pinsOf runsAmong grown nextRun earliestOf earliest runsBetween runsFrom without pinsFrom keptIf sooner pairAt allWithin comesBefore byPart byNumber pairOf weightOf distanceOf difference larger sameNumber onBoard inside closer tooNear accepted turn both either choose
+pub worked : map (λ (b : Board). bareOf (b .xs) (b .ys) mostLegs .wiring) boards ≡ answers
+unfolding bareOf bareVerdict wrongLengths feedOfLists spotsOf within allApart tooNearAny spotsTooNear wiringOf wiringFavouring wiringWith wiringVerdict answerWith turnedAway laidWith legEntries runEntries shapedRuns weighedOf weighedAt howMany bent bestChoice shortestOf shortest lengthOfChoice legsOfChoice choicesOf withShapes withShape shapesOf bentShapes lengthOf different among stepsOfAll stepsOf smaller stepsUp stepsAcross sameStep legsOf lowerCorner upperCorner isStraight boxesMeet clashAny clash common isEnd boxesShare overlap under belowBoth runsOf pinsOf runsAmong grown nextRun earliestOf earliest runsBetween runsFrom without pinsFrom keptIf sooner pairAt allWithin comesBefore byPart byNumber pairOf weightOf distanceOf difference larger sameNumber onBoard inside closer tooNear accepted turn both either choose
 worked = refl

@@ -5,9 +5,13 @@ use drawing::Edit;
 use drawing::Held;
 use drawing::Pin;
 use drawing::Stand;
+use grid::LIMIT;
 use grid::Place;
+use journal::RECORDS;
 use journal::Record;
+use pinmap::MOST_BYTES;
 use refusal::Verdict;
+use wiring::LEGS;
 
 // Seat 0 is open for job 7; pin 0 placed at (1,1) stands, pin 1 placed at (2,2) is taken back.
 fn whole() -> Desk {
@@ -65,7 +69,7 @@ fn with_pin(at: Place) -> Desk {
 
 // A pin stands outside the board.
 fn pin_outside() -> Desk {
-    with_pin(Place { x: 20001, y: 0 })
+    with_pin(Place { x: LIMIT + 1, y: 0 })
 }
 
 // Two pins stand at one place.
@@ -96,7 +100,10 @@ fn standing_moved_nowhere() -> Desk {
 
 // The edit that stands moved pin 0 from outside the board.
 fn standing_from_outside() -> Desk {
-    let from = Place { x: 0, y: -20001 };
+    let from = Place {
+        x: 0,
+        y: -LIMIT - 1,
+    };
     let to = Place { x: 1, y: 1 };
     with_standing(Edit::Moved(0, from, to))
 }
@@ -135,7 +142,7 @@ fn taken_back_of_pin_32() -> Desk {
 // The journal has 257 used records.
 fn used_too_large() -> Desk {
     let mut d = whole();
-    d.used = 257;
+    d.used = RECORDS + 1;
     d
 }
 
@@ -193,35 +200,27 @@ fn tell_answer(call: &[u8], answered: Answered) {
 fn try_changes(desk: Desk) {
     let at = Place { x: 3, y: 3 };
     let map = [0u8; 0];
-    let opened = desk.open(1, 9, &map);
-    tell_answer(b" open ", opened);
-    let closed = desk.close(0);
-    tell_answer(b" close ", closed);
-    let placed = desk.place(0, 2, at);
-    tell_answer(b" place ", placed);
-    let moved = desk.shift(0, 0, at);
-    tell_answer(b" move ", moved);
-    let removed = desk.remove(0, 0);
-    tell_answer(b" remove ", removed);
-    let undone = desk.undo(0);
-    tell_answer(b" undo ", undone);
-    let redone = desk.redo(0);
-    tell_answer(b" redo ", redone);
+    tell_answer(b" open ", desk.open(1, 9, &map));
+    tell_answer(b" close ", desk.close(0));
+    tell_answer(b" place ", desk.place(0, 2, at));
+    tell_answer(b" move ", desk.shift(0, 0, at));
+    tell_answer(b" remove ", desk.remove(0, 0));
+    tell_answer(b" undo ", desk.undo(0));
+    tell_answer(b" redo ", desk.redo(0));
 }
 
 // Writes and wires seat 0, and undoes at seat 8, where 28 comes before 1.
 fn try_others(desk: Desk) {
-    let mut buffer = [0u8; 384];
+    let mut buffer = [0u8; MOST_BYTES];
     let written = desk.write(0, &mut buffer);
     let writing = written.verdict;
     tell(b" write ", writing);
-    let wired = desk.wire(0, 64);
+    let wired = desk.wire(0, LEGS);
     let laid = wired.laid;
     let wiring = laid.wiring;
     let verdict = wiring.verdict;
     tell(b" wire ", verdict);
-    let undone = desk.undo(8);
-    tell_answer(b" undo at 8 ", undone);
+    tell_answer(b" undo at 8 ", desk.undo(8));
 }
 
 // Makes every call on this desk, and writes a line with the answers.
@@ -270,6 +269,7 @@ fn try_numbers() {
     try_calls(b"record of seat 8:", record_of_seat_8());
 }
 
+// Tries every call on the whole desks, then on the broken ones.
 fn main() {
     try_whole();
     try_seats();

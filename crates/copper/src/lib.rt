@@ -1,11 +1,10 @@
 // Copper: the shapes of a run, its corner and its legs; and what a pin shows of the legs that leave it.
 ghost use mathlib.Core.Path.{_≡_};
-ghost use mathlib.Core.Bool.{true};
 ghost use Prim.Native.Nat.{max};
-ghost use lib.Signed.{leZ};
+ghost use Rattle.refusal.specs.Tests.{choose};
 ghost use Rattle.copper.specs.Shapes.{crossing, lowerCorner, upperCorner, cornerOf, firstLeg, secondLeg, legCount, shapeOf};
 ghost use Rattle.copper.specs.Arms.{reach, armsTo, longest, paidFor, noTally, reachedBy, leadingOn, owed, Fair};
-ghost use Rattle.grid.specs.Place.{difference, isStraight};
+ghost use Rattle.grid.specs.Place.{isStraight};
 use grid::Place;
 
 // A straight run, or the two shapes of a bent one.
@@ -52,24 +51,14 @@ fn crossing_of(column: Place, row: Place) -> Place
     }
 }
 
-// The corner at the smaller y of the two ends.
-fn lower_corner(a: Place, b: Place) -> Place
-    ensures { λ r. ⌜ r ≡ lowerCorner a b ⌝ }
+// The corner of a bent run, in the row of one end and the column of the other: lower at the smaller y, upper at the larger.
+fn corner_at(lower: bool, a: Place, b: Place) -> Place
+    ensures { λ r. ⌜ r ≡ choose lower (lowerCorner a b) (upperCorner a b) ⌝ }
 {
-    if a.y <= b.y {
+    if lower == (a.y <= b.y) {
         return crossing_of(b, a);
     }
     crossing_of(a, b)
-}
-
-// The corner at the larger y of the two ends.
-fn upper_corner(a: Place, b: Place) -> Place
-    ensures { λ r. ⌜ r ≡ upperCorner a b ⌝ }
-{
-    if a.y <= b.y {
-        return crossing_of(a, b);
-    }
-    crossing_of(b, a)
 }
 
 // Where the leg that leaves `near` ends: at the corner, or where the run is straight at `far`.
@@ -78,8 +67,8 @@ pub fn corner(shape: Shape, near: Place, far: Place) -> Place
 {
     match shape {
         Shape::Straight => far,
-        Shape::Lower => lower_corner(near, far),
-        Shape::Upper => upper_corner(near, far),
+        Shape::Lower => corner_at(true, near, far),
+        Shape::Upper => corner_at(false, near, far),
     }
 }
 
@@ -120,21 +109,6 @@ pub fn second_leg(shape: Shape, near: Place, far: Place) -> Leg
     Leg { from, to: far }
 }
 
-// How far `b` lies beyond `a`, which is not larger.
-fn ahead(a: i32, b: i32) -> u64
-    requires { ⌜ leZ a b ≡ true ⌝ }
-    ensures { λ r. ⌜ r ≡ difference a b ⌝ }
-{
-    (b as i64 - a as i64) as u64
-}
-
-// How far two numbers are apart.
-fn apart(a: i32, b: i32) -> u64
-    ensures { λ r. ⌜ r ≡ difference a b ⌝ }
-{
-    if a <= b { ahead(a, b) } else { ahead(b, a) }
-}
-
 // How far `b` lies beyond `a`, where a leg goes that way.
 fn reach_of(goes: bool, a: i32, b: i32) -> u64
     ensures { λ r. ⌜ r ≡ reach goes a b ⌝ }
@@ -142,7 +116,7 @@ fn reach_of(goes: bool, a: i32, b: i32) -> u64
     if !goes {
         return 0;
     }
-    if a <= b { ahead(a, b) } else { 0 }
+    if a <= b { grid::apart(a, b) } else { 0 }
 }
 
 // The arms of the leg from a pin to its tip.
@@ -189,8 +163,8 @@ fn paid_for(near: Place, far: Place) -> u64
     if !is_straight(near, far) {
         return 0;
     }
-    let dx = apart(near.x, far.x);
-    let dy = apart(near.y, far.y);
+    let dx = grid::apart(near.x, far.x);
+    let dy = grid::apart(near.y, far.y);
     dx + dy
 }
 

@@ -54,10 +54,11 @@ module _ (at : ℕ → Site) (near : ℕ → ℕ) where
   paidAt zero = 0
   paidAt (suc r) = straightLength at near r
 
-  -- What a pin shows at first, and with a run that leads on.
+  -- What a pin shows at first,
   unfoldable pub startTally : ℕ → Bool → Tally
   startTally i u = record { arms = startArms at near i u; paid = paidAt i }
 
+  -- and when a run leads on.
   unfoldable pub addTally : Tally → ℕ → Bool → Tally
   addTally a r u = record { arms = addArms at near (a .arms) r u; paid = a .paid }
 
@@ -99,7 +100,8 @@ module _ (at : ℕ → Site) (near : ℕ → ℕ) where
       A : Arms
       A = armTo (at (near m)) (near-tip (s m) (at (near m)) (at (suc m)))
 
-      go : (t : Bool) → spread (startArms at near i (entered s i)) ≤ spread (armsAt at near m s i) → spread (startArms at near i (entered s i)) ≤ spread (cond t (longest (armsAt at near m s i) A) (armsAt at near m s i))
+      go : (t : Bool) → spread (startArms at near i (entered s i)) ≤ spread (armsAt at near m s i)
+          → spread (startArms at near i (entered s i)) ≤ spread (cond t (longest (armsAt at near m s i) A) (armsAt at near m s i))
       go true h = omega (arith, spread-longest (armsAt at near m s i) A)
       go false h = h
 

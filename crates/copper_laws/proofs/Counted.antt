@@ -18,11 +18,12 @@ use Rattle.copper_laws.proofs.Tests.{and-left, and-right}
 use Rattle.copper_laws.proofs.Cover.{Stride, along, rise, over}
 use Rattle.copper_laws.proofs.Star.{over-same, over-add}
 
--- A step moved, and moved back.
+-- A step, moved,
 unfoldable pub strideOf : Step → Stride
 strideOf (across x y) = along (off x) (off y)
 strideOf (up x y) = rise (off x) (off y)
 
+-- and a stride, moved back.
 unfoldable pub stepAt : Stride → Step
 stepAt (along x y) = across (back x) (back y)
 stepAt (rise x y) = up (back x) (back y)
@@ -37,6 +38,7 @@ abbrev pub OnGrid : ℕ → Stride → Type 0
 OnGrid m (along x y) = (x < m) × (y < m)
 OnGrid m (rise x y) = (x < m) × (y < m)
 
+-- A step moved and moved back is the step.
 pub round-step : (t : Step) → LowStep t → stepAt (strideOf t) ≡ t
 unfolding strideOf stepAt
 round-step (across x y) h = ap₂ across (back-off x (h .0)) (back-off y (h .1))
@@ -58,11 +60,13 @@ same-stride (rise x y) (along v w) e = absurd (opposite e refl)
 same-stride (rise x y) (rise v w) e =
     ap₂ rise (eqb-true x v (and-left (eqb x v) (eqb y w) e)) (eqb-true y w (and-right (eqb x v) (eqb y w) e))
 
+-- The two words for tests that both hold say the same,
 pub both-is : (a b : Bool) → both a b ≡ (a && b)
 unfolding both
 both-is true b = refl
 both-is false b = refl
 
+-- and so do those for one of two.
 pub either-is : (a b : Bool) → either a b ≡ (a || b)
 unfolding either
 either-is true b = refl
@@ -103,6 +107,7 @@ pub data Each (m : ℕ) : List Step → Type 0 where
   none : Each m []
   more : {t : Step} {ts : List Step} → LowStep t → OnGrid m (strideOf t) → Each m ts → Each m (t ∷ ts)
 
+-- Two lists of such steps, joined, are such steps.
 pub each-join : {m : ℕ} {ss ts : List Step} → Each m ss → Each m ts → Each m (ss ++ ts)
 each-join none k = k
 each-join (more p q h) k = more p q (each-join h k)

@@ -416,7 +416,8 @@ module _ (at : ℕ → Site) (near : ℕ → ℕ) where
             let c3 : oneIf (straightOn σ r) ≡ 1 = oneIf-one (and-both (isStraightRun r) (coversOf at near r (s r) σ) e h) in
             let c4 =
             sum-only n r (λ q. oneIf (straightOn σ q)) l
-            (λ q k ne. oneIf-none (straightOn σ q) (λ z. one-straight r q σ l k (λ y. ne (sym y)) e (and-left (isStraightRun q) (coversOf at near q (s q) σ) z) h (and-right (isStraightRun q) (coversOf at near q (s q) σ) z)))
+            (λ q k ne. oneIf-none (straightOn σ q) (λ z. one-straight r q σ l k (λ y. ne (sym y)) e
+            (and-left (isStraightRun q) (coversOf at near q (s q) σ) z) h (and-right (isStraightRun q) (coversOf at near q (s q) σ) z)))
             in
             let c5 =
             sum-pair (suc n) (near r) (suc r) (λ i. oneIf (pinsOn σ i)) (omega (arith, laid .grown r l)) (omega arith)
@@ -437,10 +438,12 @@ module _ (at : ℕ → Site) (near : ℕ → ℕ) where
         go : (x y : Bool) → some n (straightOn σ) ≡ x → covered at near n s σ ≡ y → Goal y
         go true true a b =
             let f = some-of n (straightOn σ) a in
-            line (f .0) (f .1) (and-left (isStraightRun (f .0)) (coversOf at near (f .0) (s (f .0)) σ) (f .2)) (and-right (isStraightRun (f .0)) (coversOf at near (f .0) (s (f .0)) σ) (f .2))
+            line (f .0) (f .1) (and-left (isStraightRun (f .0)) (coversOf at near (f .0) (s (f .0)) σ) (f .2))
+            (and-right (isStraightRun (f .0)) (coversOf at near (f .0) (s (f .0)) σ) (f .2))
         go true false a b =
             let f = some-of n (straightOn σ) a in
-            absurd (opposite (some-holds n (λ r. coversOf at near r (s r) σ) (f .0) (f .1) (and-right (isStraightRun (f .0)) (coversOf at near (f .0) (s (f .0)) σ) (f .2))) b)
+            absurd (opposite (some-holds n (λ r. coversOf at near r (s r) σ) (f .0) (f .1)
+            (and-right (isStraightRun (f .0)) (coversOf at near (f .0) (s (f .0)) σ) (f .2))) b)
         go false true a b =
             let f = some-of n (λ r. coversOf at near r (s r) σ) b in
             let h = has-arm (f .0) σ (f .2) in
@@ -449,7 +452,8 @@ module _ (at : ℕ → Site) (near : ℕ → ℕ) where
             let c1 = sum-none n (λ q. oneIf (straightOn σ q)) (λ q k. oneIf-none (straightOn σ q) (λ z. opposite (some-holds n (straightOn σ) q k z) a)) in
             let c2 =
             sum-none (suc n) (λ i. oneIf (pinsOn σ i))
-            (λ i k. oneIf-none (pinsOn σ i) (λ z. let f = pin-true i n σ k (omega arith) z in opposite (some-holds n (λ r. coversOf at near r (s r) σ) (f .0) (f .1) (arm-covers (f .2))) b))
+            (λ i k. oneIf-none (pinsOn σ i) (λ z. let f = pin-true i n σ k (omega arith) z in
+            opposite (some-holds n (λ r. coversOf at near r (s r) σ) (f .0) (f .1) (arm-covers (f .2))) b))
             in
             omega (arith, c1, c2)
 
@@ -527,7 +531,8 @@ module _ (at : ℕ → Site) (near : ℕ → ℕ) where
           let G : Stride → ℕ = λ σ. sumBelow n (λ r. oneIf (straightOn σ r)) in
           let H : Stride → ℕ = λ σ. sumBelow (suc n) (λ i. oneIf (pinsOn σ i)) in
           let e1 : over m F + over m G ≡ over m H = sym (over-add m F G) ∙ over-same m (λ σ. F σ + G σ) H stride-by-stride in
-          let e2 : over m G ≡ sumBelow n straightLength = over-sum m n (λ r σ. oneIf (straightOn σ r)) ∙ sum-same n (λ r. over m (λ σ. oneIf (straightOn σ r))) straightLength straight-count in
+          let e2 : over m G ≡ sumBelow n straightLength = over-sum m n (λ r σ. oneIf (straightOn σ r))
+          ∙ sum-same n (λ r. over m (λ σ. oneIf (straightOn σ r))) straightLength straight-count in
           let e3 : over m H ≡ sumBelow (suc n) (λ i. spread (armsAt n s i)) =
           over-sum m (suc n) (λ i σ. oneIf (pinsOn σ i))
           ∙ sum-same (suc n) (λ i. over m (λ σ. oneIf (pinsOn σ i))) (λ i. spread (armsAt n s i)) (λ i l. pin-count i l) in

@@ -144,7 +144,8 @@ module _ (A : Type 0) (start : ℕ → Bool → A) (add : A → ℕ → Bool →
         let one : sumBelow (suc m) f + g j ≡ sumBelow (suc m) g + f j = sum-but-one (suc m) j f g (omega arith) other in
         let fj = best-hit k j m (shown m s j) refl in
         let gj : g j ≡ best k j (suc m) (add (shown m s j) m (s m)) = ap (best k j (suc m)) (shown-hit m s j refl) in
-        let last : g (suc m) ≡ best k (suc m) (suc m) (start (suc m) (s m)) = ap (best k (suc m) (suc m)) (shown-none (suc m) s (suc m) (λ r l e. omega (arith, grown r (omega arith)))) in
+        let last : g (suc m) ≡ best k (suc m) (suc m) (start (suc m) (s m)) =
+        ap (best k (suc m) (suc m)) (shown-none (suc m) s (suc m) (λ r l e. omega (arith, grown r (omega arith)))) in
         (g j, W + sumBelow (suc m) g, omega (arith, one, fj), omega (arith, gj, last))
 
     -- The value never falls on the way to the whole choice.
@@ -229,16 +230,24 @@ module _ (A : Type 0) (start : ℕ → Bool → A) (add : A → ℕ → Bool →
   pub nested-best : (k i next : ℕ) (a : A) → nested (onward k i next) a ≡ best k i next a
   unfolding nested onward best
   nested-best zero i next a = refl
-  nested-best (suc k) i next a = go (eqb (near next) i) (nested-best k i (suc next) (add a next false)) (nested-best k i (suc next) (add a next true)) (nested-best k i (suc next) a)
+  nested-best (suc k) i next a =
+      go (eqb (near next) i) (nested-best k i (suc next) (add a next false))
+      (nested-best k i (suc next) (add a next true)) (nested-best k i (suc next) a)
     where
       x : Onward
-      x = record { run = next; lower = own next false + best k (suc next) (suc next) (start (suc next) false); upper = own next true + best k (suc next) (suc next) (start (suc next) true) }
+      x =
+          record {
+            run = next;
+            lower = own next false + best k (suc next) (suc next) (start (suc next) false);
+            upper = own next true + best k (suc next) (suc next) (start (suc next) true);
+          }
 
       go : (b : Bool)
           → nested (onward k i (suc next)) (add a next false) ≡ best k i (suc next) (add a next false)
           → nested (onward k i (suc next)) (add a next true) ≡ best k i (suc next) (add a next true)
           → nested (onward k i (suc next)) a ≡ best k i (suc next) a
-          → nested (cond b (x ∷ onward k i (suc next)) (onward k i (suc next))) a ≡ cond b (lesser (bent next) (cost k i next a false) (cost k i next a true)) (best k i (suc next) a)
+          → nested (cond b (x ∷ onward k i (suc next)) (onward k i (suc next))) a
+          ≡ cond b (lesser (bent next) (cost k i next a false) (cost k i next a true)) (best k i (suc next) a)
       go true f t m = rw (f, t)
       go false f t m = m
 
@@ -296,7 +305,8 @@ module _ (A : Type 0) (start : ℕ → Bool → A) (add : A → ℕ → Bool →
 
           by : Dec (x .lower + nested ks lower-way ≤ x .upper + nested ks upper-way)
               → (c : ℕ) × (c < 2 ^ (1 + bentCount ks))
-              × (cond (eqb (c % 2) 0) (x .lower + priceOf ks lower-way (c / 2)) (x .upper + priceOf ks upper-way (c / 2)) ≡ min (x .lower + nested ks lower-way) (x .upper + nested ks upper-way))
+              × (cond (eqb (c % 2) 0) (x .lower + priceOf ks lower-way (c / 2)) (x .upper + priceOf ks upper-way (c / 2))
+              ≡ min (x .lower + nested ks lower-way) (x .upper + nested ks upper-way))
           by (yes h) =
               let c : ℕ = 2 * f .0 in
               let d : c % 2 ≡ 0 = omega arith in
@@ -330,14 +340,11 @@ module _ (A : Type 0) (start : ℕ → Bool → A) (add : A → ℕ → Bool →
       let l : r .0 ≤ 2 ^ bentCount ks - 1 = omega (arith, r .1) in
       omega (arith, least-le ks a (2 ^ bentCount ks - 1) (r .0) l, least-ge ks a (2 ^ bentCount ks - 1) (nested ks a) (nested-least ks a), r .2)
 
-  -- .. so it finds the best.
-  pub least-best : (k i next : ℕ) (a : A) → leastTo (onward k i next) a (2 ^ bentCount (onward k i next) - 1) ≡ best k i next a
-  least-best k i next a = least-nested (onward k i next) a ∙ nested-best k i next a
-
 -- Where two ways of showing and bending agree on the runs before n, they find the same.
 module _ (A : Type 0) (start start' : ℕ → Bool → A) (add add' : A → ℕ → Bool → A) (finish : A → ℕ) (near : ℕ → ℕ) (bent bent' : ℕ → Bool) (own : ℕ → Bool → ℕ)
     (n : ℕ) (same-start : (r : ℕ) → r < n → (u : Bool) → start (suc r) u ≡ start' (suc r) u) (same-add : (a : A) (r : ℕ) → r < n → (u : Bool) → add a r u ≡ add' a r u)
     (same-bent : (r : ℕ) → r < n → bent r ≡ bent' r) where
+  -- So it is with any number of runs to come.
   pub best-same : (k i next : ℕ) (a : A) → k + next ≤ n → best A start add finish near bent own k i next a ≡ best A start' add' finish near bent' own k i next a
   unfolding best
   best-same zero i next a l = refl

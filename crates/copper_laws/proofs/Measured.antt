@@ -1,7 +1,7 @@
 -- The length of a list of legs is the sum over the grid of 1 for each stride that one of the legs covers.
 -- Assumes that the ends of the legs are held by i32 and, moved by 2 ^ 31, are on the grid.
 use mathlib.Core.Path.{_≡_, refl, sym, ap, ap₂, _∙_}
-use mathlib.Core.Bool.{Bool, true, false, _&&_, _||_}
+use mathlib.Core.Bool.{Bool, true, false, _&&_, _||_, and-false, and-comm, and-self-left}
 use mathlib.Core.List.{List, [], _∷_, _++_}
 use mathlib.Core.Logic.{_⊎_, inl, inr}
 use Prim.Native.Nat.{ℕ, zero, suc, _+_, _≤_, _<_, min, max}
@@ -63,14 +63,10 @@ join-tests true false r = refl
 join-tests false true r = refl
 join-tests false false r = refl
 
-none-twice : (q : Bool) → (q && false) ≡ false
-none-twice true = refl
-none-twice false = refl
-
 -- The steps of a row cover the strides of the row, and no other.
 across-row : (n : ℕ) (x y : ℤ) (a b : ℕ) → Low x → Low y → among (stepAt (along a b)) (stepsAcross x y n) ≡ (eqb b (off y) && from (off x) n a)
 unfolding among stepsAcross stepAt sameStep
-across-row zero x y a b p q = sym (ap (λ (z : Bool). eqb b (off y) && z) (from-none (off x) a) ∙ none-twice (eqb b (off y)))
+across-row zero x y a b p q = sym (ap (λ (z : Bool). eqb b (off y) && z) (from-none (off x) a) ∙ and-false (eqb b (off y)))
 across-row (suc n) x y a b p q =
     let z = next-off x p in
     either-is (both (sameNumber (back a) x) (sameNumber (back b) y)) (among (across (back a) (back b)) (stepsAcross (x +ℤ pos 1) y n))
@@ -87,21 +83,15 @@ across-none (suc n) x y a b = either-is false (among (up (back a) (back b)) (ste
 -- The steps of a column cover the strides of the column, and no other.
 up-column : (n : ℕ) (x y : ℤ) (a b : ℕ) → Low x → Low y → among (stepAt (rise a b)) (stepsUp x y n) ≡ (eqb a (off x) && from (off y) n b)
 unfolding among stepsUp stepAt sameStep
-up-column zero x y a b p q = sym (ap (λ (z : Bool). eqb a (off x) && z) (from-none (off y) b) ∙ none-twice (eqb a (off x)))
+up-column zero x y a b p q = sym (ap (λ (z : Bool). eqb a (off x) && z) (from-none (off y) b) ∙ and-false (eqb a (off x)))
 up-column (suc n) x y a b p q =
     let z = next-off y q in
     either-is (both (sameNumber (back a) x) (sameNumber (back b) y)) (among (up (back a) (back b)) (stepsUp x (y +ℤ pos 1) n))
     ∙ ap₂ _||_
-    (both-is (sameNumber (back a) x) (sameNumber (back b) y) ∙ ap₂ _&&_ (same-back a x p) (same-back b y q) ∙ and-turned (eqb a (off x)) (eqb b (off y)))
+    (both-is (sameNumber (back a) x) (sameNumber (back b) y) ∙ ap₂ _&&_ (same-back a x p) (same-back b y q) ∙ and-comm (eqb a (off x)) (eqb b (off y)))
     (up-column n x (y +ℤ pos 1) a b p (z .0) ∙ ap (λ (v : ℕ). eqb a (off x) && from v n b) (z .1))
     ∙ join-tests (eqb b (off y)) (eqb a (off x)) (from (suc (off y)) n b)
     ∙ ap (λ (v : Bool). eqb a (off x) && v) (sym (from-more (off y) n b))
-  where
-    and-turned : (s t : Bool) → (s && t) ≡ (t && s)
-    and-turned true true = refl
-    and-turned true false = refl
-    and-turned false true = refl
-    and-turned false false = refl
 
 up-none : (n : ℕ) (x y : ℤ) (a b : ℕ) → among (stepAt (along a b)) (stepsUp x y n) ≡ false
 unfolding among stepsUp stepAt sameStep
@@ -112,19 +102,11 @@ up-none (suc n) x y a b = either-is false (among (across (back a) (back b)) (ste
 module _ (a b : Site) where
   row-on : (x y : ℕ) → a .y ≡ b .y → covers a b (along x y) ≡ (eqb y (a .y) && (leb (min (a .x) (b .x)) x && ltb x (max (a .x) (b .x))))
   unfolding covers
-  row-on x y e = rw (← e) (go (eqb y (a .y)) (leb (min (a .x) (b .x)) x && ltb x (max (a .x) (b .x))))
-    where
-      go : (s t : Bool) → (s && (s && t)) ≡ (s && t)
-      go true t = refl
-      go false t = refl
+  row-on x y e = rw (← e) (and-self-left (eqb y (a .y)) (leb (min (a .x) (b .x)) x && ltb x (max (a .x) (b .x))))
 
   column-on : (x y : ℕ) → a .x ≡ b .x → covers a b (rise x y) ≡ (eqb x (a .x) && (leb (min (a .y) (b .y)) y && ltb y (max (a .y) (b .y))))
   unfolding covers
-  column-on x y e = rw (← e) (go (eqb x (a .x)) (leb (min (a .y) (b .y)) y && ltb y (max (a .y) (b .y))))
-    where
-      go : (s t : Bool) → (s && (s && t)) ≡ (s && t)
-      go true t = refl
-      go false t = refl
+  column-on x y e = rw (← e) (and-self-left (eqb x (a .x)) (leb (min (a .y) (b .y)) y && ltb y (max (a .y) (b .y))))
 
   row-off : (x y : ℕ) → (a .y ≡ b .y → ⊥) → covers a b (along x y) ≡ false
   unfolding covers
@@ -150,7 +132,8 @@ module _ (a b : Site) where
   level-off x y e =
       fails-if (eqb x (a .x) && (eqb x (b .x) && (leb (min (a .y) (b .y)) y && ltb y (max (a .y) (b .y)))))
       (λ t.
-      let u = and-right (eqb x (b .x)) (leb (min (a .y) (b .y)) y && ltb y (max (a .y) (b .y))) (and-right (eqb x (a .x)) (eqb x (b .x) && (leb (min (a .y) (b .y)) y && ltb y (max (a .y) (b .y)))) t) in
+      let u = and-right (eqb x (b .x)) (leb (min (a .y) (b .y)) y && ltb y (max (a .y) (b .y)))
+      (and-right (eqb x (a .x)) (eqb x (b .x) && (leb (min (a .y) (b .y)) y && ltb y (max (a .y) (b .y)))) t) in
       omega (
         arith,
         leb-true (min (a .y) (b .y)) y (and-left (leb (min (a .y) (b .y)) y) (ltb y (max (a .y) (b .y))) u),
@@ -177,9 +160,11 @@ module _ (a b : Place) (p : Held a) (q : Held b) where
   low-y : Low (smaller (a .y) (b .y))
   low-y = smaller-low (a .y) (b .y) (p .y) (q .y)
 
+  -- Places share x where their sites do,
   pub same-x : sameNumber (a .x) (b .x) ≡ eqb (off (a .x)) (off (b .x))
   same-x = same-off (a .x) (b .x) (low-held (a .x) (p .x)) (low-held (b .x) (q .x))
 
+  -- and y likewise.
   pub same-y : sameNumber (a .y) (b .y) ≡ eqb (off (a .y)) (off (b .y))
   same-y = same-off (a .y) (b .y) (low-held (a .y) (p .y)) (low-held (b .y) (q .y))
 
@@ -211,6 +196,7 @@ module _ (a b : Place) (p : Held a) (q : Held b) where
   in-steps (rise v w) false false e f =
       among-none (stepAt (rise v w)) ∙ sym (column-off (site a) (site b) v w (eqb-false (off (a .x)) (off (b .x)) f))
 
+  -- A step is one of a leg's where the leg covers it.
   pub leg-steps : (σ : Stride) → among (stepAt σ) (stepsOf (record { from = a; to = b })) ≡ covers (site a) (site b) σ
   unfolding stepsOf
   leg-steps σ = rw (same-y, same-x) (in-steps σ (eqb (off (a .y)) (off (b .y))) (eqb (off (a .x)) (off (b .x))) refl refl)
@@ -237,10 +223,12 @@ pub record HeldLeg (m : ℕ) (l : Leg) : Type 0 where
   pub from-in : Within m (site (l .from))
   pub to-in : Within m (site (l .to))
 
+-- Legs each of which is such a leg.
 pub data HeldLegs (m : ℕ) : List Leg → Type 0 where
   no-legs : HeldLegs m []
   more-legs : {l : Leg} {ls : List Leg} → HeldLeg m l → HeldLegs m ls → HeldLegs m (l ∷ ls)
 
+-- Two lists of such legs, joined, are such legs.
 pub held-join : {m : ℕ} {ks ls : List Leg} → HeldLegs m ks → HeldLegs m ls → HeldLegs m (ks ++ ls)
 held-join no-legs h = h
 held-join (more-legs p g) h = more-legs p (held-join g h)
@@ -291,6 +279,7 @@ among-join t (s ∷ ss) ts =
     ∙ sym (or-joined (sameStep t s) (among t ss) (among t ts))
     ∙ ap (λ (z : Bool). z || among t ts) (sym (either-is (sameStep t s) (among t ss)))
 
+-- One of two lists of legs joined covers a stride where one of the first does, or of the second.
 pub any-join : (ks ls : List Leg) (σ : Stride) → anyLeg (ks ++ ls) σ ≡ (anyLeg ks σ || anyLeg ls σ)
 unfolding anyLeg
 any-join [] ls σ = refl
@@ -311,8 +300,3 @@ unfolding lengthOf
 length-counted {m} {ls} h =
     counted (legs-each h)
     ∙ over-same m (λ σ. oneIf (among (stepAt σ) (stepsOfAll ls))) (λ σ. oneIf (anyLeg ls σ)) (λ σ. ap oneIf (legs-steps h σ))
-
--- Legs that cover the same have the same length: their order and how often they come do not matter.
-pub length-same : {m : ℕ} {ks ls : List Leg} → HeldLegs m ks → HeldLegs m ls → ((σ : Stride) → anyLeg ks σ ≡ anyLeg ls σ) → lengthOf ks ≡ lengthOf ls
-length-same {m} {ks} {ls} g h e =
-    length-counted g ∙ over-same m (λ σ. oneIf (anyLeg ks σ)) (λ σ. oneIf (anyLeg ls σ)) (λ σ. ap oneIf (e σ)) ∙ sym (length-counted h)

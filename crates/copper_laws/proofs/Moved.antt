@@ -37,6 +37,7 @@ bend-turned true a b n =
 
 -- The run from a to b.
 module _ (a b : Place) (p : Held a) (q : Held b) where
+  -- It is straight where it is so between their sites.
   pub straight-site : isStraight a b ≡ straight (site a) (site b)
   unfolding isStraight straight
   straight-site = either-is (sameNumber (a .x) (b .x)) (sameNumber (a .y) (b .y)) ∙ ap₂ _||_ (same-x a b p q) (same-y a b p q)
@@ -47,19 +48,29 @@ module _ (a b : Place) (p : Held a) (q : Held b) where
   lower-by : (t : Bool) → leb (off (a .y)) (off (b .y)) ≡ t
       → site (choose t (crossing b a) (crossing a b)) ≡ record { x = cond t (off (b .x)) (off (a .x)); y = min (off (a .y)) (off (b .y)) }
   unfolding choose
-  lower-by true e = ap (λ (z : ℕ). record { x = off (b .x); y = z }) (let z : off (a .y) ≡ min (off (a .y)) (off (b .y)) = omega (arith, leb-true (off (a .y)) (off (b .y)) e) in z)
-  lower-by false e = ap (λ (z : ℕ). record { x = off (a .x); y = z }) (let z : off (b .y) ≡ min (off (a .y)) (off (b .y)) = omega (arith, leb-false (off (a .y)) (off (b .y)) e) in z)
+  lower-by true e =
+      let h : off (a .y) ≡ min (off (a .y)) (off (b .y)) = omega (arith, leb-true (off (a .y)) (off (b .y)) e) in
+      ap (λ (z : ℕ). record { x = off (b .x); y = z }) h
+  lower-by false e =
+      let h : off (b .y) ≡ min (off (a .y)) (off (b .y)) = omega (arith, leb-false (off (a .y)) (off (b .y)) e) in
+      ap (λ (z : ℕ). record { x = off (a .x); y = z }) h
 
   upper-by : (t : Bool) → leb (off (a .y)) (off (b .y)) ≡ t
       → site (choose t (crossing a b) (crossing b a)) ≡ record { x = cond t (off (a .x)) (off (b .x)); y = max (off (a .y)) (off (b .y)) }
   unfolding choose
-  upper-by true e = ap (λ (z : ℕ). record { x = off (a .x); y = z }) (let z : off (b .y) ≡ max (off (a .y)) (off (b .y)) = omega (arith, leb-true (off (a .y)) (off (b .y)) e) in z)
-  upper-by false e = ap (λ (z : ℕ). record { x = off (b .x); y = z }) (let z : off (a .y) ≡ max (off (a .y)) (off (b .y)) = omega (arith, leb-false (off (a .y)) (off (b .y)) e) in z)
+  upper-by true e =
+      let h : off (b .y) ≡ max (off (a .y)) (off (b .y)) = omega (arith, leb-true (off (a .y)) (off (b .y)) e) in
+      ap (λ (z : ℕ). record { x = off (a .x); y = z }) h
+  upper-by false e =
+      let h : off (a .y) ≡ max (off (a .y)) (off (b .y)) = omega (arith, leb-false (off (a .y)) (off (b .y)) e) in
+      ap (λ (z : ℕ). record { x = off (b .x); y = z }) h
 
+  -- Its lower corner, moved, is the lower bend,
   pub lower-site : site (lowerCorner a b) ≡ bend false (site a) (site b)
   unfolding lowerCorner bend
   lower-site = rw height (lower-by (leb (off (a .y)) (off (b .y))) refl)
 
+  -- and its upper corner the upper one.
   pub upper-site : site (upperCorner a b) ≡ bend true (site a) (site b)
   unfolding upperCorner bend
   upper-site = rw height (upper-by (leb (off (a .y)) (off (b .y))) refl)
@@ -72,15 +83,18 @@ module _ (a b : Place) (p : Held a) (q : Held b) where
   choose-held true c d h k = h
   choose-held false c d h k = k
 
+  -- An i32 holds the lower corner,
   pub lower-held : Held (lowerCorner a b)
   unfolding lowerCorner
   lower-held = choose-held (leZ (a .y) (b .y)) (crossing b a) (crossing a b) (crossing-held .1) (crossing-held .0)
 
+  -- and the upper one.
   pub upper-held : Held (upperCorner a b)
   unfolding upperCorner
   upper-held = choose-held (leZ (a .y) (b .y)) (crossing a b) (crossing b a) (crossing-held .0) (crossing-held .1)
 
 module _ (a b : Place) (p : Held a) (q : Held b) where
+  -- An i32 holds the end of the leg that leaves the near end.
   pub corner-held : (u : Bool) → Held (cornerOf (shapeOf u a b) a b)
   unfolding shapeOf
   corner-held u = go (isStraight a b) u
@@ -111,6 +125,7 @@ module _ (a b : Place) (p : Held a) (q : Held b) where
       go false e true = unfold choose in (upper-site b a q p ∙ bend-turned true (site a) (site b) (straight-false (site a) (site b) e .1))
       go false e false = unfold choose in (lower-site b a q p ∙ bend-turned false (site a) (site b) (straight-false (site a) (site b) e .1))
 
+  -- An i32 holds that, too.
   pub far-held : (u : Bool) → Held (cornerOf (shapeOf u a b) b a)
   unfolding shapeOf
   far-held u = go (isStraight a b) u

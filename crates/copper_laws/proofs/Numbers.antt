@@ -24,7 +24,7 @@ depth (negsuc n) = n
 abbrev pub Low : ℤ → Type 0
 Low z = depth z < 2147483648
 
--- A number that an i32 holds is none.
+-- A number that an i32 holds is not.
 pub low-held : (z : ℤ) → I32 z → Low z
 low-held (pos n) h = omega arith
 low-held (negsuc n) h = h
@@ -38,10 +38,12 @@ unfolding off
 off-back-by true n e = omega (arith, ltb-true n 2147483648 e)
 off-back-by false n e = omega (arith, ltb-false n 2147483648 e)
 
+-- The number moved back and up again is the same,
 pub off-back : (n : ℕ) → off (back n) ≡ n
 unfolding back
 off-back n = off-back-by (ltb n 2147483648) n refl
 
+-- and the other way round.
 pub back-off : (z : ℤ) → Low z → back (off z) ≡ z
 unfolding back off
 back-off (pos n) h =
@@ -63,15 +65,17 @@ same-back a z h =
     (λ e. eq-eqb a (off z) (sym (off-back a) ∙ ap off (number-same (back a) z e)))
     (λ e. rw (eqb-true a (off z) e, back-off z h) (number-self z))
 
+-- Two numbers are the same where the moved ones are.
 pub same-off : (a b : ℤ) → Low a → Low b → sameNumber a b ≡ eqb (off a) (off b)
 same-off a b p q = ap (λ (z : ℤ). sameNumber z b) (sym (back-off a p)) ∙ same-back (off a) b q
 
--- The smaller of two numbers, moved.
+-- By which of the two is not larger.
 smaller-by : (t : Bool) (a b : ℤ) → leb (off a) (off b) ≡ t → off (choose t a b) ≡ min (off a) (off b)
 unfolding choose
 smaller-by true a b e = omega (arith, leb-true (off a) (off b) e)
 smaller-by false a b e = omega (arith, leb-false (off a) (off b) e)
 
+-- The smaller of two numbers, moved, is the smaller of the moved ones.
 pub smaller-off : (a b : ℤ) → I32 a → I32 b → off (smaller a b) ≡ min (off a) (off b)
 unfolding smaller
 smaller-off a b p q = smaller-by (leZ a b) a b (sym (leZ-off a b p q))
@@ -81,6 +85,7 @@ unfolding choose
 low-choose true a b p q = p
 low-choose false a b p q = q
 
+-- It is not below -2 ^ 31 either.
 pub smaller-low : (a b : ℤ) → I32 a → I32 b → Low (smaller a b)
 unfolding smaller
 smaller-low a b p q = low-choose (leZ a b) a b (low-held a p) (low-held b q)

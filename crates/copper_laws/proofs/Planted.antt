@@ -101,20 +101,6 @@ module _ (feed : List Spot) (full : length feed ≡ 32) (ok : allWithin feed ≡
       rw (ne-eqb (farAt (runsOf feed) r) f (runs-rooted feed full ok f left e .far-new r l))
       (ap suc (reacher-far (runsOf feed) r l (runs-rooted feed full ok f left e .far-once)))
 
-  -- Near pins are reached first, and known by when they were.
-  pub near-when : (r : ℕ) → r < length (runsOf feed)
-      → (whenReached f (runsOf feed) (nearAt (runsOf feed) r) ≤ r) × (pinAt (whenReached f (runsOf feed) (nearAt (runsOf feed) r)) ≡ nearAt (runsOf feed) r)
-  near-when r l = go (runs-rooted feed full ok f left e .near-reached r l)
-    where
-      at : (i : ℕ) → i ≤ r → nearAt (runsOf feed) r ≡ pinAt i
-          → (whenReached f (runsOf feed) (nearAt (runsOf feed) r) ≤ r) × (pinAt (whenReached f (runsOf feed) (nearAt (runsOf feed) r)) ≡ nearAt (runsOf feed) r)
-      at i k z = let w : whenReached f (runsOf feed) (nearAt (runsOf feed) r) ≡ i = ap (whenReached f (runsOf feed)) z ∙ when-pin i (omega arith) in (omega arith, ap pinAt w ∙ sym z)
-
-      go : (nearAt (runsOf feed) r ≡ f) ⊎ ((q : ℕ) × (q < r) × (nearAt (runsOf feed) r ≡ farAt (runsOf feed) q))
-          → (whenReached f (runsOf feed) (nearAt (runsOf feed) r) ≤ r) × (pinAt (whenReached f (runsOf feed) (nearAt (runsOf feed) r)) ≡ nearAt (runsOf feed) r)
-      go (inl z) = at 0 (omega arith) (z ∙ (unfold pinAt in refl))
-      go (inr z) = at (suc (z .0)) (z .1) (z .2 ∙ (unfold pinAt in refl))
-
   -- Every place is held by i32.
   pub place-held : (i : ℕ) → Held (placeAt i)
   place-held i = stands feed ok (pinAt i) .held
@@ -136,7 +122,8 @@ module _ (feed : List Spot) (full : length feed ≡ 32) (ok : allWithin feed ≡
     same-pin i j l k s =
         pin-once i j l k
         (distinct (pinAt i) (pinAt j) (pin-there i l) (pin-there j k)
-        (both-of (number (placeAt i .x) (placeAt j .x) (place-held i .x) (place-held j .x) (s .0)) (number (placeAt i .y) (placeAt j .y) (place-held i .y) (place-held j .y) (s .1))))
+        (both-of (number (placeAt i .x) (placeAt j .x) (place-held i .x) (place-held j .x) (s .0))
+        (number (placeAt i .y) (placeAt j .y) (place-held i .y) (place-held j .y) (s .1))))
       where
         number : (a b : ℤ) → I32 a → I32 b → off a ≡ off b → sameNumber a b ≡ true
         number a b p q z = same-off a b (low-held a p) (low-held b q) ∙ eq-eqb (off a) (off b) z
@@ -190,7 +177,8 @@ module _ (feed : List Spot) (full : length feed ≡ 32) (ok : allWithin feed ≡
         (λ z. differ (near r) (suc q) (near-le r lr) m b (er ∙ z)) (λ z. differ (suc r) (near q) lr (near-le q m) c (z ∙ sym eq))
         (λ z. differ (suc r) (suc q) lr m (λ w. omega arith) z) in
         let none = clash-apart feed (end r) (end q) (no-clash feed runs clear r q l m) free in
-        let shared = point-shared (placeOf (spotAt feed (end r .near))) (placeOf (spotAt feed (end r .far))) (placeOf (spotAt feed (end q .near))) (placeOf (spotAt feed (end q .far)))
+        let shared = point-shared (placeOf (spotAt feed (end r .near))) (placeOf (spotAt feed (end r .far)))
+        (placeOf (spotAt feed (end q .near))) (placeOf (spotAt feed (end q .far)))
         (stands feed ok (end r .near) .held) (stands feed ok (end r .far) .held) (stands feed ok (end q .near) .held) (stands feed ok (end q .far) .held)
         (record { point = p; in-first = box r p er h; in-second = box q p eq k }) in
         opposite shared none

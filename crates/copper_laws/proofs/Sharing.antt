@@ -32,12 +32,13 @@ four-hold p q k v lo hi e f l h =
     and-both (eqb p q) (eqb p k && (leb lo v && ltb v hi)) (eq-eqb p q e)
     (and-both (eqb p k) (leb lo v && ltb v hi) (eq-eqb p k f) (and-both (leb lo v) (ltb v hi) (le-leb lo v l) (lt-ltb v hi h)))
 
--- The test holds where the leg covers the stride.
+-- Where the test holds, the leg covers the stride,
 pub on-of : (a b : Site) (s : Stride) → covers a b s ≡ true → On a b s
 unfolding covers
 on-of a b (along x y) e = let z = four-of y (a .y) (b .y) x (min (a .x) (b .x)) (max (a .x) (b .x)) e in in-row (z .0) (z .1) (z .2) (z .3)
 on-of a b (rise x y) e = let z = four-of x (a .x) (b .x) y (min (a .y) (b .y)) (max (a .y) (b .y)) e in in-column (z .0) (z .1) (z .2) (z .3)
 
+-- and the other way round.
 pub on-covers : (a b : Site) {s : Stride} → On a b s → covers a b s ≡ true
 unfolding covers
 on-covers a b (in-row {x = x} {y = y} e f l h) = four-hold y (a .y) (b .y) x (min (a .x) (b .x)) (max (a .x) (b .x)) e f l h
@@ -149,6 +150,7 @@ origin (rise x y) = record { x = x; y = y }
 unfoldable pub Same : Site → Site → Type 0
 Same a b = (a .x ≡ b .x) × (a .y ≡ b .y)
 
+-- The ends of a straight run share x or y;
 pub straight-true : (a b : Site) → straight a b ≡ true → (a .x ≡ b .x) ⊎ (a .y ≡ b .y)
 unfolding straight
 straight-true a b e = go (or-which (eqb (a .x) (b .x)) (eqb (a .y) (b .y)) e)
@@ -157,6 +159,7 @@ straight-true a b e = go (or-which (eqb (a .x) (b .x)) (eqb (a .y) (b .y)) e)
     go (inl h) = inl (eqb-true (a .x) (b .x) h)
     go (inr h) = inr (eqb-true (a .y) (b .y) h)
 
+-- those of any other share neither.
 pub straight-false : (a b : Site) → straight a b ≡ false → (a .x ≡ b .x → ⊥) × (a .y ≡ b .y → ⊥)
 unfolding straight
 straight-false a b e =
@@ -178,18 +181,22 @@ bend-is true a b = go (leb (a .y) (b .y)) refl
     go false e = inl (refl, omega (arith, leb-false (a .y) (b .y) e))
 
 module _ (u : Bool) (a b : Site) where
+  -- The leg that leaves a ends at b where the run is straight,
   pub near-straight : straight a b ≡ true → near-tip u a b ≡ b
   unfolding near-tip
   near-straight e = rw e
 
+  -- and at the bend where it is bent;
   pub near-bent : straight a b ≡ false → near-tip u a b ≡ bend u a b
   unfolding near-tip
   near-bent e = rw e
 
+  -- the leg that leaves b ends at a,
   pub far-straight : straight a b ≡ true → far-tip u a b ≡ a
   unfolding far-tip
   far-straight e = rw e
 
+  -- or at the bend.
   pub far-bent : straight a b ≡ false → far-tip u a b ≡ bend u a b
   unfolding far-tip
   far-bent e = rw e
@@ -241,7 +248,7 @@ module _ (u : Bool) (a b : Site) where
       go (inl z) = inl (on-of a (bend u a b) σ z)
       go (inr z) = inr (on-of (bend u a b) b σ z)
 
-  -- What a run covers its first leg covers or its second, seen from either end ..
+  -- What a run covers, its first leg covers or its second, seen from the near end,
   pub view-near : {s : Stride} → runCovers u a b s ≡ true → On a (near-tip u a b) s ⊎ On (near-tip u a b) b s
   view-near {s} h = go (straight a b) refl
     where
@@ -249,6 +256,7 @@ module _ (u : Bool) (a b : Site) where
       go true e = rw (near-straight e) (inl (straight-on e h))
       go false e = rw (near-bent e) (bent-on e h)
 
+  -- and seen from the far end ..
   pub view-far : {s : Stride} → runCovers u a b s ≡ true → On b (far-tip u a b) s ⊎ On (far-tip u a b) a s
   view-far {s} h = go (straight a b) refl
     where
@@ -272,6 +280,7 @@ module _ (u : Bool) (a b : Site) where
       go true e = rw (near-straight e) (inl (straight-on e h))
       go false e = rw (near-bent e, far-bent e) (by (bent-on e h))
 
+  -- What the leg that leaves the near end covers, the run covers,
   pub near-covers : {s : Stride} → On a (near-tip u a b) s → runCovers u a b s ≡ true
   near-covers {s} h = go (straight a b) refl
     where
@@ -280,6 +289,7 @@ module _ (u : Bool) (a b : Site) where
       go false e =
           run-bent s e ∙ or-left (covers a (bend u a b) s) (covers (bend u a b) b s) (on-covers a (bend u a b) (rw (near-bent e) at h))
 
+  -- and what the leg that leaves the far end covers.
   pub far-covers : {s : Stride} → On b (far-tip u a b) s → runCovers u a b s ≡ true
   far-covers {s} h = go (straight a b) refl
     where
@@ -328,12 +338,14 @@ module _ (u : Bool) (a b : Site) where
       go true e = box-straight (straight-on e h)
       go false e = box-leg (bend u a b) (bend-is u a b) (bent-on e h)
 
-  -- The leg that leaves an end of a straight run is the run.
+  -- What the leg that leaves the near end of a straight run covers, the run covers,
   pub straight-tip : {s : Stride} → straight a b ≡ true → On a (near-tip u a b) s → On a b s
   straight-tip e h = rw (near-straight e) at h
 
+  -- and the other way round;
   pub straight-tip-is : {s : Stride} → straight a b ≡ true → On a b s → On a (near-tip u a b) s
   straight-tip-is e h = rw (near-straight e) h
 
+  -- the leg that leaves the far end is the run turned round.
   pub straight-back : {s : Stride} → straight a b ≡ true → On b (far-tip u a b) s → On b a s
   straight-back e h = rw (far-straight e) at h

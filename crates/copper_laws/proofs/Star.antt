@@ -166,10 +166,11 @@ one-col m q c l =
     (λ i j n. sum-none m (λ y. oneIf (eqb i q && c y)) (λ y k. rw (ne-eqb i q n)))
     ∙ rw (eq-eqb q q refl)
 
--- Sums over the grid, as sums below a bound.
+-- Sums over the grid of what is the same at each stride are the same,
 pub over-same : (m : ℕ) (f g : Stride → ℕ) → ((s : Stride) → f s ≡ g s) → over m f ≡ over m g
 over-same m f g h = ap (over m) (fun-ext h)
 
+-- the sum of two added is both sums added,
 pub over-add : (m : ℕ) (f g : Stride → ℕ) → over m (λ s. f s + g s) ≡ over m f + over m g
 unfolding over
 over-add m f g =
@@ -181,10 +182,12 @@ over-add m f g =
     ∙ sum-add m (λ y. f (along x y) + f (rise x y)) (λ y. g (along x y) + g (rise x y)))
     ∙ sum-add m (λ x. sumBelow m (λ y. f (along x y) + f (rise x y))) (λ x. sumBelow m (λ y. g (along x y) + g (rise x y)))
 
+-- the sum of nothing is nothing,
 pub over-none : (m : ℕ) → over m (λ s. 0) ≡ 0
 unfolding over
 over-none m = sum-none m (λ x. sumBelow m (λ y. 0 + 0)) (λ x k. sum-none m (λ y. 0 + 0) (λ y j. refl))
 
+-- and sums can be taken in either order.
 pub over-sum : (m k : ℕ) (f : ℕ → Stride → ℕ) → over m (λ s. sumBelow k (λ i. f i s)) ≡ sumBelow k (λ i. over m (f i))
 unfolding sumBelow
 over-sum m zero f = over-none m
@@ -202,6 +205,7 @@ pub record Within (m : ℕ) (p : Site) : Type 0 where
   pub x-in : p .x < m
   pub y-in : p .y < m
 
+-- Arms of no length stay on the grid,
 pub inside-none : (m : ℕ) (p : Site) → Within m p → Inside m p noArms
 inside-none m p h = omega (arith, h .x-in, h .y-in)
 
@@ -209,6 +213,7 @@ arm-fits : (m p t : ℕ) (b : Bool) → p < m → t < m → (p + cond b (t - p) 
 arm-fits m p t true h k = omega arith
 arm-fits m p t false h k = omega arith
 
+-- and so does the arm of a leg to another site of it,
 pub inside-arm : (m : ℕ) (p t : Site) → Within m p → Within m t → Inside m p (armTo p t)
 unfolding armTo
 inside-arm m p t h k =
@@ -216,6 +221,7 @@ inside-arm m p t h k =
     let b = arm-fits m (p .y) (t .y) (eqb (t .x) (p .x)) (h .y-in) (k .y-in) in
     record { right = a .0; left = a .1; above = b .0; below = b .1 }
 
+-- and so do the longest of arms that stay.
 pub inside-longest : (m : ℕ) (p : Site) (a b : Arms) → Inside m p a → Inside m p b → Inside m p (longest a b)
 unfolding longest
 inside-longest m p a b h k =

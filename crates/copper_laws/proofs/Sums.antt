@@ -6,11 +6,7 @@ use native.Mathlib.Nat.{zero-mul, add-mul}
 use native.Mathlib.Omega.{arith}
 use lib.Dec.{eqb}
 use borrow.Author.Tests.{eq-eqb, ne-eqb, eqb-true, eqb-false}
-
--- 1 where the test holds, 0 where it does not.
-abbrev pub oneIf : Bool → ℕ
-oneIf true = 1
-oneIf false = 0
+pub use Rattle.tree.proofs.Zones.{oneIf}
 
 -- The sum of f over the numbers below n.
 unfoldable pub sumBelow : ℕ → (ℕ → ℕ) → ℕ

@@ -99,7 +99,7 @@ module _ (u : Bool) (a b : Place) (p : Held a) (q : Held b) where
   unfolding leadingOn
   leading-site t = rw near-arms
 
-  -- Both are fair.
+  -- What the far pin shows at first is fair,
   pub fair-reached : Fair (reachedBy u a b)
   unfolding reachedBy
   fair-reached =
@@ -112,6 +112,7 @@ module _ (u : Bool) (a b : Place) (p : Held a) (q : Held b) where
         paid = rw (far-arms, paid-site) (paid-within u (site a) (site b));
       }
 
+  -- and what is fair stays so when a run leads on.
   pub fair-leading : (t : Tally) → Fair t → Fair (leadingOn t u a b)
   unfolding leadingOn
   fair-leading t f = go (armsTo a (cornerOf (shapeOf u a b) a b)) (arms-short a (cornerOf (shapeOf u a b) a b) p (corner-held a b p q u))
@@ -168,12 +169,14 @@ module _ (at : ℕ → Place) (near : ℕ → ℕ) where
     pub least-site : (B : ℕ) (own : ℕ → Bool → ℕ) → leastOf B own n ≡ leastCost (λ i. site (at i)) near B own n
     unfolding leastOf leastCost startTally startArms paidAt
     least-site B own =
-        best-same Tally startAt (startTally (λ i. site (at i)) near) addAt (addTally (λ i. site (at i)) near) (λ t. owed t * B) near bentAt (isBent (λ i. site (at i)) near) own n
+        best-same Tally startAt (startTally (λ i. site (at i)) near) addAt (addTally (λ i. site (at i)) near) (λ t. owed t * B)
+        near bentAt (isBent (λ i. site (at i)) near) own n
         start-site add-site bent-site n 0 0 noTally (omega arith)
 
-    -- A run that may have a shape may have it told by the sites, and the other way round.
+    -- A run that may have a shape may have it told by the sites,
     pub may-site : (r : ℕ) → r < n → (u : Bool) → May (bentAt r) u → May (isBent (λ i. site (at i)) near r) u
     may-site r l u h e = h (bent-site r l ∙ e)
 
+    -- and the other way round.
     pub may-place : (r : ℕ) → r < n → (u : Bool) → May (isBent (λ i. site (at i)) near r) u → May (bentAt r) u
     may-place r l u h e = h (sym (bent-site r l) ∙ e)

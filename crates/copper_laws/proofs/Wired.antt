@@ -3,7 +3,7 @@
 -- `at i` the place of pin i; s gives each run its shape, false for lower and true for upper.
 -- Assumes that the places are held by i32 and that the tree is laid as `Laid` says.
 use mathlib.Core.Path.{_≡_, refl, sym, ap, ap₂, _∙_}
-use mathlib.Core.Bool.{Bool, true, false, not, cond, _||_}
+use mathlib.Core.Bool.{Bool, true, false, not, cond, _||_, or-false, or-comm}
 use mathlib.Core.List.{List, [], _++_, append-assoc, append-nil}
 use mathlib.Core.Logic.{_⊎_}
 use Prim.Native.Nat.{ℕ, zero, suc, _+_, _*_, _≤_, _<_}
@@ -20,12 +20,12 @@ use Rattle.copper.specs.declared.Tally.{Tally}
 use Rattle.copper.specs.Shapes.{lowerCorner, upperCorner, shapeOf, legsOf}
 use Rattle.copper.specs.Length.{lengthOf, legsOfRuns}
 use Rattle.copper.specs.Arms.{spread, owed}
-use Rattle.copper_laws.proofs.Sums.{oneIf, sumBelow, sum-none}
+use Rattle.copper_laws.proofs.Sums.{oneIf, sumBelow}
 use Rattle.copper_laws.proofs.Least.{May, best-least, best-reached}
 use Rattle.copper_laws.proofs.Cover.{Stride, covers, straight, bend, runCovers, some, coversOf, covered, gridLength}
 use Rattle.copper_laws.proofs.Star.{over-same, Within}
 use Rattle.copper_laws.proofs.Laid.{Laid, isBent, armsAt, straightLength, grid-length}
-use Rattle.copper_laws.proofs.Cost.{lexical, free, startTally, addTally, costOf, leastCost, cost-is}
+use Rattle.copper_laws.proofs.Cost.{lexical, startTally, addTally, costOf, leastCost, cost-is}
 use Rattle.copper_laws.proofs.Tallies.{bentAt, leastOf, least-site, may-site, may-place}
 use Rattle.copper_laws.proofs.Moved.{straight-site, lower-site, upper-site, lower-held, upper-held}
 use Rattle.copper_laws.proofs.Measured.{HeldLeg, HeldLegs, no-legs, more-legs, held-join, anyLeg, any-join, length-counted}
@@ -37,16 +37,12 @@ module _ (a b : Place) (p : Held a) (q : Held b) where
   unfolding shapeOf runCovers
   run-any u σ = rw (straight-site a b p q) (go (straight (site a) (site b)) u)
     where
-      or-no : (s : Bool) → (s || false) ≡ s
-      or-no true = refl
-      or-no false = refl
-
       two : (c : Place) → (covers (site a) (site c) σ || (covers (site c) (site b) σ || false)) ≡ (covers (site a) (site c) σ || covers (site c) (site b) σ)
-      two c = ap (λ (z : Bool). covers (site a) (site c) σ || z) (or-no (covers (site c) (site b) σ))
+      two c = ap (λ (z : Bool). covers (site a) (site c) σ || z) (or-false (covers (site c) (site b) σ))
 
       go : (t v : Bool) → anyLeg (legsOf (choose t Straight (choose v Upper Lower)) a b) σ
           ≡ cond t (covers (site a) (site b) σ) (covers (site a) (bend v (site a) (site b)) σ || covers (bend v (site a) (site b)) (site b) σ)
-      go true v = unfold choose legsOf anyLeg in or-no (covers (site a) (site b) σ)
+      go true v = unfold choose legsOf anyLeg in or-false (covers (site a) (site b) σ)
       go false true =
           unfold choose legsOf anyLeg in
           (two (upperCorner a b) ∙ ap (λ (z : Site). covers (site a) z σ || covers z (site b) σ) (upper-site a b p q))
@@ -96,18 +92,13 @@ module _ (at : ℕ → Place) (near : ℕ → ℕ) where
   abbrev pub sites : ℕ → Site
   sites i = site (at i)
 
-  runs-held : (m : ℕ) → 4294967296 ≤ m → (s : ℕ → Bool) (n : ℕ) → ((r : ℕ) → r < n → near r ≤ r) → ((i : ℕ) → i < suc n → Held (at i)) → HeldLegs m (legsOfRuns at near s n)
+  runs-held : (m : ℕ) → 4294967296 ≤ m → (s : ℕ → Bool) (n : ℕ) → ((r : ℕ) → r < n → near r ≤ r) → ((i : ℕ) → i < suc n → Held (at i))
+      → HeldLegs m (legsOfRuns at near s n)
   unfolding legsOfRuns
   runs-held m big s zero g h = no-legs
   runs-held m big s (suc n) g h =
       held-join (runs-held m big s n (λ r l. g r (omega arith)) (λ i l. h i (omega arith)))
       (run-held m big (shapeOf (s n) (at (near n)) (at (suc n))) (at (near n)) (at (suc n)) (h (near n) (omega (arith, g n (omega arith)))) (h (suc n) (omega arith)))
-
-  or-turned : (s t : Bool) → (s || t) ≡ (t || s)
-  or-turned true true = refl
-  or-turned true false = refl
-  or-turned false true = refl
-  or-turned false false = refl
 
   -- The legs of the runs cover what the runs do.
   runs-any : (s : ℕ → Bool) (n : ℕ) → ((r : ℕ) → r < n → near r ≤ r) → ((i : ℕ) → i < suc n → Held (at i)) → (σ : Stride)
@@ -122,7 +113,7 @@ module _ (at : ℕ → Place) (near : ℕ → ℕ) where
       let b : Place = at (suc n) in
       any-join (legsOfRuns at near s n) (legsOf (shapeOf (s n) a b) a b) σ
       ∙ ap₂ _||_ (runs-any s n (λ r l. g r (omega arith)) (λ i l. h i (omega arith)) σ) (one σ)
-      ∙ or-turned (covered sites near n s σ) (coversOf sites near n (s n) σ)
+      ∙ or-comm (covered sites near n s σ) (coversOf sites near n (s n) σ)
     where
       one : (σ : Stride) → anyLeg (legsOf (shapeOf (s n) (at (near n)) (at (suc n))) (at (near n)) (at (suc n))) σ ≡ coversOf sites near n (s n) σ
       one σ = unfold coversOf in run-any (at (near n)) (at (suc n)) (h (near n) (omega (arith, g n (omega arith)))) (h (suc n) (omega arith)) (s n) σ
@@ -211,15 +202,6 @@ module _ (at : ℕ → Place) (near : ℕ → ℕ) where
     tame-legs : (s : ℕ → Bool) → legsOfRuns at near (tame s) n ≡ legsOfRuns at near s n
     unfolding tame
     tame-legs s = straight-shape n (tame s) s (λ r l e. ap (λ (t : Bool). cond (not t) (s r) false) e)
-
-    -- The least length of all choices of shapes: none is shorter ..
-    pub least-length : (s : ℕ → Bool) → leastOf at near 1 free n ≤ lengthOf (legsOfRuns at near s n)
-    least-length s =
-        omega (arith, least-cost 1 free (tame s) (λ r l. tame-may s r), ap lengthOf (tame-legs s), sum-none n (λ r. 0) (λ r l. refl))
-
-    -- .. and some choice has it.
-    pub length-reached : (s : ℕ → Bool) × (leastOf at near 1 free n ≡ lengthOf (legsOfRuns at near s n))
-    length-reached = let z = cost-reached 1 free in (z .0, omega (arith, z .2, sum-none n (λ r. 0) (λ r l. refl)))
 
     -- The first of the shortest: where a mask of the shapes, below B, is what the runs cost for themselves, the shapes found are of least
     -- length, and among those of least mask.

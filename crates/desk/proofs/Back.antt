@@ -13,7 +13,7 @@ use Rattle.journal.specs.Journal.{mostRecords, noEdit}
 use Rattle.seats.specs.declared.Seat.{Seat}
 use Rattle.rows.specs.declared.Found.{Found}
 use Rattle.rows.specs.Found.{lookAtFound}
-use Rattle.rows.proofs.Rows.{firstRows}
+use Rattle.rows.proofs.Rows.{namingRows}
 use Rattle.desk.specs.declared.Desk.{Desk}
 use Rattle.desk.specs.Desk.{seatOf, editsOf, sound}
 use Rattle.desk.proofs.Sound.{used-within, standing-within, undo-numbered, redo-numbered}
@@ -25,7 +25,7 @@ module _ (d : Desk) (s : ℕ) {f : Found} (g : f ≡ foundAt d s) where
   unfolding sound
   used-fits k = used-within d (not-false _ (rw g at k))
 
-  module _ (n : NoneHolds (firstRows (lookAtFound f [] 0))) where
+  module _ (n : NoneHolds (namingRows (lookAtFound f [] 0))) where
     -- Undo: an edit stands, and the seat owns it; its pin is at most 31.
     pub undo-fits : (f .seat .standing ≡ 0 → ⊥)
         → (d .used ≤ mostRecords) × (0 < f .seat .standing) × (f .seat .standing ≤ length (editsOf d s))

@@ -20,12 +20,12 @@ use Rattle.journal.specs.Journal.{mostSeats}
 use Rattle.seats.specs.declared.Seat.{Seat}
 use Rattle.rows.specs.declared.Found.{Found}
 use Rattle.rows.specs.Found.{lookAtFound, writingIn, bufferIn, laidIn}
-use Rattle.rows.proofs.Rows.{joined, firstRows, first-refusing}
+use Rattle.rows.proofs.Rows.{joined, namingRows, naming-refusing}
 use Rattle.desk.specs.declared.Desk.{Desk}
 use Rattle.desk.specs.declared.Written.{Written}
 use Rattle.desk.specs.declared.Wired.{Wired}
 use Rattle.desk.specs.Calls.{closing, writing}
-use Rattle.desk.specs.Refusals.{turnedClosing, turnedWriting, verdictOf}
+use Rattle.desk.specs.Refusals.{turnedNaming, turnedClosing, turnedWriting, verdictOf}
 use Rattle.desk.specs.Desk.{closedSeat, seatOf, lookAt, sound, answerOf, writtenOf, bufferOf, wiredOf}
 use Rattle.desk.proofs.Sound.{pins-lawful}
 use Rattle.desk.proofs.Found.{foundAt, close-answer, close-there, same-there}
@@ -36,10 +36,12 @@ unfolding choose
 same-where true c h = h refl
 same-where false c h = refl
 
+-- 19 refuses.
 room-refused : accepted RoomTooSmall ≡ false
 unfolding accepted
 room-refused = refl
 
+-- Accepted is no refusal.
 all-accepted : accepted Accepted ≡ true
 unfolding accepted
 all-accepted = refl
@@ -47,13 +49,13 @@ all-accepted = refl
 module _ (d : Desk) (s : ℕ) {f : Found} (g : f ≡ foundAt d s) where
   -- Where 28, 1 and 2 pass what is found, the seat found is the desk's.
   abbrev before : Verdict
-  before = turnedClosing (lookAtFound f [] 0)
+  before = turnedNaming (lookAtFound f [] 0)
 
   abbrev answer : Verdict
-  answer = turnedClosing (lookAt d s)
+  answer = turnedNaming (lookAt d s)
 
   as-closing : answerOf d (closing s) ≡ answer
-  unfolding answerOf verdictOf
+  unfolding answerOf verdictOf turnedClosing
   as-closing = refl
 
   same-answer : before ≡ answer
@@ -77,15 +79,16 @@ module _ (d : Desk) (s : ℕ) {f : Found} (g : f ≡ foundAt d s) where
   module _ (b : List ℕ) where
     -- Writing: 28, 1 and 2, then 19, or accepted.
     write-answer : answerOf d (writing s (length b)) ≡ choose (accepted answer) (turn (noRoom (seatOf d s .pins) (seatOf d s .job) b) RoomTooSmall Accepted) answer
-    unfolding answerOf verdictOf turnedClosing turnedWriting noRoom firstOf accepted
+    unfolding answerOf verdictOf turnedWriting noRoom firstOf accepted
     write-answer =
-        sym (joined (firstRows (lookAt d s)) Accepted (turn (noRoom (seatOf d s .pins) (seatOf d s .job) b) RoomTooSmall Accepted) (first-refusing (lookAt d s)) refl)
+        sym (joined (namingRows (lookAt d s)) Accepted (turn (noRoom (seatOf d s .pins) (seatOf d s .job) b) RoomTooSmall Accepted) (naming-refusing (lookAt d s)) refl)
 
     -- Turned away by them, by 19, or written.
     abbrev outcome : Verdict → Bool → Bool → ℕ → Writing
     outcome a t n count =
         choose t (choose n (record { verdict = RoomTooSmall; bytes = 0 }) (record { verdict = Accepted; bytes = count })) (record { verdict = a; bytes = 0 })
 
+    -- The answer and the number of bytes, either way,
     told-by : (a : Verdict) (t n : Bool) (count : ℕ) → accepted a ≡ t
         → _≡_ {A = Written}
         (record { desk = d; verdict = outcome a t n count .verdict; bytes = outcome a t n count .bytes })
@@ -99,6 +102,7 @@ module _ (d : Desk) (s : ℕ) {f : Found} (g : f ≡ foundAt d s) where
     told-by a true false count p = rw all-accepted
     told-by a false n count p = rw p
 
+    -- and the buffer.
     held-by : (a : Verdict) (t n : Bool) (x y : List ℕ) → accepted a ≡ t
         → choose t (choose n x y) x ≡ choose (accepted (choose t (turn n RoomTooSmall Accepted) a)) y x
     unfolding turn choose
@@ -106,6 +110,7 @@ module _ (d : Desk) (s : ℕ) {f : Found} (g : f ≡ foundAt d s) where
     held-by a true false x y p = rw all-accepted
     held-by a false n x y p = rw p
 
+    -- Writing: the answer, the number of bytes, and the buffer.
     pub write-done : {w : Writing} {x : List ℕ} → w ≡ writingIn f b → x ≡ bufferIn f b
         → (_≡_ {A = Written} (record { desk = d; verdict = w .verdict; bytes = w .bytes }) (writtenOf d s b)) × (x ≡ bufferOf d s b)
     unfolding writingIn bufferIn writtenOf bufferOf writeMap bufferAfter
@@ -124,13 +129,14 @@ module _ (d : Desk) (s : ℕ) {f : Found} (g : f ≡ foundAt d s) where
           q ∙ h ∙ held-by answer (accepted answer) n b (written l b) refl ∙ ap (λ (v : Verdict). choose (accepted v) (written l b) b) (sym write-answer),
         )
 
--- What is found at an open seat of a desk that is not broken keeps the rules.
+-- Above 7 a closed seat is found, else that of the desk, which keeps the rules where it is open.
 lawful-by : (d : Desk) (s : ℕ) (t : Bool) → leb mostSeats s ≡ t → not (sound d) ≡ false → choose t closedSeat (seatOf d s) .opened ≡ true
     → lawful (choose t closedSeat (seatOf d s) .pins) ≡ true
 unfolding choose
 lawful-by d s true e k o = absurd (false≢true o)
 lawful-by d s false e k o = pins-lawful d (not-false _ k) s (leb-false mostSeats s e) o
 
+-- What is found at an open seat of a desk that is not broken keeps the rules.
 pub found-lawful : (d : Desk) (s : ℕ) {f : Found} → f ≡ foundAt d s → f .broken ≡ false → f .seat .opened ≡ true → lawful (f .seat .pins) ≡ true
 unfolding sound
 found-lawful d s g k o = rw g (lawful-by d s _ refl (rw g at k) (rw g at o))

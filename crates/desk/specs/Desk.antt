@@ -24,7 +24,7 @@ use Rattle.desk.specs.declared.Written.{Written}
 use Rattle.desk.specs.declared.Wired.{Wired}
 use Rattle.desk.specs.declared.WiredSeat.{WiredSeat}
 use Rattle.desk.specs.Calls.{Call, seatIn, opening, closing, placing, moving, removing, undoing, redoing, writing, wiring}
-use Rattle.desk.specs.Refusals.{Look, full, verdictOf, turnedClosing}
+use Rattle.desk.specs.Refusals.{Look, full, verdictOf, turnedNaming}
 pub use Rattle.seats.specs.Seats.{closedSeat, noSeat, openSeat, withPins, jobsIn}
 pub use Rattle.seats.specs.Sound.{standingAmong, takenBackAmong}
 unfoldable pub use Rattle.seats.specs.Seats.{jobOf, jobsApart}
@@ -147,13 +147,13 @@ bufferOf d s buffer =
 unfoldable pub emptyDesk : Desk
 emptyDesk = record { seats = replicate mostSeats closedSeat; journal = replicate mostRecords blank; used = 0 }
 
--- Wiring a seat: 28, 1 and 2 as for closing; then the wiring of its drawing's feed, with room for so many legs. The desk as it is.
+-- Wiring a seat: 28, 1 and 2 as for every call naming a seat; then the wiring of its drawing's feed, with room for so many legs. The desk as it is.
 unfoldable pub wiredOf : Desk → ℕ → ℕ → Wired
 wiredOf d s room =
     record {
       desk = d;
       laid =
-          choose (accepted (turnedClosing (lookAt d s))) (wiringOf (feedOf (seatOf d s .pins)) room) (turnedAway (turnedClosing (lookAt d s)));
+          choose (accepted (turnedNaming (lookAt d s))) (wiringOf (feedOf (seatOf d s .pins)) room) (turnedAway (turnedNaming (lookAt d s)));
     }
 
 -- Wiring into a lent list of legs: its length is the room. The desk as it is, and the answer.

@@ -2,7 +2,7 @@
 use Rattle.refusal.specs.declared.Verdict.{Verdict}
 use Rattle.desk.specs.Calls.{Call, opening, closing, placing, moving, removing, undoing, redoing, writing, wiring}
 unfoldable pub use Rattle.seats.specs.Seats.{sameJob, jobAmong}
-pub use Rattle.rows.specs.Refusals.{Look, seatAbove, pinAt, notThere, full}
+pub use Rattle.rows.specs.Refusals.{Look, seatAbove, pinAt, notThere, full, turnedNaming}
 unfoldable pub use Rattle.rows.specs.Refusals.{turnedOpening, turnedClosing, turnedPlacing, turnedMoving, turnedRemoving, turnedUndoing, turnedRedoing, turnedWriting, turnedWiring}
 
 -- What a call is answered.

@@ -185,7 +185,7 @@ impl Desk {
         ensures { λ r. ⌜ r ≡ step self (closing seat) ⌝ }
     {
         let found = self.find(seat);
-        let verdict = rows::turned_closing(found);
+        let verdict = rows::turned_naming(found);
         if refusal::is_accepted(verdict) {
             let without = self.freed(seat, 0);
             let s = seats::closed_seat();

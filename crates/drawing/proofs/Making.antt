@@ -21,8 +21,8 @@ use Rattle.drawing.specs.declared.Edit.{Edit}
 use Rattle.drawing.specs.declared.Edit.the-variants.{Placed, Moved, Removed}
 use Rattle.feed.specs.declared.Spot.{Spot}
 use Rattle.feed.specs.declared.Spot.the-variants as spot
-use Rattle.feed.specs.Feeds.{mostPins, within, meetsOther, crowded, settled}
-use Rattle.feed.proofs.Rules.{absent-meets}
+use Rattle.feed.specs.Feeds.{mostPins, within, tooNearOther, crowded, settled}
+use Rattle.feed.proofs.Rules.{absent-clear}
 use Rattle.drawing.specs.Pins.{absent, there, holding, thereIn, isThere, samePin, samePins, spotOf, feedOf, lawful}
 use Rattle.drawing.specs.Edits.{pinOf, movedPin, made, unmade, standsIn, standsAt, fits, placeable, movable, makeable, takeable}
 use Rattle.drawing.proofs.Rules.{pin-same, pin-self, pins-same, pins-self, one-changed, lawful-set, lawful-settled, settled-lawful}
@@ -33,28 +33,31 @@ flipped (Placed p h) = Removed p h
 flipped (Moved p a b) = Moved p b a
 flipped (Removed p h) = Placed p h
 
+-- Taking an edit back is making the flipped one.
 pub unmade-flipped : (l : List Pin) (e : Edit) → unmade l e ≡ made l (flipped e)
 unfolding made unmade
 unmade-flipped l (Placed p h) = refl
 unmade-flipped l (Moved p a b) = refl
 unmade-flipped l (Removed p h) = refl
 
--- The pin that an edit names, as it was and as the edit leaves it.
+-- The pin that an edit names, as it was,
 abbrev was : List Pin → Edit → Pin
 was l e = getD l (pinOf e) absent
 
+-- and as the edit leaves it.
 abbrev after : Pin → Edit → Pin
 after q (Placed p h) = there h
 after q (Moved p a b) = movedPin q b
 after q (Removed p h) = absent
 
--- Making an edit and taking it back change that pin alone.
+-- Making an edit changes that pin alone,
 made-is : (l : List Pin) (e : Edit) → made l e ≡ set l (pinOf e) (after (was l e) e)
 unfolding made
 made-is l (Placed p h) = refl
 made-is l (Moved p a b) = refl
 made-is l (Removed p h) = refl
 
+-- and so does taking it back.
 unmade-is : (l : List Pin) (e : Edit) → unmade l e ≡ set l (pinOf e) (after (was l e) (flipped e))
 unfolding unmade
 unmade-is l (Placed p h) = refl
@@ -72,6 +75,7 @@ remade-same l e h =
 
 -- ---- an edit that can be made
 
+-- A pin that the test does not find there is absent,
 stand-absent : (s : Stand) → thereIn s ≡ false → s ≡ Absent
 stand-absent Absent e = refl
 stand-absent (There h) e = cc
@@ -80,6 +84,7 @@ pin-absent : (q : Pin) → isThere q ≡ false → q ≡ absent
 unfolding isThere
 pin-absent q e = let p : q .stand ≡ Absent = stand-absent (q .stand) e in λ i. record { stand = p i }
 
+-- one that it finds at a place stands there, and holds it.
 stand-there : (s : Stand) (a : Place) → standsIn s a ≡ true → s ≡ There (holding a)
 stand-there Absent a e = cc
 stand-there (There h) a e = let p : h .place ≡ a = place-same (h .place) a e in λ i. There (record { place = p i })
@@ -93,18 +98,19 @@ record Makeable (l : List Pin) (e : Edit) : Type 0 where
   number : pinOf e < mostPins
   back : after (after (was l e) e) (flipped e) ≡ was l e
   board : within (spotOf (after (was l e) e)) ≡ true
-  free : meetsOther (feedOf l) (pinOf e) (spotOf (after (was l e) e)) ≡ false
+  free : tooNearOther (feedOf l) (pinOf e) (spotOf (after (was l e) e)) ≡ false
 
 -- A pin that is absent is near no other.
-absent-free : (feed : List Spot) (p : ℕ) → meetsOther feed p (spotOf absent) ≡ false
-unfolding meetsOther spotOf
-absent-free feed p = absent-meets (set feed p spot.Absent)
+absent-free : (feed : List Spot) (p : ℕ) → tooNearOther feed p (spotOf absent) ≡ false
+unfolding tooNearOther spotOf
+absent-free feed p = absent-clear (set feed p spot.Absent)
 
+-- An edit that passes the test is such.
 parts : (l : List Pin) (e : Edit) → makeable l e ≡ true → Makeable l e
 unfolding makeable placeable movable fits crowded within spotOf movedPin
 parts l (Placed p h) m =
     let t : placeable l p h ≡ true = both-right _ _ m in
-    let f : fits l p (h .place) ≡ true = both-right _ _ t in
+    let f : fits (feedOf l) p (h .place) ≡ true = both-right _ _ t in
     record {
       number = ltb-true p mostPins (both-left _ _ m);
       back = sym (pin-absent (getD l p absent) (not-true _ (both-left _ _ t)));
@@ -113,7 +119,7 @@ parts l (Placed p h) m =
     }
 parts l (Moved p a b) m =
     let t : movable l p a b ≡ true = both-right _ _ m in
-    let f : fits l p b ≡ true = both-right _ _ (both-right _ _ t) in
+    let f : fits (feedOf l) p b ≡ true = both-right _ _ (both-right _ _ t) in
     let q : getD l p absent ≡ there (holding a) = pin-there (getD l p absent) a (both-left _ _ t) in
     record {
       number = ltb-true p mostPins (both-left _ _ m);
@@ -164,6 +170,7 @@ module _ (l : List Pin) (e : Edit) (t : takeable l e ≡ true) where
   unfolding takeable
   unmade-makeable = both-left _ _ t
 
+  -- It names a pin from 0 to 31.
   pub takeable-number : pinOf e < mostPins
   takeable-number = makeable-number (unmade l e) e unmade-makeable
 
@@ -183,13 +190,15 @@ module _ (l : List Pin) (e : Edit) (t : takeable l e ≡ true) where
 
 module _ (l : List Pin) (p : ℕ) (n : p < mostPins) where
   -- A pin from 0 to 31 that is not there can be placed on the board where no other is too near.
-  pub placed-makeable : (h : Held) → isThere (getD l p absent) ≡ false → inside (h .place) ≡ true → crowded (feedOf l) p (h .place) ≡ false → makeable l (Placed p h) ≡ true
+  pub placed-makeable : (h : Held) → isThere (getD l p absent) ≡ false → inside (h .place) ≡ true → crowded (feedOf l) p (h .place) ≡ false
+      → makeable l (Placed p h) ≡ true
   unfolding makeable placeable fits
   placed-makeable h q i c = both-of (lt-ltb p mostPins n) (both-of (ap not q) (both-of i (ap not c)))
 
   module _ (h : Held) (q : getD l p absent ≡ there h) where
     -- A pin that is there can be moved to another place on the board where no other is too near,
-    pub moved-makeable : (to : Place) → samePlace (h .place) to ≡ false → inside to ≡ true → crowded (feedOf l) p to ≡ false → makeable l (Moved p (h .place) to) ≡ true
+    pub moved-makeable : (to : Place) → samePlace (h .place) to ≡ false → inside to ≡ true → crowded (feedOf l) p to ≡ false
+        → makeable l (Moved p (h .place) to) ≡ true
     unfolding makeable movable fits standsAt
     moved-makeable to s i c = both-of (lt-ltb p mostPins n) (both-of (rw q (place-self (h .place))) (both-of (ap not s) (both-of i (ap not c))))
 

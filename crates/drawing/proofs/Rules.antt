@@ -1,7 +1,7 @@
--- The rules of a drawing's pins: what the tests say, and which pin can take another's number. Assumes nothing.
+-- Pins that are the same, the feed of a drawing, and the rules that it keeps with one pin changed. From the rules of a feed; assumes nothing.
 use mathlib.Core.Path.{_≡_, refl, ap, _∙_}
 use mathlib.Core.Bool.{Bool, true, false}
-use mathlib.Core.List.{List, [], _∷_}
+use mathlib.Core.List.{List, [], _∷_, map}
 use Prim.Native.Nat.{ℕ, zero, suc, _<_}
 use native.Mathlib.Omega.{arith}
 use borrow.Author.Tests.{eqb-true, eq-eqb}
@@ -9,9 +9,7 @@ use lib.ListN.{length, getD, set, length-set, length-map, List·getD-map}
 use Rattle.refusal.proofs.Tests.{both-left, both-right, both-of, both-yes}
 use Rattle.refusal.specs.Tests.{both}
 use Rattle.grid.proofs.Board.{place-same, place-self}
-use Rattle.feed.specs.declared.Spot.{Spot}
-use Rattle.feed.specs.declared.Spot.the-variants as spot
-use Rattle.feed.specs.Feeds.{mostPins, spotAt, within, meetsOther, settled, allWithin, allApart}
+use Rattle.feed.specs.Feeds.{mostPins, spotAt, within, tooNearOther, settled, allWithin, allApart}
 use Rattle.feed.proofs.Rules.{apart-set, within-set, all-settled, settled-set}
 use Rattle.drawing.specs.declared.Held.{Held}
 use Rattle.drawing.specs.declared.Stand.{Stand}
@@ -26,6 +24,7 @@ held-same : (h k : Held) → sameHeld h k ≡ true → h ≡ k
 unfolding sameHeld
 held-same h k e = let p : h .place ≡ k .place = place-same (h .place) (k .place) e in λ i. record { place = p i }
 
+-- So is what stands at their numbers,
 stand-same : (s t : Stand) → sameIn s t ≡ true → s ≡ t
 stand-same Absent Absent e = refl
 stand-same Absent (There k) e = cc
@@ -45,12 +44,13 @@ pins-same [] (r ∷ m) e = cc
 pins-same (q ∷ l) [] e = cc
 pins-same (q ∷ l) (r ∷ m) e = rw (pin-same q r (both-left _ _ e), pins-same l m (both-right _ _ e))
 
+-- What stands at a number is the same as itself,
 stand-self : (s : Stand) → sameIn s s ≡ true
 unfolding sameHeld
 stand-self Absent = refl
 stand-self (There h) = place-self (h .place)
 
--- A pin is the same as itself,
+-- a pin is,
 pub pin-self : (q : Pin) → samePin q q ≡ true
 unfolding samePin
 pin-self q = stand-self (q .stand)
@@ -61,6 +61,7 @@ unfolding samePins
 pins-self [] = refl
 pins-self (q ∷ l) = both-of (pin-self q) (pins-self l)
 
+-- A test joined with one that holds is that test.
 both-true : (t : Bool) → both t true ≡ t
 unfolding both
 both-true true = refl
@@ -80,15 +81,20 @@ pub feed-at : (l : List Pin) (p : ℕ) → spotAt (feedOf l) p ≡ spotOf (getD 
 unfolding feedOf spotOf
 feed-at l p = List·getD-map spotOf l p absent
 
+-- What is read off a list with one entry changed changes there alone.
+pub map-set : {A B : Type 0} (f : A → B) (l : List A) (i : ℕ) (a : A) → map f (set l i a) ≡ set (map f l) i (f a)
+map-set f [] i a = refl
+map-set f (b ∷ l) zero a = refl
+map-set f (b ∷ l) (suc i) a = ap (λ (m : List _). f b ∷ m) (map-set f l i a)
+
 -- A changed pin is a changed spot of the feed.
 pub feed-set : (l : List Pin) (p : ℕ) (q : Pin) → feedOf (set l p q) ≡ set (feedOf l) p (spotOf q)
 unfolding feedOf
-feed-set [] p q = refl
-feed-set (r ∷ l) zero q = refl
-feed-set (r ∷ l) (suc p) q = ap (λ (t : List Spot). spotOf r ∷ t) (feed-set l p q)
+feed-set l p q = map-set spotOf l p q
 
 -- ---- the rules of a drawing
 
+-- A drawing has its 32 numbers, its pins are on the board, and no two are too near.
 pub record Lawful (l : List Pin) : Type 0 where
   pub long : length l ≡ mostPins
   pub board : allWithin (feedOf l) ≡ true
@@ -115,7 +121,8 @@ unfolding feedOf
 feed-long l e = length-map l spotOf ∙ lawful-parts l e .long
 
 -- Pin p of a drawing can be changed to one on the board that no other is too near to: the drawing keeps the rules.
-pub lawful-set : (l : List Pin) (p : ℕ) (q : Pin) → lawful l ≡ true → within (spotOf q) ≡ true → meetsOther (feedOf l) p (spotOf q) ≡ false → lawful (set l p q) ≡ true
+pub lawful-set : (l : List Pin) (p : ℕ) (q : Pin) → lawful l ≡ true → within (spotOf q) ≡ true → tooNearOther (feedOf l) p (spotOf q) ≡ false
+    → lawful (set l p q) ≡ true
 lawful-set l p q e w m =
     let h : Lawful l = lawful-parts l e in
     lawful-whole (set l p q)

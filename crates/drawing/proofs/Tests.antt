@@ -32,6 +32,7 @@ pin-above l e q k = above l e (rw q at k)
 
 -- Of any other, its own test decides.
 module _ {n p : ℕ} (l : List Pin) (q : n ≡ p) (k : n < mostPins) where
+  -- The first test is passed.
   numbered : ltb p mostPins ≡ true
   numbered = rw (← q) (lt-ltb n mostPins k)
 
@@ -58,6 +59,7 @@ module _ (l : List Pin) (w : length l ≡ mostPins) (e : Edit) {n : ℕ} (q : n 
   unmakeable m = sym (both-no _ (rw d at m))
 
   module _ (m : makeable b e ≡ true) where
+    -- Where it can be made, the two tests that are left decide.
     settling : takeable l e ≡ both (settled (feedOf b) n) (samePins (made b e) l)
     unfolding takeable
     settling = both-yes _ (rw d at m) ∙ rw (d, q)

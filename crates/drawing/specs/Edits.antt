@@ -4,16 +4,16 @@ use mathlib.Core.List.{List}
 use Prim.Native.Nat.{ℕ}
 use lib.Dec.{ltb}
 use lib.ListN.{getD, set}
-use lib.IntN.{pos}
 use Rattle.refusal.specs.Tests.{both}
 use Rattle.grid.specs.declared.Place.{Place}
-use Rattle.grid.specs.Place.{inside, samePlace}
+use Rattle.grid.specs.Place.{inside, samePlace, middle}
 use Rattle.drawing.specs.declared.Held.{Held}
 use Rattle.drawing.specs.declared.Stand.{Stand}
 use Rattle.drawing.specs.declared.Stand.the-variants.{Absent, There}
 use Rattle.drawing.specs.declared.Pin.{Pin}
 use Rattle.drawing.specs.declared.Edit.{Edit}
 use Rattle.drawing.specs.declared.Edit.the-variants.{Placed, Moved, Removed}
+use Rattle.feed.specs.declared.Spot.{Spot}
 use Rattle.feed.specs.Feeds.{mostPins, crowded, settled}
 use Rattle.drawing.specs.Pins.{absent, there, holding, isThere, samePin, samePins, feedOf}
 
@@ -54,16 +54,16 @@ unfoldable pub standsAt : Pin → Place → Bool
 standsAt q at = standsIn (q .stand) at
 
 -- Pin p could stand at that place: it is on the board, and no other pin is too near.
-unfoldable pub fits : List Pin → ℕ → Place → Bool
-fits l p at = both (inside at) (not (crowded (feedOf l) p at))
+unfoldable pub fits : List Spot → ℕ → Place → Bool
+fits feed p at = both (inside at) (not (crowded feed p at))
 
 -- A pin that is not there can be placed where it fits.
 unfoldable pub placeable : List Pin → ℕ → Held → Bool
-placeable l p h = both (not (isThere (getD l p absent))) (fits l p (h .place))
+placeable l p h = both (not (isThere (getD l p absent))) (fits (feedOf l) p (h .place))
 
 -- A pin can be moved from where it stands to another place where it fits.
 unfoldable pub movable : List Pin → ℕ → Place → Place → Bool
-movable l p a b = both (standsAt (getD l p absent) a) (both (not (samePlace a b)) (fits l p b))
+movable l p a b = both (standsAt (getD l p absent) a) (both (not (samePlace a b)) (fits (feedOf l) p b))
 
 -- An edit can be made on these pins.
 unfoldable pub makeable : List Pin → Edit → Bool
@@ -76,16 +76,12 @@ makeable l (Removed p h) = both (ltb p mostPins) (samePin (getD l p absent) (the
 unfoldable pub takeable : List Pin → Edit → Bool
 takeable l e = both (makeable (unmade l e) e) (both (settled (feedOf (unmade l e)) (pinOf e)) (samePins (made (unmade l e) e) l))
 
--- What stands in for the place of a pin that is not there.
-abbrev pub nowhere : Place
-nowhere = record { x = pos 0; y = pos 0 }
-
--- What a pin that is there holds; for an absent one, as if it stood nowhere.
+-- What a pin that is there holds; for an absent one, as if it stood in the middle of the board.
 abbrev pub heldIn : Stand → Held
-heldIn Absent = holding nowhere
+heldIn Absent = holding middle
 heldIn (There h) = h
 
--- What a pin holds, an absent one as if it stood nowhere.
+-- What a pin holds, an absent one as if it stood in the middle of the board.
 unfoldable pub heldBy : Pin → Held
 heldBy q = heldIn (q .stand)
 

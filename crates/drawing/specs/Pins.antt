@@ -1,4 +1,4 @@
--- The pins of a drawing and the rules that they keep.
+-- The pins of a drawing, the feed that they are, and the rules that they keep.
 use mathlib.Core.Bool.{Bool, true, false}
 use mathlib.Core.List.{List, [], _∷_, map}
 use lib.Dec.{eqb}

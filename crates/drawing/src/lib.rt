@@ -1,12 +1,15 @@
-// Drawings: the pins of one, the rules that they keep, and the edits that are made on them and taken back.
+// Drawings: the pins of one, the feed that they are, the rules that they keep, and the edits that are made on them and taken back.
 use feed::PINS;
 use feed::Spot;
 use grid::Place;
 ghost use mathlib.Core.Path.{_≡_};
+ghost use mathlib.Core.Bool.{not};
 ghost use Prim.Native.Nat.{_<_};
+ghost use Rattle.refusal.specs.Tests.{both};
+ghost use Rattle.grid.specs.Place.{samePlace};
 ghost use Rattle.feed.specs.Feeds.{mostPins, crowded};
 ghost use Rattle.drawing.specs.Pins.{absent, there, isThere, sameHeld, samePin, spotOf, feedOf, lawful};
-ghost use Rattle.drawing.specs.Edits.{pinOf, movedPin, standsAt, fits, placeable, movable, makeable, made, unmade, takeable, heldBy, placed, moved, removed};
+ghost use Rattle.drawing.specs.Edits.{pinOf, movedPin, standsAt, fits, makeable, made, unmade, takeable, heldBy, placed, moved, removed};
 
 // What a pin holds: its place.
 pub struct Held {
@@ -200,42 +203,40 @@ pub fn take_back(pins: [Pin; PINS], edit: Edit) -> [Pin; PINS]
 }
 
 // Whether a pin of this number could stand at a place: it is on the board, and no other pin is too near.
-fn has_room(pins: [Pin; PINS], pin: usize, at: Place) -> bool
-    requires { ⌜ pin < mostPins ⌝ }
-    ensures { λ r. ⌜ r ≡ fits pins pin at ⌝ }
+fn can_stand(spots: [Spot; PINS], number: usize, at: Place) -> bool
+    requires { ⌜ number < mostPins ⌝ }
+    ensures { λ r. ⌜ r ≡ fits spots number at ⌝ }
 {
     if !grid::is_inside(at) {
         return false;
     }
-    !is_crowded(pins, pin, at)
+    !feed::is_crowded(spots, number, at)
 }
 
-// Whether a pin could be placed.
-fn can_place(pins: [Pin; PINS], pin: usize, held: Held) -> bool
-    requires { ⌜ pin < mostPins ⌝ }
-    ensures { λ r. ⌜ r ≡ placeable pins pin held ⌝ }
+// Whether a pin of this number could be placed among these spots.
+fn can_place(pin: Pin, spots: [Spot; PINS], number: usize, held: Held) -> bool
+    requires { ⌜ number < mostPins ⌝ }
+    ensures { λ r. ⌜ r ≡ both (not (isThere pin)) (fits spots number (held .place)) ⌝ }
 {
-    let q = pins[pin];
-    if is_there(q) {
+    if is_there(pin) {
         return false;
     }
     let at = held.place;
-    has_room(pins, pin, at)
+    can_stand(spots, number, at)
 }
 
-// Whether a pin could be moved.
-fn can_move(pins: [Pin; PINS], pin: usize, from: Place, to: Place) -> bool
-    requires { ⌜ pin < mostPins ⌝ }
-    ensures { λ r. ⌜ r ≡ movable pins pin from to ⌝ }
+// Whether a pin of this number could be moved among these spots.
+fn can_move(pin: Pin, spots: [Spot; PINS], number: usize, from: Place, to: Place) -> bool
+    requires { ⌜ number < mostPins ⌝ }
+    ensures { λ r. ⌜ r ≡ both (standsAt pin from) (both (not (samePlace from to)) (fits spots number to)) ⌝ }
 {
-    let q = pins[pin];
-    if !stands_at(q, from) {
+    if !stands_at(pin, from) {
         return false;
     }
     if grid::same_place(from, to) {
         return false;
     }
-    has_room(pins, pin, to)
+    can_stand(spots, number, to)
 }
 
 // Whether a pin is there at a place.
@@ -252,22 +253,29 @@ pub fn stands_at(pin: Pin, at: Place) -> bool
     }
 }
 
-// Whether an edit could be made on these pins.
-pub fn can_make(pins: [Pin; PINS], edit: Edit) -> bool
+// Whether an edit could be made on these pins, whose feed is at hand.
+fn can_be_made(pins: [Pin; PINS], spots: [Spot; PINS], edit: Edit) -> bool
+    requires { ⌜ spots ≡ feedOf pins ⌝ }
     ensures { λ r. ⌜ r ≡ makeable pins edit ⌝ }
 {
     let number = pin_of(edit);
     if PINS <= number {
         return false;
     }
+    let q = pins[number];
     match edit {
-        Edit::Placed(pin, held) => can_place(pins, number, held),
-        Edit::Moved(pin, from, to) => can_move(pins, number, from, to),
-        Edit::Removed(pin, held) => {
-            let q = pins[number];
-            same_pin(q, pin_with(held))
-        }
+        Edit::Placed(pin, held) => can_place(q, spots, number, held),
+        Edit::Moved(pin, from, to) => can_move(q, spots, number, from, to),
+        Edit::Removed(pin, held) => same_pin(q, pin_with(held)),
     }
+}
+
+// Whether an edit could be made on these pins.
+pub fn can_make(pins: [Pin; PINS], edit: Edit) -> bool
+    ensures { λ r. ⌜ r ≡ makeable pins edit ⌝ }
+{
+    let spots = feed_of(pins);
+    can_be_made(pins, spots, edit)
 }
 
 // Whether an edit that stands on these pins could have been made, so that it can be taken back.
@@ -279,10 +287,10 @@ pub fn can_take_back(pins: [Pin; PINS], edit: Edit) -> bool
         return false;
     }
     let before = take_back(pins, edit);
-    if !can_make(before, edit) {
+    let spots = feed_of(before);
+    if !can_be_made(before, spots, edit) {
         return false;
     }
-    let spots = feed_of(before);
     if !feed::is_settled(spots, number) {
         return false;
     }

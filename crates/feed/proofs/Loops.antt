@@ -9,7 +9,7 @@ use lib.Seq.{drop-cons}
 use Rattle.refusal.specs.Tests.{both, either}
 use Rattle.feed.specs.declared.Spot.{Spot}
 use Rattle.feed.specs.declared.Spot.the-variants.{Absent}
-use Rattle.feed.specs.Feeds.{within, meets, meetsAny, allWithin, allApart}
+use Rattle.feed.specs.Feeds.{within, spotsTooNear, tooNearAny, allWithin, allApart}
 
 -- The rest of a feed from number i on is what stands at i before the rest from i + 1 on.
 rest : (feed : List Spot) (i : ℕ) → i < length feed → drop i feed ≡ getD feed i Absent ∷ drop (i + 1) feed
@@ -18,16 +18,16 @@ rest feed i h = rw add-one (drop-cons feed i Absent h)
 -- The spots from number i on.
 module _ (feed : List Spot) (i : ℕ) where
   module _ (h : i < length feed) where
-    module _ (s : Spot) {b : Bool} (e : b ≡ meets s (getD feed i Absent)) where
+    module _ (s : Spot) {b : Bool} (e : b ≡ spotsTooNear s (getD feed i Absent)) where
       -- A pin that is too near the next one is too near one of the rest.
-      pub meets-hit : b ≡ true → meetsAny s (drop i feed) ≡ true
-      unfolding meetsAny either
-      meets-hit t = rw (rest feed i h, ← e, t)
+      pub near-hit : b ≡ true → tooNearAny s (drop i feed) ≡ true
+      unfolding tooNearAny either
+      near-hit t = rw (rest feed i h, ← e, t)
 
       -- One that is not is left to the rest after it.
-      pub meets-miss : b ≡ false → meetsAny s (drop i feed) ≡ meetsAny s (drop (i + 1) feed)
-      unfolding meetsAny either
-      meets-miss t = rw (rest feed i h, ← e, t)
+      pub near-miss : b ≡ false → tooNearAny s (drop i feed) ≡ tooNearAny s (drop (i + 1) feed)
+      unfolding tooNearAny either
+      near-miss t = rw (rest feed i h, ← e, t)
 
     module _ {b : Bool} (e : b ≡ within (getD feed i Absent)) where
       -- Where the next pin is on the board, the rest after it decides.
@@ -40,7 +40,7 @@ module _ (feed : List Spot) (i : ℕ) where
       unfolding allWithin both
       within-stop t = rw (rest feed i h, ← e, t)
 
-    module _ {b : Bool} (e : b ≡ meetsAny (getD feed i Absent) (drop (i + 1) feed)) where
+    module _ {b : Bool} (e : b ≡ tooNearAny (getD feed i Absent) (drop (i + 1) feed)) where
       -- Where the next pin is near none after it, the rest after it decides.
       pub apart-next : b ≡ false → allApart (drop i feed) ≡ allApart (drop (i + 1) feed)
       unfolding allApart both
@@ -53,9 +53,9 @@ module _ (feed : List Spot) (i : ℕ) where
 
   module _ (h : length feed ≤ i) where
     -- No pin is left to be near,
-    pub meets-end : (s : Spot) → meetsAny s (drop i feed) ≡ false
-    unfolding meetsAny
-    meets-end s = rw (drop-of-length-le feed h)
+    pub near-end : (s : Spot) → tooNearAny s (drop i feed) ≡ false
+    unfolding tooNearAny
+    near-end s = rw (drop-of-length-le feed h)
 
     -- or off the board,
     pub within-end : allWithin (drop i feed) ≡ true

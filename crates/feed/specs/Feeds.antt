@@ -2,11 +2,10 @@
 use mathlib.Core.Bool.{Bool, true, false, not}
 use mathlib.Core.List.{List, [], _∷_}
 use Prim.Native.Nat.{ℕ}
-use lib.IntN.{pos}
 use lib.ListN.{getD, set}
 use Rattle.refusal.specs.Tests.{both, either}
 use Rattle.grid.specs.declared.Place.{Place}
-use Rattle.grid.specs.Place.{inside, tooNear}
+use Rattle.grid.specs.Place.{inside, middle, tooNear}
 use Rattle.feed.specs.declared.Spot.{Spot}
 use Rattle.feed.specs.declared.Spot.the-variants.{Absent, At}
 
@@ -21,7 +20,7 @@ present (At p) = true
 
 -- Where a pin stands; the middle of the board stands in for a pin that is not there.
 abbrev pub placeOf : Spot → Place
-placeOf Absent = record { x = pos 0; y = pos 0 }
+placeOf Absent = middle
 placeOf (At p) = p
 
 -- What a feed has at a pin's number.
@@ -34,34 +33,34 @@ within Absent = true
 within (At p) = inside p
 
 -- Two pins are both there, and too near each other.
-unfoldable pub meets : Spot → Spot → Bool
-meets Absent t = false
-meets (At p) Absent = false
-meets (At p) (At q) = tooNear p q
+unfoldable pub spotsTooNear : Spot → Spot → Bool
+spotsTooNear Absent t = false
+spotsTooNear (At p) Absent = false
+spotsTooNear (At p) (At q) = tooNear p q
 
 -- A pin is too near one of these.
-unfoldable pub meetsAny : Spot → List Spot → Bool
-meetsAny s [] = false
-meetsAny s (t ∷ feed) = either (meets s t) (meetsAny s feed)
+unfoldable pub tooNearAny : Spot → List Spot → Bool
+tooNearAny s [] = false
+tooNearAny s (t ∷ feed) = either (spotsTooNear s t) (tooNearAny s feed)
 
--- A pin of number p, if it stood so, would be too near another.
-unfoldable pub meetsOther : List Spot → ℕ → Spot → Bool
-meetsOther feed p s = meetsAny s (set feed p Absent)
+-- Were this pin p, another pin would be too near to it.
+unfoldable pub tooNearOther : List Spot → ℕ → Spot → Bool
+tooNearOther feed p s = tooNearAny s (set feed p Absent)
 
 -- A pin other than pin p stands too near to the place.
 unfoldable pub crowded : List Spot → ℕ → Place → Bool
-crowded feed p at = meetsOther feed p (At at)
+crowded feed p at = tooNearOther feed p (At at)
 
 -- Pin p, if it is there, is on the board, and no other pin is too near to it.
 unfoldable pub settled : List Spot → ℕ → Bool
-settled feed p = both (within (spotAt feed p)) (not (meetsOther feed p (spotAt feed p)))
+settled feed p = both (within (spotAt feed p)) (not (tooNearOther feed p (spotAt feed p)))
 
 -- Every pin that is there is on the board.
 unfoldable pub allWithin : List Spot → Bool
 allWithin [] = true
 allWithin (s ∷ feed) = both (within s) (allWithin feed)
 
--- No two pins have the same place, nor are too near.
+-- No two pins are too near each other: at a least gap of 1, no two have the same place.
 unfoldable pub allApart : List Spot → Bool
 allApart [] = true
-allApart (s ∷ feed) = both (not (meetsAny s feed)) (allApart feed)
+allApart (s ∷ feed) = both (not (tooNearAny s feed)) (allApart feed)

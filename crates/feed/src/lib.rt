@@ -3,7 +3,7 @@ use grid::Place;
 ghost use mathlib.Core.Path.{_≡_};
 ghost use Prim.Native.Nat.{_<_, _≤_};
 ghost use lib.ListN.{drop};
-ghost use Rattle.feed.specs.Feeds.{mostPins, present, placeOf, spotAt, within, meets, meetsAny, meetsOther, crowded, settled, allWithin, allApart};
+ghost use Rattle.feed.specs.Feeds.{mostPins, present, placeOf, spotAt, within, spotsTooNear, tooNearAny, tooNearOther, crowded, settled, allWithin, allApart};
 
 // Pins are numbered from 0 to one less than this.
 pub const PINS: usize = 32;
@@ -56,8 +56,8 @@ fn is_within(spot: Spot) -> bool
 }
 
 // Whether two pins are there and too near each other.
-fn do_meet(a: Spot, b: Spot) -> bool
-    ensures { λ r. ⌜ r ≡ meets a b ⌝ }
+fn are_too_near(a: Spot, b: Spot) -> bool
+    ensures { λ r. ⌜ r ≡ spotsTooNear a b ⌝ }
 {
     match a {
         Spot::Absent => false,
@@ -69,14 +69,14 @@ fn do_meet(a: Spot, b: Spot) -> bool
 }
 
 // Whether a pin is too near one of those numbered `from` and above.
-fn meets_any(spot: Spot, feed: [Spot; PINS], from: usize) -> bool
+pub fn too_near_any(spot: Spot, feed: [Spot; PINS], from: usize) -> bool
     requires { ⌜ from ≤ mostPins ⌝ }
-    ensures { λ r. ⌜ r ≡ meetsAny spot (drop from feed) ⌝ }
+    ensures { λ r. ⌜ r ≡ tooNearAny spot (drop from feed) ⌝ }
 {
     let mut number = from;
     while number < PINS {
         let other = feed[number];
-        if do_meet(spot, other) {
+        if are_too_near(spot, other) {
             return true;
         }
         number += 1;
@@ -84,14 +84,14 @@ fn meets_any(spot: Spot, feed: [Spot; PINS], from: usize) -> bool
     false
 }
 
-// Whether a pin of that number would be too near another, if it stood so.
-fn meets_other(feed: [Spot; PINS], pin: usize, spot: Spot) -> bool
+// Whether another pin would be too near to this one, were it the pin of that number.
+fn too_near_other(feed: [Spot; PINS], pin: usize, spot: Spot) -> bool
     requires { ⌜ pin < mostPins ⌝ }
-    ensures { λ r. ⌜ r ≡ meetsOther feed pin spot ⌝ }
+    ensures { λ r. ⌜ r ≡ tooNearOther feed pin spot ⌝ }
 {
     let mut others = feed;
     others[pin] = Spot::Absent;
-    meets_any(spot, others, 0)
+    too_near_any(spot, others, 0)
 }
 
 // Whether a pin other than `pin` stands too near to a place.
@@ -99,7 +99,7 @@ pub fn is_crowded(feed: [Spot; PINS], pin: usize, at: Place) -> bool
     requires { ⌜ pin < mostPins ⌝ }
     ensures { λ r. ⌜ r ≡ crowded feed pin at ⌝ }
 {
-    meets_other(feed, pin, Spot::At(at))
+    too_near_other(feed, pin, Spot::At(at))
 }
 
 // Whether a pin, if it is there, is on the board with no other pin too near to it.
@@ -111,7 +111,7 @@ pub fn is_settled(feed: [Spot; PINS], pin: usize) -> bool
     if !is_within(spot) {
         return false;
     }
-    !meets_other(feed, pin, spot)
+    !too_near_other(feed, pin, spot)
 }
 
 // Whether every pin that is there is on the board.
@@ -136,7 +136,7 @@ pub fn are_apart(feed: [Spot; PINS]) -> bool
     let mut pin = 0;
     while pin < PINS {
         let spot = feed[pin];
-        if meets_any(spot, feed, pin + 1) {
+        if too_near_any(spot, feed, pin + 1) {
             return false;
         }
         pin += 1;

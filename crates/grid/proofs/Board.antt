@@ -1,18 +1,18 @@
--- Numbers and places of the board in ℕ, and what their range allows. Assumes nothing.
+-- Numbers and places of the board, what their range allows, and how far apart two numbers are. Assumes nothing.
 use mathlib.Core.Path.{_≡_, refl, sym, ap, _∙_}
-use mathlib.Core.Bool.{true, false}
-use Prim.Native.Nat.{ℕ, suc, _+_, _-_, _≤_}
+use mathlib.Core.Bool.{true, false, true≢false}
+use Prim.Native.Nat.{_+_, _-_, _<_, _≤_}
 use native.Mathlib.Omega.{arith}
-use lib.IntN.{ℤ, pos, negsuc, negℤ, natAbs, _+ℤ_, _-ℤ_, -ℤ-+ℤ-cancel, +ℤ-idl, +ℤ-invr}
+use lib.IntN.{ℤ, pos, negsuc, natAbs, _+ℤ_, _-ℤ_, -ℤ-+ℤ-cancel, +ℤ-idl, +ℤ-invr}
 use lib.Signed.{ltZ, mag}
-use lib.Dec.{ltb, lit<}
+use lib.Dec.{lit<}
 use mir.Syntax.{w32, w64}
 use mir.Val.{SFits, toZ, ofZ}
 use mir.Facts.{toZ-ofZ, sfits-widen}
-use borrow.Author.Tests.{eq-eqb, eqb-true, lt-ltb, le-ltb, ltb-true, ltb-false, leb-true}
+use borrow.Author.Tests.{eq-eqb, eqb-true, ltb-true, leb-true}
 use Rattle.refusal.proofs.Tests.{both-left, both-right, both-of}
 use Rattle.grid.specs.declared.Place.{Place}
-use Rattle.grid.specs.Place.{limit, leastGap, onBoard, difference, larger, closer, sameNumber, samePlace}
+use Rattle.grid.specs.Place.{limit, onBoard, difference, larger, sameNumber, samePlace}
 use Rattle.grid.proofs.Signed.{off, I32, Small, leZ-off, difference-off, max-off, off-max, rd}
 
 -- A number of the board, moved up.
@@ -43,28 +43,23 @@ unfolding onBoard
 number-held (pos n) e = omega (arith, leb-true n limit (both-right _ _ e))
 number-held (negsuc n) e = omega (arith, leb-true n (limit - 1) (both-left _ _ e))
 
--- A number that is on the board is far from the ends of i32.
-pub small : {z : ℤ} → Board z → Small z
-small h = omega arith
-
-pub board-small : {z : ℤ} → SFits w32 z → onBoard z ≡ true → Small z
-board-small f e = small (board f e)
-
--- Numbers that do not differ are the same,
+-- A number of size 0 is 0.
 nothing : (z : ℤ) → natAbs z ≡ 0 → z ≡ pos 0
 nothing (pos n) e = ap pos e
 nothing (negsuc n) e = absurd (omega arith)
 
+-- Numbers that do not differ are the same,
 pub number-same : (a b : ℤ) → sameNumber a b ≡ true → a ≡ b
 unfolding sameNumber difference
 number-same a b e =
     sym (-ℤ-+ℤ-cancel a b) ∙ ap (λ (z : ℤ). z +ℤ b) (nothing (a -ℤ b) (eqb-true (natAbs (a -ℤ b)) 0 e)) ∙ +ℤ-idl b
 
+-- and a number does not differ from itself;
 pub number-self : (a : ℤ) → sameNumber a a ≡ true
 unfolding sameNumber difference
 number-self a = eq-eqb (natAbs (a -ℤ a)) 0 (ap natAbs (+ℤ-invr a))
 
--- and so are places.
+-- places that do not differ are the same,
 pub place-same : (a b : Place) → samePlace a b ≡ true → a ≡ b
 unfolding samePlace
 place-same a b e =
@@ -72,33 +67,33 @@ place-same a b e =
     let q : a .y ≡ b .y = number-same (a .y) (b .y) (both-right _ _ e) in
     λ i. record { x = p i; y = q i }
 
+-- and a place does not differ from itself.
 pub place-self : (a : Place) → samePlace a a ≡ true
 unfolding samePlace
 place-self a = both-of (number-self (a .x)) (number-self (a .y))
 
--- A difference above minus the gap is below the gap where its size is; one that is not is not.
-gap-arm : (g : ℕ) (z : ℤ) → ltZ (negsuc g) z ≡ true → ltZ z (pos (suc g)) ≡ ltb (natAbs z) (suc g)
-gap-arm g (pos n) e = refl
-gap-arm g (negsuc n) e = sym (lt-ltb (suc n) (suc g) (omega (arith, ltb-true n g e)))
+-- A number below zero, negated, is its size; any other is its size.
+size-below : (z : ℤ) → ltZ z (pos 0) ≡ true → pos 0 -ℤ z ≡ pos (natAbs z)
+size-below (pos n) e = absurd (omega (arith, ltb-true n 0 e))
+size-below (negsuc n) e = ap pos (omega arith)
 
-gap-stop : (g : ℕ) (z : ℤ) → ltZ (negsuc g) z ≡ false → false ≡ ltb (natAbs z) (suc g)
-gap-stop g (pos n) e = cc
-gap-stop g (negsuc n) e = sym (le-ltb (suc n) (suc g) (omega (arith, ltb-false n g e)))
+size-above : (z : ℤ) → ltZ z (pos 0) ≡ false → z ≡ pos (natAbs z)
+size-above (pos n) e = refl
+size-above (negsuc n) e = absurd (true≢false e)
 
--- What the test of a difference says, by the arm taken.
-pub closer-arm : (a b : ℤ) → ltZ (negℤ (pos leastGap)) (a -ℤ b) ≡ true → ltZ (a -ℤ b) (pos leastGap) ≡ closer a b
-unfolding closer difference
-closer-arm a b e = gap-arm (leastGap - 1) (a -ℤ b) e
+-- Two numbers that an i32 holds are less than 2 ^ 32 apart.
+pub difference-below : (a b : ℤ) → I32 a → I32 b → difference a b < 4294967296
+difference-below a b p q = omega (arith, difference-off a b p q, off-max a p, off-max b q)
 
-pub closer-stop : (a b : ℤ) → ltZ (negℤ (pos leastGap)) (a -ℤ b) ≡ false → false ≡ closer a b
-unfolding closer difference
-closer-stop a b e = gap-stop (leastGap - 1) (a -ℤ b) e
+-- That fits an i64,
+pub difference-fits : {a b : ℤ} → SFits w32 a → SFits w32 b → SFits w64 (pos (difference a b))
+difference-fits {a} {b} fa fb = record { sfits = omega (arith, difference-below a b (fa .sfits) (fb .sfits)) }
 
--- The difference of two i32 fits an i64.
 size : (z : ℤ) → mag z ≤ natAbs z
 size (pos n) = omega arith
 size (negsuc n) = omega arith
 
+-- and so does their difference.
 pub wide-fits : (a b : ℤ) → SFits w32 a → SFits w32 b → SFits w64 (a -ℤ b)
 unfolding difference off
 wide-fits a b fa fb =
@@ -108,6 +103,7 @@ wide-fits a b fa fb =
 abbrev pub wide : ℤ → ℤ
 wide z = toZ w64 (ofZ w64 (rd z))
 
+-- It is the number that was read.
 pub wide-is : {z : ℤ} → SFits w32 z → wide z ≡ z
 wide-is f = rw (toZ-ofZ f, toZ-ofZ (sfits-widen {w′ = w64} tt f))
 
@@ -115,11 +111,24 @@ wide-is f = rw (toZ-ofZ f, toZ-ofZ (sfits-widen {w′ = w64} tt f))
 pub wide-difference : {a b : ℤ} → SFits w32 a → SFits w32 b → toZ w64 (ofZ w64 (wide a -ℤ wide b)) ≡ a -ℤ b
 wide-difference {a} {b} fa fb = rw (wide-is fa, wide-is fb, toZ-ofZ (wide-fits a b fa fb))
 
--- |dx|, in ℕ: it is small.
+-- Where the code's difference is below zero, it is, negated, how far the numbers are apart;
+pub apart-below : {a b : ℤ} (fa : SFits w32 a) (fb : SFits w32 b) → ltZ (toZ w64 (ofZ w64 (wide a -ℤ wide b))) (pos 0) ≡ true
+    → pos 0 -ℤ toZ w64 (ofZ w64 (wide a -ℤ wide b)) ≡ pos (difference a b)
+unfolding difference
+apart-below {a} {b} fa fb e = let w = wide-difference fa fb in rw w (size-below (a -ℤ b) (rw w at e))
+
+-- where it is not, it is that itself.
+pub apart-above : {a b : ℤ} (fa : SFits w32 a) (fb : SFits w32 b) → ltZ (toZ w64 (ofZ w64 (wide a -ℤ wide b))) (pos 0) ≡ false
+    → toZ w64 (ofZ w64 (wide a -ℤ wide b)) ≡ pos (difference a b)
+unfolding difference
+apart-above {a} {b} fa fb e = let w = wide-difference fa fb in w ∙ size-above (a -ℤ b) (rw w at e)
+
+-- How far two numbers of the board are apart is small,
 pub difference-small : {a b : ℤ} → SFits w32 a → SFits w32 b → onBoard a ≡ true → onBoard b ≡ true → Small (pos (difference a b))
 unfolding off
 difference-small {a} {b} fa fb p q =
     omega (arith, board fa p, board fb q, difference-off a b (fa .sfits) (fb .sfits))
 
+-- and so is the larger of the two.
 pub larger-small : {a b : ℤ} → SFits w32 a → SFits w32 b → onBoard a ≡ true → onBoard b ≡ true → Small (larger a b)
 larger-small {a} {b} fa fb p q = omega (arith, board fa p, board fb q, max-off a b (fa .sfits) (fb .sfits))

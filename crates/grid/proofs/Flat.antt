@@ -19,14 +19,17 @@ unfoldable pub gap : ℕ → ℕ → ℕ
 gap a b = (a - b) + (b - a)
 
 module _ (a b : ℕ) where
+  -- From the smaller number up by the gap to the larger,
   pub gap-up : a ≤ b → gap a b + a ≡ b
   unfolding gap
   gap-up h = omega arith
 
+  -- whichever of the two it is;
   pub gap-down : b ≤ a → gap a b + b ≡ a
   unfolding gap
   gap-down h = omega arith
 
+  -- the gap is the same both ways.
   pub gap-swap : gap a b ≡ gap b a
   unfolding gap
   gap-swap = omega arith
@@ -36,27 +39,29 @@ module _ (a b : ℕ) where
   unfolding gap
   gap-below m h k = omega arith
 
+-- There is no gap between a number and itself.
 pub gap-self : (a : ℕ) → gap a a ≡ 0
 unfolding gap
 gap-self a = omega arith
 
+-- By way of a third number it is no shorter.
 pub gap-through : (a b c : ℕ) → gap a c ≤ gap a b + gap b c
 unfolding gap
 gap-through a b c = omega arith
 
--- Which of two numbers is not larger.
 order-by : (t : Bool) (a b : ℕ) → ltb b a ≡ t → (a ≤ b) ⊎ (b < a)
 order-by true a b e = inr (ltb-true b a e)
 order-by false a b e = inl (ltb-false b a e)
 
+-- The first of two numbers is at most the second, or the second is less.
 pub order : (a b : ℕ) → (a ≤ b) ⊎ (b < a)
 order a b = order-by (ltb b a) a b refl
 
--- Two numbers are the same or not.
 same-by : (t : Bool) (a b : ℕ) → eqb a b ≡ t → (a ≡ b) ⊎ (a ≡ b → ⊥)
 same-by true a b e = inl (eqb-true a b e)
 same-by false a b e = inr (eqb-false a b e)
 
+-- Two numbers are the same or they are not.
 pub same-or-not : (a b : ℕ) → (a ≡ b) ⊎ (a ≡ b → ⊥)
 same-or-not a b = same-by (eqb a b) a b refl
 
@@ -69,6 +74,7 @@ pub record Site : Type 0 where
 unfoldable pub span : Site → Site → ℕ
 span a b = gap (a .x) (b .x) + gap (a .y) (b .y)
 
+-- It is the same both ways.
 pub span-swap : (a b : Site) → span a b ≡ span b a
 unfolding span
 span-swap a b = omega (arith, gap-swap (a .x) (b .x), gap-swap (a .y) (b .y))
@@ -87,6 +93,7 @@ pub place-held : (a : Place) → inside a ≡ true → Held a
 unfolding inside
 place-held a e = record { x = number-held (a .x) (both-left _ _ e); y = number-held (a .y) (both-right _ _ e) }
 
+-- How far two numbers are apart is the gap between them, moved.
 pub difference-gap : (a b : ℤ) → I32 a → I32 b → difference a b ≡ gap (off a) (off b)
 unfolding gap
 difference-gap = difference-off

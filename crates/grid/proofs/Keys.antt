@@ -24,14 +24,17 @@ use Rattle.grid.proofs.Flat.{gap, gap-swap, order, Site, span, site, He
 unfoldable pub lex : ℕ → ℕ → ℕ
 lex a b = a * 17179869184 + b
 
+-- Two digits read as one number: where it is at most another, the first digits decide, and where they are equal the second.
 pub lex-le : (a b c d : ℕ) → d < 17179869184 → lex a b ≤ lex c d → (a ≤ c) × (a ≡ c → b ≤ d)
 unfolding lex
 lex-le a b c d f h = omega arith
 
+-- The same where it is less.
 pub lex-lt : (a b c d : ℕ) → d < 17179869184 → lex a b < lex c d → (a ≤ c) × (a ≡ c → b < d)
 unfolding lex
 lex-lt a b c d f h = omega arith
 
+-- Where they are the same number, both digits are.
 pub lex-eq : (a b c d : ℕ) → b < 17179869184 → d < 17179869184 → lex a b ≡ lex c d → (a ≡ c) × (b ≡ d)
 unfolding lex
 lex-eq a b c d f g h = omega arith
@@ -140,6 +143,7 @@ pub record OnBoard (a : Place) : Type 0 where
   pub x : onBoard (a .x) ≡ true
   pub y : onBoard (a .y) ≡ true
 
+-- A place that is inside, whose numbers an i32 holds, is such a place.
 pub on-board : {a : Place} → Held a → inside a ≡ true → OnBoard a
 unfolding inside
 on-board {a} h e = record { held = h; x = both-left _ _ e; y = both-right (onBoard (a .x)) _ e }
@@ -169,7 +173,12 @@ parts {a} {b} p q =
     record {
       distance = up (distanceOf a b) ∙ ap (λ (n : ℕ). 2147483648 + n) (distance-span (p .held) (q .held));
       near-distance = omega (arith, ax, ay, bx, by);
-      rise = omega (arith, neg-off (pos (difference (a .y) (b .y))) (difference-small (fit (p .held .y)) (fit (q .held .y)) (p .y) (q .y)), dy, up (difference (a .y) (b .y)));
+      rise = omega (
+        arith,
+        neg-off (pos (difference (a .y) (b .y))) (difference-small (fit (p .held .y)) (fit (q .held .y)) (p .y) (q .y)),
+        dy,
+        up (difference (a .y) (b .y)),
+      );
       near-rise = omega (arith, ay, by);
       right = omega (arith, neg-off (larger (a .x) (b .x)) (larger-small (fit (p .held .x)) (fit (q .held .x)) (p .x) (q .x)), m);
       near-right = omega (arith, ax, bx);
@@ -206,7 +215,8 @@ module _ {a b c d : Place} (p : Parts a b) (q : Parts c d) (r : Bool) where
   by-rise =
       let e = p .rise in
       let f = q .rise in
-      by-off (negℤ (pos (difference (a .y) (b .y)))) (negℤ (pos (difference (c .y) (d .y)))) (down (gap (off (a .y)) (off (b .y)))) (down (gap (off (c .y)) (off (d .y)))) r
+      by-off (negℤ (pos (difference (a .y) (b .y)))) (negℤ (pos (difference (c .y) (d .y)))) (down (gap (off (a .y)) (off (b .y))))
+      (down (gap (off (c .y)) (off (d .y)))) r
       (fits p .rise) (fits q .rise)
       (λ h. omega (arith, p .near-rise)) (λ h. omega (arith, q .near-rise)) (λ h. omega (arith, q .near-rise)) (λ h. omega (arith, p .near-rise))
 

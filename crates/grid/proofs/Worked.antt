@@ -5,7 +5,7 @@ use mathlib.Core.List.{[], _∷_}
 use lib.IntN.{ℤ, pos, negsuc}
 use Rattle.refusal.specs.Tests.{both, choose}
 use Rattle.grid.specs.declared.Place.{Place}
-use Rattle.grid.specs.Number.{numberAt, putAt, first, second, third, fourth}
+use Rattle.grid.specs.Number.{numberAt, putAt, firstByte, secondByte, thirdByte, fourthByte}
 use Rattle.grid.specs.Place.{onBoard, tooNear, closer, difference, larger}
 use Rattle.grid.specs.Weight.{weightOf, distanceOf, pairOf, comesBefore, byPart, byNumber}
 
@@ -27,11 +27,11 @@ bytes-smallest = refl
 
 -- 1 and -1 as D3 writes them.
 written-one : putAt (9 ∷ 9 ∷ 9 ∷ 9 ∷ 9 ∷ []) 0 (pos 1) ≡ (0 ∷ 0 ∷ 0 ∷ 1 ∷ 9 ∷ [])
-unfolding putAt first second third fourth
+unfolding putAt firstByte secondByte thirdByte fourthByte
 written-one = refl
 
 written-minus-one : putAt (9 ∷ 9 ∷ 9 ∷ 9 ∷ 9 ∷ []) 0 (negsuc 0) ≡ (255 ∷ 255 ∷ 255 ∷ 255 ∷ 9 ∷ [])
-unfolding putAt first second third fourth
+unfolding putAt firstByte secondByte thirdByte fourthByte
 written-minus-one = refl
 
 -- 20,000 and -20,000 are on the board, one more on either side is not.

@@ -1,4 +1,4 @@
--- The board: its range, the places on it, and when two of them are too near.
+-- The board: its range, the places on it, how far numbers are apart, and when two places are too near, the same, or the ends of a straight run.
 use mathlib.Core.Bool.{Bool}
 use Prim.Native.Nat.{ℕ}
 use lib.IntN.{ℤ, pos, negℤ, natAbs, _-ℤ_}
@@ -22,6 +22,10 @@ onBoard z = both (leZ (negℤ (pos limit)) z) (leZ z (pos limit))
 -- A place on the board.
 unfoldable pub inside : Place → Bool
 inside a = both (onBoard (a .x)) (onBoard (a .y))
+
+-- The middle of the board; it stands in where there is no pin.
+abbrev pub middle : Place
+middle = record { x = pos 0; y = pos 0 }
 
 -- How far two numbers are apart.
 unfoldable pub difference : ℤ → ℤ → ℕ

@@ -1,8 +1,7 @@
-// The grid: a number and its four bytes, places, the board's range, when two places are too near, and the order of pairs of pins.
+// The grid: a number and its four bytes, places, the board's range, how far numbers are apart, when two places are too near, and the order of pairs of pins.
 ghost use mathlib.Core.Path.{_≡_};
 ghost use mathlib.Core.Bool.{true};
 ghost use Prim.Native.Nat.{_+_, _≤_};
-ghost use lib.IntN.{pos};
 ghost use lib.ListN.{length};
 ghost use mir.Syntax.{w32};
 ghost use mir.Val.{toZ, ofZ};
@@ -14,7 +13,7 @@ ghost use Rattle.grid.specs.Weight.{weightOf, pairOf, byPart, byNumber, 
 pub const LIMIT: i32 = 20000;
 
 // Two places whose x and whose y both differ by less than this are too near.
-pub const LEAST_GAP: i64 = 1;
+pub const LEAST_GAP: u64 = 1;
 
 // A place on the grid, in grid steps; y grows upwards.
 pub struct Place {
@@ -99,12 +98,19 @@ pub fn is_inside(place: Place) -> bool
     if x { y } else { false }
 }
 
+// How far two numbers are apart.
+pub fn apart(a: i32, b: i32) -> u64
+    ensures { λ r. ⌜ r ≡ difference a b ⌝ }
+{
+    let d = a as i64 - b as i64;
+    if d < 0 { (-d) as u64 } else { d as u64 }
+}
+
 // Whether two numbers differ by less than the least gap.
 fn is_closer(a: i32, b: i32) -> bool
     ensures { λ r. ⌜ r ≡ closer a b ⌝ }
 {
-    let d = a as i64 - b as i64;
-    -LEAST_GAP < d && d < LEAST_GAP
+    apart(a, b) < LEAST_GAP
 }
 
 // Whether two places are too near each other.
@@ -132,14 +138,6 @@ pub fn same_place(a: Place, b: Place) -> bool
     if x { y } else { false }
 }
 
-// The difference of two numbers of the board.
-fn apart(a: i32, b: i32) -> i32
-    requires { ⌜ (onBoard a ≡ true) × (onBoard b ≡ true) ⌝ }
-    ensures { λ r. ⌜ r ≡ pos (difference a b) ⌝ }
-{
-    if a < b { b - a } else { a - b }
-}
-
 // The larger of two numbers.
 fn larger_of(a: i32, b: i32) -> i32
     ensures { λ r. ⌜ r ≡ larger a b ⌝ }
@@ -156,8 +154,8 @@ pub fn weigh(a: Place, b: Place) -> Weight
     let dy = apart(a.y, b.y);
     let right = larger_of(a.x, b.x);
     Weight {
-        distance: dx + dy,
-        rise: -dy,
+        distance: (dx + dy) as i32,
+        rise: -(dy as i32),
         right: -right,
     }
 }

@@ -27,11 +27,12 @@ use Rattle.history.proofs.Passed.{undoes, redoes}
 use Rattle.history.proofs.Untouched.{accepted-takes-effect}
 use Rattle.history.proofs.Sounding.{sound-step}
 
--- Undo and redo are accepted where no row applies.
+-- Undo is accepted where no row applies,
 undo-accepted : (l : Look) → l .broken ≡ false → l .seat < mostSeats → l .opened ≡ true → (l .standing ≡ 0 → ⊥) → turnedUndoing l ≡ Accepted
 unfolding turnedUndoing turn choose
 undo-accepted l a b c n = rw (a, lt-leb mostSeats (l .seat) b, c, ne-eqb _ _ n)
 
+-- and redo.
 redo-accepted : (l : Look) → l .broken ≡ false → l .seat < mostSeats → l .opened ≡ true → (l .takenBack ≡ 0 → ⊥) → turnedRedoing l ≡ Accepted
 unfolding turnedRedoing turn choose
 redo-accepted l a b c n = rw (a, lt-leb mostSeats (l .seat) b, c, ne-eqb _ _ n)
@@ -41,35 +42,43 @@ step-is : (d : Desk) (c : Call) → answerOf d c ≡ Accepted → step d c ≡ r
 unfolding step accepted choose
 step-is d c e = rw e
 
--- A seat changed and changed back.
+-- A seat changed and changed back is as it was,
 seat-back : (q : Seat) (l : List Pin) (n : ℕ) → l ≡ q .pins → n ≡ q .standing → withPins q l n ≡ q
 seat-back q l n e f = λ i. record { opened = q .opened; job = q .job; pins = e i; standing = f i }
 
+-- and so is the desk.
 desk-back : (d : Desk) (s : ℕ) (r q : Seat) → q ≡ seatOf d s → withSeat (withSeat d s r) s q ≡ d
 desk-back d s r q e =
     let p : set (set (d .seats) s r) s q ≡ d .seats = rw (set-set, e, set-getD) in
     λ i. record { seats = p i; journal = d .journal; used = d .used }
 
 module _ (d : Desk) (s : ℕ) (h : sound d ≡ true) (k : s < mostSeats) (o : seatOf d s .opened ≡ true) where
+  -- The latest standing edit,
   abbrev latest : Edit
   latest = getD (editsOf d s) (seatOf d s .standing - 1) noEdit
 
+  -- and the next to redo.
   abbrev nextOne : Edit
   nextOne = getD (editsOf d s) (seatOf d s .standing) noEdit
 
+  -- The latest can be taken back,
   latest-takeable : (seatOf d s .standing ≡ 0 → ⊥) → takeable (seatOf d s .pins) latest ≡ true
   latest-takeable n = turn-first takeable unmade (seatOf d s .pins) _ _ (rw (latest-first d h s k o n) at (standing-takeable d h s k o))
 
+  -- and the next be made.
   next-makeable : seatOf d s .standing < length (editsOf d s) → makeable (seatOf d s .pins) nextOne ≡ true
   next-makeable b = turn-first makeable made (seatOf d s .pins) _ _ (rw (next-first d h s k o b) at (taken-back-replayable d h s k o))
 
+  -- The seat is one of the desk's.
   low : s < length (d .seats)
   low = omega (arith, eight-seats d h)
 
   module _ (r : Seat) (g : sound (withSeat d s r) ≡ true) where
+    -- The changed seat is there.
     here : seatOf (withSeat d s r) s ≡ r
     here = getD-set-same (d .seats) s r noSeat low
 
+    -- Redo at the changed seat gives the desk before, where making the next edit gives the seat before.
     redo-here : r .opened ≡ true → (length (editsOf d s) - r .standing ≡ 0 → ⊥)
         → withPins r (made (r .pins) (getD (editsOf d s) (r .standing) noEdit)) (r .standing + 1) ≡ seatOf d s
         → step (withSeat d s r) (redoing s) ≡ record { desk = d; verdict = Accepted }
@@ -79,6 +88,7 @@ module _ (d : Desk) (s : ℕ) (h : sound d ≡ true) (k : s < mostSeats) (o : se
         (redo-accepted (lookAt (withSeat d s r) s) (ap not g) k (rw here p) (rw here n))
         ∙ ap (λ (x : Desk). record { desk = x; verdict = Accepted }) (rw here (desk-back d s r _ e))
 
+    -- So does undo, where taking the latest edit back does.
     undo-here : r .opened ≡ true → (r .standing ≡ 0 → ⊥)
         → withPins r (unmade (r .pins) (getD (editsOf d s) (r .standing - 1) noEdit)) (r .standing - 1) ≡ seatOf d s
         → step (withSeat d s r) (undoing s) ≡ record { desk = d; verdict = Accepted }
@@ -88,6 +98,7 @@ module _ (d : Desk) (s : ℕ) (h : sound d ≡ true) (k : s < mostSeats) (o : se
         (undo-accepted (lookAt (withSeat d s r) s) (ap not g) k (rw here p) (rw here n))
         ∙ ap (λ (x : Desk). record { desk = x; verdict = Accepted }) (rw here (desk-back d s r _ e))
 
+  -- An undo, and the redo after it.
   redo-undone : (seatOf d s .standing ≡ 0 → ⊥) → sound (effect d (undoing s)) ≡ true
       → step (effect d (undoing s)) (redoing s) ≡ record { desk = d; verdict = Accepted }
   unfolding effect
@@ -96,6 +107,7 @@ module _ (d : Desk) (s : ℕ) (h : sound d ≡ true) (k : s < mostSeats) (o : se
       redo-here (withPins (seatOf d s) (unmade (seatOf d s .pins) latest) (seatOf d s .standing - 1)) g o (λ e. omega arith)
       (seat-back (seatOf d s) _ _ (made-unmade (seatOf d s .pins) latest (latest-takeable n)) (omega arith))
 
+  -- A redo, and the undo after it.
   undo-redone : seatOf d s .standing < length (editsOf d s) → sound (effect d (redoing s)) ≡ true
       → step (effect d (redoing s)) (undoing s) ≡ record { desk = d; verdict = Accepted }
   unfolding effect

@@ -15,6 +15,7 @@ use Rattle.refusal.specs.declared.Carried.{Carried}
 use Rattle.refusal.specs.declared.Carried.the-variants.{Nothing, Record}
 use Rattle.refusal.proofs.Rows.{Row, firstOf, Given, NoneHolds, refusalAt, Exactly, given-is, none-is, to-first, to-later}
 
+-- By how much the record that a refusal carries raises its rank.
 abbrev carriedIn : Carried → ℕ
 carriedIn Nothing = 0
 carriedIn (Record r) = 4 * r
@@ -28,6 +29,7 @@ unfoldable pub Ascending : ℕ → List Row → Type 0
 Ascending n [] = Unit {0}
 Ascending n (r ∷ rows) = (n < rank (r .refusal)) × Ascending (rank (r .refusal)) rows
 
+-- Rows that stand above a rank stand above any smaller one.
 later-ranks : (n m : ℕ) (rows : List Row) → n ≤ m → Ascending m rows → Ascending n rows
 unfolding Ascending
 later-ranks n m [] h a = tt
@@ -51,10 +53,12 @@ below-first v (r ∷ rows) z y a e =
     by true f k = omega (arith, a .0, ap rank f)
     by false f k = k f
 
+-- Accepted ranks lowest.
 accepted-rank : rank Accepted ≡ 0
 unfolding rank choose
 accepted-rank = refl
 
+-- The answer is the refusal of a row only where that row's condition holds and none before it does,
 only-given : (rows : List Row) (n : ℕ) → Ascending n rows → (i : ℕ) → i < length rows → firstOf rows Accepted ≡ refusalAt rows i → Given rows i
 unfolding firstOf refusalAt Given turn Ascending
 only-given [] n a i h e = absurd (omega arith)
@@ -67,6 +71,7 @@ only-given (r ∷ rows) n a (suc i) h e =
     (λ (f : r .refusal ≡ refusalAt rows i). omega (arith, ap rank f)) e in
     (l .0, only-given rows (rank (r .refusal)) (a .1) i (omega arith) (l .1))
 
+-- and accepted only where none holds.
 only-none : (rows : List Row) (n : ℕ) → Ascending n rows → firstOf rows Accepted ≡ Accepted → NoneHolds rows
 unfolding firstOf NoneHolds turn Ascending
 only-none [] n a e = tt

@@ -1,4 +1,4 @@
--- DEMAND 3: after any calls from the empty desk the desk is sound and is what the history of the calls tells, seat by seat; and every call is
+-- DEMAND 3: after any calls from the empty desk the desk is sound and is as the history of the calls says, seat by seat; and every call is
 -- answered as the history answers it. From Sane, Simulation and Steps; assumes nothing.
 use mathlib.Core.Path.{_≡_, refl}
 use mathlib.Core.Bool.{true}
@@ -11,7 +11,7 @@ use Rattle.desk.specs.declared.Desk.{Desk}
 use Rattle.desk.specs.Calls.{Call}
 use Rattle.desk.specs.Desk.{closedSeat, noSeat, seatOf, editsOf, standingOf, takenBackOf, sound, step, emptyDesk}
 use Rattle.history.specs.History.{Past, closed, isOpen, jobIn, pinsIn, standingIn, takenBackIn, sum, pastOf, usedIn, pastAfter, nothing, history, after, answers, answersIn}
-use Rattle.history.proofs.Sane.{Sane, sane-tell, sane-nothing, sane-history}
+use Rattle.history.proofs.Sane.{Sane, sane-after, sane-nothing, sane-history}
 use Rattle.history.proofs.Simulation.{At, Agrees, used-same, shown-open, shown-job, shown-pins, shown-standing, shown-takenBack}
 use Rattle.history.proofs.Steps.{agrees-sound, step-answer, step-agrees}
 
@@ -26,39 +26,42 @@ agrees-empty =
           record {
             eight = length-replicate mostSeats closedSeat;
             named = refl;
-            told = length-replicate mostSeats closed;
+            pasts = length-replicate mostSeats closed;
             sized = refl;
             at = λ s k. rw (getD-replicate mostSeats s closedSeat noSeat k, getD-replicate mostSeats s closed closed k) (refl, refl);
           };
     }
 
+-- A desk that agrees with a sane history agrees with it after any calls,
 pub agrees-after : (calls : List Call) (d : Desk) (h : List Past) → Agrees d h → Sane h → Agrees (after d calls) (history h calls)
 unfolding after history
 agrees-after [] d h g f = g
-agrees-after (c ∷ calls) d h g f = agrees-after calls (step d c .desk) (pastAfter h c) (step-agrees d h g f c) (sane-tell h f c)
+agrees-after (c ∷ calls) d h g f = agrees-after calls (step d c .desk) (pastAfter h c) (step-agrees d h g f c) (sane-after h f c)
 
+-- and answers them all as the history does.
 pub answers-after : (calls : List Call) (d : Desk) (h : List Past) → Agrees d h → Sane h → answers d calls ≡ answersIn h calls
 unfolding answers answersIn
 answers-after [] d h g f = refl
 answers-after (c ∷ calls) d h g f =
-    rw (step-answer d h g f c, answers-after calls (step d c .desk) (pastAfter h c) (step-agrees d h g f c) (sane-tell h f c))
+    rw (step-answer d h g f c, answers-after calls (step d c .desk) (pastAfter h c) (step-agrees d h g f c) (sane-after h f c))
 
--- A seat is as told: open exactly when told open, then with the job and the pins told; its standing and taken-back edits are those told.
-pub record AsTold (d : Desk) (s : ℕ) (t : Past) : Type 0 where
+-- A seat is as its past: open exactly where that is, then with its job and its pins; the standing and the taken-back edits are its own.
+pub record AsPast (d : Desk) (s : ℕ) (t : Past) : Type 0 where
   pub opened : seatOf d s .opened ≡ isOpen t
   pub job : isOpen t ≡ true → seatOf d s .job ≡ jobIn t
   pub pins : isOpen t ≡ true → seatOf d s .pins ≡ pinsIn t
   pub standing : standingOf d s ≡ standingIn t
   pub takenBack : takenBackOf d s ≡ takenBackIn t
 
--- A desk is as a history tells: sound, every seat as told, the used count the sum over the seats of standing and taken-back edits.
-pub record DeskAsTold (d : Desk) (h : List Past) : Type 0 where
+-- A desk is as a history says: sound, every seat as its past, the used count the sum over the seats of standing and taken-back edits.
+pub record DeskAsPast (d : Desk) (h : List Past) : Type 0 where
   pub unbroken : sound d ≡ true
   pub used : d .used ≡ usedIn h
-  pub seat : (s : ℕ) → s < mostSeats → AsTold d s (pastOf h s)
+  pub seat : (s : ℕ) → s < mostSeats → AsPast d s (pastOf h s)
 
-pub seats-as-told : (d : Desk) (h : List Past) → Agrees d h → Sane h → DeskAsTold d h
-seats-as-told d h g f =
+-- A desk that agrees with a sane history is as that history says.
+pub seats-as-past : (d : Desk) (h : List Past) → Agrees d h → Sane h → DeskAsPast d h
+seats-as-past d h g f =
     record {
       unbroken = agrees-sound d h g f;
       used = used-same d h g;
@@ -73,12 +76,12 @@ seats-as-told d h g f =
           };
     }
 
--- After any calls from the empty desk, the desk is sound and as the history of the calls tells.
-pub desk-as-told : (calls : List Call) → DeskAsTold (after emptyDesk calls) (history nothing calls)
-desk-as-told calls =
-    seats-as-told (after emptyDesk calls) (history nothing calls) (agrees-after calls emptyDesk nothing agrees-empty sane-nothing)
+-- After any calls from the empty desk, the desk is sound and as the history of the calls says.
+pub desk-as-past : (calls : List Call) → DeskAsPast (after emptyDesk calls) (history nothing calls)
+desk-as-past calls =
+    seats-as-past (after emptyDesk calls) (history nothing calls) (agrees-after calls emptyDesk nothing agrees-empty sane-nothing)
     (sane-history calls nothing sane-nothing)
 
 -- Every one of any calls from the empty desk is answered as the history answers it.
-pub answers-as-told : (calls : List Call) → answers emptyDesk calls ≡ answersIn nothing calls
-answers-as-told calls = answers-after calls emptyDesk nothing agrees-empty sane-nothing
+pub answers-as-past : (calls : List Call) → answers emptyDesk calls ≡ answersIn nothing calls
+answers-as-past calls = answers-after calls emptyDesk nothing agrees-empty sane-nothing

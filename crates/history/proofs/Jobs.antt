@@ -11,11 +11,13 @@ use Rattle.refusal.proofs.Tests.{both-left, both-right, both-of, either-false, 
 use Rattle.desk.specs.Refusals.{sameJob, jobAmong}
 use Rattle.desk.specs.Desk.{jobsApart}
 
+-- A test joined with one that does not hold does not hold.
 both-false : (b : Bool) → both b false ≡ false
 unfolding both
 both-false true = refl
 both-false false = refl
 
+-- By whether the two jobs are one.
 turned-by : (i j : ℕ) (b : Bool) → eqb i j ≡ b → sameJob i j ≡ sameJob j i
 unfolding sameJob
 turned-by i j true h = rw (eqb-true i j h)
@@ -31,6 +33,7 @@ unfolding jobAmong sameJob both either
 none-among [] = refl
 none-among (i ∷ l) = none-among l
 
+-- A job that is open nowhere stays so where a seat is opened for another.
 among-set : (j k : ℕ) (l : List ℕ) (s : ℕ) → jobAmong j l ≡ false → sameJob j k ≡ false → jobAmong j (set l s k) ≡ false
 unfolding jobAmong
 among-set j k [] s h e = h

@@ -49,6 +49,7 @@ judged-then : (a b : Bool) (n : ℕ) (x : Reading)
 unfolding firstOf distinct unlike both accepted
 judged-then a b n x = behind (λ (r : Reading). r .verdict) refusedBy (λ v. refl) x (given a (OtherJob n) ∷ given b (FaultyRecord n) ∷ []) refl
 
+-- The six tests of a record are two rows: 14, and 15 for the others.
 judged-is : (job number next : ℕ) (earlier : List Pin) (r : Record)
     → judged job number next earlier r ≡ turn (otherJob job r) (OtherJob number) (turn (faulty next earlier r) (FaultyRecord number) Accepted)
 unfolding judged
@@ -61,6 +62,7 @@ judged-is job number next earlier r =
       one-row (pinAbove r) _ (FaultyRecord number) Accepted,
     ))
 
+-- Reading the records is answered by the first row that applies,
 records-first : (left : ℕ) (map : List ℕ) (job number next : ℕ) (earlier : List Pin)
     → firstOf (recordRows left map job number next earlier) Accepted ≡ readFrom left map job number next earlier .verdict
 unfolding recordRows readFrom firstOf accepted
@@ -73,6 +75,7 @@ records-first (suc left) map job number next earlier =
       records-first left (drop recordSize map) job (number + 1) (recordOf (take recordSize map) .pin + 1) (withPinOf earlier (recordOf (take recordSize map))),
     )
 
+-- with 13 before them all.
 length-first : (b : Bool) (x : Reading) (w : Verdict) → w ≡ x .verdict → turn b MapLength w ≡ choose b (refusedBy MapLength) x .verdict
 unfolding turn choose
 length-first true x w e = refl
@@ -83,7 +86,7 @@ pub map-first : (map : List ℕ) (job : ℕ) → firstOf (mapRows map job) Accep
 unfolding readMap firstOf
 map-first map job = length-first (wrongLength map) _ _ (records-first (length map / recordSize) map job 0 0 noPins)
 
--- The rows stand in ascending rank.
+-- The rows of the records stand in ascending rank,
 records-ascend : (left : ℕ) (map : List ℕ) (job number next : ℕ) (earlier : List Pin) (n : ℕ) → n < 28 + 4 * number
     → Ascending n (recordRows left map job number next earlier)
 unfolding recordRows Ascending rank choose
@@ -91,6 +94,7 @@ records-ascend zero map job number next earlier n h = tt
 records-ascend (suc left) map job number next earlier n h =
     (h, (omega arith, records-ascend left (drop recordSize map) job (number + 1) _ _ _ (omega arith)))
 
+-- and so do those of the whole map.
 pub map-ascends : (map : List ℕ) (job n : ℕ) → n < 26 → Ascending n (mapRows map job)
 unfolding Ascending rank choose
 map-ascends map job n h = (h, records-ascend (length map / recordSize) map job 0 0 noPins 26 (omega arith))

@@ -35,10 +35,12 @@ abbrev pub bytesFrom : Desk → ℕ → List ℕ → List ℕ
 bytesFrom d s buffer = take (writtenOf d s buffer .bytes) (bufferOf d s buffer)
 
 module _ (d : Desk) (s : ℕ) (buffer : List ℕ) (z : accepted (writtenOf d s buffer .verdict) ≡ true) where
+  -- An accepted writing says how long the seat's map is,
   bytes-are : writtenOf d s buffer .bytes ≡ length (mapOf (seatOf d s .job) (seatOf d s .pins))
   unfolding writtenOf
   bytes-are = choose-yes _ _ z
 
+  -- and the buffer begins with that map.
   buffer-is : bufferOf d s buffer ≡ mapOf (seatOf d s .job) (seatOf d s .pins) ++ drop (length (mapOf (seatOf d s .job) (seatOf d s .pins))) buffer
   unfolding writtenOf bufferOf written
   buffer-is = choose-yes _ _ z

@@ -7,7 +7,7 @@ use Prim.Native.Nat.{ℕ, zero, suc, _<_}
 use native.Mathlib.Omega.{arith}
 use borrow.Author.Tests.{not-false, eqb-true, eqb-false}
 use lib.Dec.{eqb}
-use lib.ListN.{length, replicate, take, drop, getD, set, drop-of-length-le}
+use lib.ListN.{length, replicate, take, drop, getD, set}
 use lib.Seq.{getD-set-same}
 use Rattle.refusal.specs.Tests.{both, choose}
 use Rattle.refusal.specs.Refusals.{accepted}
@@ -15,6 +15,7 @@ use Rattle.drawing.specs.declared.Pin.{Pin}
 use Rattle.drawing.specs.declared.Edit.{Edit}
 use Rattle.pinmap.specs.Map.{readMap}
 use Rattle.journal.specs.Journal.{mostSeats, own, kept}
+use Rattle.pinmap.proofs.Back.{none-there}
 use Rattle.journal.proofs.Own.{own-kept}
 use Rattle.journal.proofs.Filled.{take-filled}
 use Rattle.seats.specs.declared.Seat.{Seat}
@@ -43,12 +44,14 @@ module _ {A : Type 0} (part : Desk → ℕ → A) (a : A) (these : Call → Bool
     (alike : (d e : Desk) (s : ℕ) → Untouched d e s → part e s ≡ part d s)
     (keeps : (d : Desk) (c : Call) → part d (seatIn c) ≡ a → accepted (step d c .verdict) ≡ true → these c ≡ false
     → part (step d c .desk) (seatIn c) ≡ a) where
+  -- At the seat that the call names,
   stays-here : (d : Desk) (c : Call) (b : Bool) → accepted (step d c .verdict) ≡ b → part d (seatIn c) ≡ a → both b (these c) ≡ false
       → part (step d c .desk) (seatIn c) ≡ a
   unfolding both
   stays-here d c true z p n = keeps d c p z n
   stays-here d c false z p n = ap (λ (x : Desk). part x (seatIn c)) (refused-leaves-the-desk d c z) ∙ p
 
+  -- and at any seat, one call keeps it,
   stays-by : (d : Desk) (c : Call) (s : ℕ) (b : Bool) → eqb s (seatIn c) ≡ b → part d s ≡ a
       → both b (both (accepted (step d c .verdict)) (these c)) ≡ false → part (step d c .desk) s ≡ a
   unfolding both
@@ -57,6 +60,7 @@ module _ {A : Type 0} (part : Desk → ℕ → A) (a : A) (these : Call → Bool
       rw e (stays-here d c (accepted (step d c .verdict)) refl (rw e at p) n)
   stays-by d c s false h p n = alike d (step d c .desk) s (other-seats-untouched d c s (eqb-false s (seatIn c) h)) ∙ p
 
+  -- and so do all of them.
   pub stays : (calls : List Call) (d : Desk) (s : ℕ) → part d s ≡ a → NoneAt these d s calls → part (after d calls) s ≡ a
   unfolding NoneAt after
   stays [] d s p n = p
@@ -64,6 +68,7 @@ module _ {A : Type 0} (part : Desk → ℕ → A) (a : A) (these : Call → Bool
 
 -- ---- the calls
 
+-- The call is an opening.
 abbrev pub isOpening : Call → Bool
 isOpening (opening t job map) = true
 isOpening (closing t) = false
@@ -75,6 +80,7 @@ isOpening (redoing t) = false
 isOpening (writing t room) = false
 isOpening (wiring t room) = false
 
+-- The call is a closing.
 abbrev pub isClosing : Call → Bool
 isClosing (opening t job map) = false
 isClosing (closing t) = true
@@ -86,7 +92,7 @@ isClosing (redoing t) = false
 isClosing (writing t room) = false
 isClosing (wiring t room) = false
 
--- An edit (placing, moving, removing) or closing.
+-- The call is an edit (placing, moving, removing) or a closing.
 abbrev pub isEditOrClosing : Call → Bool
 isEditOrClosing (opening t job map) = false
 isEditOrClosing (closing t) = true
@@ -117,13 +123,16 @@ abbrev openFor : Seat → Bool × ℕ
 openFor q = (q .opened, q .job)
 
 module _ (d : Desk) (c : Call) (z : accepted (step d c .verdict) ≡ true) where
+  -- Its own seat is what its effect leaves there,
   here-is : seatOf (step d c .desk) (seatIn c) ≡ seatOf (effect d c) (seatIn c)
   here-is = ap (λ (x : Desk). seatOf x (seatIn c)) (accepted-takes-effect d c z)
 
+  -- and where only pins and the number of standing edits change, it stays open for its job.
   same-job : (l : List Pin) (n : ℕ) → effect d c .seats ≡ set (d .seats) (seatIn c) (withPins (seatOf d (seatIn c)) l n)
       → openFor (seatOf (step d c .desk) (seatIn c)) ≡ openFor (seatOf d (seatIn c))
   same-job l n e = ap openFor (here-is ∙ ap (λ (x : List Seat). getD x (seatIn c) noSeat) e) ∙ part-set openFor (d .seats) (seatIn c) _ refl
 
+-- No accepted call but closing changes that.
 keeps-open : (job : ℕ) (d : Desk) (c : Call) → openFor (seatOf d (seatIn c)) ≡ (true, job) → accepted (step d c .verdict) ≡ true → isClosing c ≡ false
     → openFor (seatOf (step d c .desk) (seatIn c)) ≡ (true, job)
 unfolding effect edited
@@ -179,6 +188,7 @@ same-until-edit calls d s o m e n =
 
 -- ---- closed until an opening
 
+-- At a closed seat no call but opening is accepted.
 keeps-closed : (d : Desk) (c : Call) → seatOf d (seatIn c) .opened ≡ false → accepted (step d c .verdict) ≡ true → isOpening c ≡ false
     → seatOf (step d c .desk) (seatIn c) .opened ≡ false
 unfolding step answerOf verdictOf
@@ -200,10 +210,8 @@ closed-until-opening calls d s o n =
 
 -- ---- opening and closing
 
-pub nil-of : (l : List Edit) → length l ≡ 0 → l ≡ []
-nil-of l h = drop-of-length-le l {i = 0} (omega arith)
-
 module _ (d : Desk) (s job : ℕ) (map : List ℕ) (z : accepted (step d (opening s job map) .verdict) ≡ true) where
+  -- What the opening has passed.
   opens-here : Opens (lookAt d s) job map
   unfolding step answerOf verdictOf
   opens-here = opens (lookAt d s) job map z
@@ -225,7 +233,7 @@ module _ (d : Desk) (s job : ℕ) (map : List ℕ) (z : accepted (step d (openin
   unfolding effect
   opened-without-edits =
       ap (λ (x : Desk). editsOf x s) (accepted-takes-effect d (opening s job map) z)
-      ∙ nil-of (editsOf d s) (closed-owns-none d (not-false _ (opens-here .unbroken)) s (opens-here .low) (opens-here .shown))
+      ∙ none-there (editsOf d s) (closed-owns-none d (not-false _ (opens-here .unbroken)) s (opens-here .low) (opens-here .shown))
 
   -- none stands, and none is taken back.
   pub opened-anew : (standingOf (step d (opening s job map) .desk) s ≡ []) × (takenBackOf (step d (opening s job map) .desk) s ≡ [])
@@ -252,6 +260,7 @@ unfoldable pub JobsFit : List Call → Type 0
 JobsFit [] = Unit {0}
 JobsFit (c ∷ calls) = ((t job : ℕ) (map : List ℕ) → c ≡ opening t job map → job < 65536) × JobsFit calls
 
+-- Jobs of two bytes stay so with one seat changed,
 job-set : (l : List Seat) (s : ℕ) (q : Seat) → q .job < 65536 → ((t : ℕ) → getD l t noSeat .job < 65536) → (t : ℕ) → getD (set l s q) t noSeat .job < 65536
 job-set [] s q j h t = h t
 job-set (r ∷ l) zero q j h zero = j
@@ -259,6 +268,7 @@ job-set (r ∷ l) zero q j h (suc t) = h (suc t)
 job-set (r ∷ l) (suc s) q j h zero = h zero
 job-set (r ∷ l) (suc s) q j h (suc t) = job-set l s q j (λ u. h (suc u)) t
 
+-- by what a call makes of the desk,
 job-effect : (d : Desk) (c : Call) → ((t job : ℕ) (map : List ℕ) → c ≡ opening t job map → job < 65536)
     → ((t : ℕ) → seatOf d t .job < 65536) → (t : ℕ) → seatOf (effect d c) t .job < 65536
 unfolding effect edited
@@ -272,18 +282,21 @@ job-effect d (redoing s) j h = job-set (d .seats) s _ (h s) h
 job-effect d (writing s room) j h = h
 job-effect d (wiring s room) j h = h
 
+-- accepted or not,
 job-by : (b : Bool) (d e : Desk) → ((t : ℕ) → seatOf d t .job < 65536) → ((t : ℕ) → seatOf e t .job < 65536)
     → (t : ℕ) → seatOf (choose b e d) t .job < 65536
 unfolding choose
 job-by true d e h k = k
 job-by false d e h k = h
 
+-- and after all of the calls.
 job-after : (calls : List Call) (d : Desk) → JobsFit calls → ((t : ℕ) → seatOf d t .job < 65536) → (t : ℕ) → seatOf (after d calls) t .job < 65536
 unfolding JobsFit after step
 job-after [] d j h = h
 job-after (c ∷ calls) d j h =
     job-after calls (step d c .desk) (j .1) (job-by (accepted (answerOf d c)) d (effect d c) h (job-effect d c (j .0) h))
 
+-- A closed seat has job 0.
 no-job : (n t : ℕ) → getD (replicate n closedSeat) t noSeat .job ≡ 0
 no-job zero t = refl
 no-job (suc n) zero = refl

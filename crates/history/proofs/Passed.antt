@@ -38,6 +38,7 @@ pub record Reached (l : Look) : Type 0 where
   pub low : l .seat < mostSeats
   pub shown : l .opened ≡ true
 
+-- A call that is accepted behind these rows has passed them, and its later rows accept.
 reached : (l : Look) (w : Verdict) → accepted (turn (l .broken) DeskBroken (turn (seatAbove l) SeatAbove (turn (not (l .opened)) NotOpen w))) ≡ true
     → Reached l × (accepted w ≡ true)
 reached l w e =
@@ -55,6 +56,7 @@ pub record Opens (l : Look) (job : ℕ) (map : List ℕ) : Type 0 where
   pub fresh : jobAmong job (l .jobs) ≡ false
   pub read : accepted (readMap map job .verdict) ≡ true
 
+-- So it is with every accepted opening.
 pub opens : (l : Look) (job : ℕ) (map : List ℕ) → accepted (turnedOpening l job map) ≡ true → Opens l job map
 unfolding turnedOpening
 opens l job map e =
@@ -72,6 +74,7 @@ opens l job map e =
       read = f .1;
     }
 
+-- An accepted closing reaches an open seat.
 pub closes : (l : Look) → accepted (turnedClosing l) ≡ true → Reached l
 unfolding turnedClosing
 closes l e = reached l _ e .0
@@ -82,6 +85,7 @@ pub record Enters (l : Look) (e : Edit) : Type 0 where
   pub fits : makeable (l .pins) e ≡ true
   pub room : full l ≡ false
 
+-- An accepted placing is such an edit.
 pub places : (l : Look) (p : ℕ) (at : Place) → accepted (turnedPlacing l p at) ≡ true → Enters l (placed p at)
 unfolding turnedPlacing
 places l p at e =
@@ -102,10 +106,12 @@ stand-held : (s : Stand) → thereIn s ≡ true → s ≡ There (heldIn s)
 stand-held Absent e = cc
 stand-held (There h) e = refl
 
+-- So is the pin itself.
 pin-held : (q : Pin) → isThere q ≡ true → q ≡ there (heldBy q)
 unfolding isThere heldBy
 pin-held q e = let p : q .stand ≡ There (heldIn (q .stand)) = stand-held (q .stand) e in λ i. record { stand = p i }
 
+-- A pin that does not stand at a place holds another one.
 stand-elsewhere : (s : Stand) (at : Place) → thereIn s ≡ true → standsIn s at ≡ false → samePlace (heldIn s .place) at ≡ false
 stand-elsewhere Absent at e n = cc
 stand-elsewhere (There h) at e n = n
@@ -118,6 +124,7 @@ pin-elsewhere q at e n = stand-elsewhere (q .stand) at e n
 is-there : (l : Look) (p : ℕ) → notThere l p ≡ false → (p < mostPins) × (isThere (pinAt l p) ≡ true)
 is-there l p e = (leb-false mostPins p (either-false (leb mostPins p) _ e .0), not-false _ (either-false (leb mostPins p) _ e .1))
 
+-- An accepted move is such an edit,
 pub moves : (l : Look) (p : ℕ) (at : Place) → accepted (turnedMoving l p at) ≡ true → Enters l (moved (l .pins) p at)
 unfolding turnedMoving
 moves l p at e =
@@ -137,6 +144,7 @@ moves l p at e =
       room = f .0;
     }
 
+-- and so is an accepted removal.
 pub removes : (l : Look) (p : ℕ) → accepted (turnedRemoving l p) ≡ true → Enters l (removed (l .pins) p)
 unfolding turnedRemoving
 removes l p e =
@@ -150,11 +158,12 @@ removes l p e =
       room = c .0;
     }
 
--- An accepted undo finds a standing edit, an accepted redo one taken back.
+-- An accepted undo finds a standing edit,
 pub undoes : (l : Look) → accepted (turnedUndoing l) ≡ true → Reached l × (l .standing ≡ 0 → ⊥)
 unfolding turnedUndoing
 undoes l e = let a = reached l _ e in (a .0, eqb-false _ _ (row _ _ _ (a .1) refl .0))
 
+-- and an accepted redo one taken back.
 pub redoes : (l : Look) → accepted (turnedRedoing l) ≡ true → Reached l × (l .takenBack ≡ 0 → ⊥)
 unfolding turnedRedoing
 redoes l e = let a = reached l _ e in (a .0, eqb-false _ _ (row _ _ _ (a .1) refl .0))

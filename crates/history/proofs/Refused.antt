@@ -11,6 +11,7 @@ use lib.Dec.{eqb, leb, ltb}
 use lib.ListN.{length}
 use Rattle.refusal.specs.Tests.{both, either, choose}
 use Rattle.refusal.specs.Refusals.{accepted}
+use Rattle.refusal.specs.declared.Verdict.{Verdict}
 use Rattle.refusal.specs.declared.Verdict.the-variants.{Accepted, SeatAbove, NotOpen, OpenAlready, JobZero, JobElsewhere, NoSuchPin, PinThere, Outside, PlaceTaken, NothingStands, NothingTakenBack, JournalFull, RoomTooSmall, DeskBroken}
 use Rattle.refusal.proofs.Rows.{Row, firstOf, Given, NoneHolds, refusalAt, unlike, distinct, Exactly, exactly, given, numberOf, unlike-first}
 use Rattle.grid.specs.declared.Place.{Place}
@@ -27,7 +28,7 @@ use Rattle.desk.specs.Desk.{sound, lookAt, answerOf, step, emptyDesk}
 use Rattle.history.specs.History.{after}
 use Rattle.history.proofs.Ascending.{rank, Ascending, exactly-ascending}
 use Rattle.history.proofs.MapRows.{mapRows, map-first, map-ascends}
-use Rattle.history.proofs.Demand.{desk-as-told}
+use Rattle.history.proofs.Demand.{desk-as-past}
 
 -- The desk can take a job at a seat: 28, 1, 3, 4, 5.
 abbrev pub takingRows : Look → ℕ → List Row
@@ -113,6 +114,7 @@ writingRows l room =
 abbrev pub wiringRows : Look → ℕ → List Row
 wiringRows l room = closingRows l ++ feedRows (feedOf (l .pins)) room
 
+-- Opening's rows stand in ascending rank.
 opening-ascends : (l : Look) (job : ℕ) (map : List ℕ) → Ascending 0 (openingRows l job map)
 unfolding Ascending rank choose
 opening-ascends l job map = (omega arith, (omega arith, (omega arith, (omega arith, (omega arith, map-ascends map job 10 (omega arith))))))
@@ -174,6 +176,7 @@ rowsOf l (redoing s) = redoingRows l
 rowsOf l (writing s room) = writingRows l room
 rowsOf l (wiring s room) = wiringRows l room
 
+-- So are those of any call.
 exactly-verdict : (l : Look) (c : Call) → Exactly (rowsOf l c) Accepted (verdictOf l c)
 unfolding verdictOf
 exactly-verdict l (opening s job map) = exactly-opening l job map
@@ -210,19 +213,21 @@ no-other-refusal d c =
     let x : Exactly (rowsOf (lookAt d (seatIn c)) c) Accepted (step d c .verdict) = each-refusal-exactly d c in
     ⊎-elim (λ g. inl (g .0, g .1, x .refused (g .0) (g .1) .1 (g .2))) (λ n. inr (x .passes .1 n)) (one-or-none (rowsOf (lookAt d (seatIn c)) c))
 
--- Undo and redo never need a further record: neither is refused with 12.
-never-full : (rows : List Row) → unlike JournalFull rows ≡ true → firstOf rows Accepted ≡ JournalFull → ⊥
-never-full rows u e = unlike-first JournalFull rows Accepted u (λ (f : JournalFull ≡ Accepted). omega (arith, ap numberOf f)) (sym e)
+-- A refusal that is none of the rows' is never given.
+pub never-given : (v : Verdict) (rows : List Row) → 0 < numberOf v → unlike v rows ≡ true → firstOf rows Accepted ≡ v → ⊥
+never-given v rows z u e = unlike-first v rows Accepted u (λ (f : v ≡ Accepted). omega (arith, ap numberOf f)) (sym e)
 
+-- Undo never needs a further record: it is not refused with 12,
 pub undo-never-full : (d : Desk) (s : ℕ) → step d (undoing s) .verdict ≡ JournalFull → ⊥
 unfolding step answerOf verdictOf turnedUndoing firstOf unlike both
-undo-never-full d s e = never-full (undoingRows (lookAt d s)) refl e
+undo-never-full d s e = never-given JournalFull (undoingRows (lookAt d s)) (omega arith) refl e
 
+-- nor is redo.
 pub redo-never-full : (d : Desk) (s : ℕ) → step d (redoing s) .verdict ≡ JournalFull → ⊥
 unfolding step answerOf verdictOf turnedRedoing firstOf unlike both
-redo-never-full d s e = never-full (redoingRows (lookAt d s)) refl e
+redo-never-full d s e = never-given JournalFull (redoingRows (lookAt d s)) (omega arith) refl e
 
--- 28 comes first: a broken desk is answered 28 by every call, and a sound one by none.
+-- 28 comes first in the rows of every call.
 broken-given : (d : Desk) (c : Call) → (step d c .verdict ≡ DeskBroken) ↔ (not (sound d) ≡ true)
 unfolding refusalAt Given
 broken-given d (opening s job map) = each-refusal-exactly d (opening s job map) .refused 0 (omega arith)
@@ -235,10 +240,11 @@ broken-given d (redoing s) = each-refusal-exactly d (redoing s) .refused 0 (omeg
 broken-given d (writing s room) = each-refusal-exactly d (writing s room) .refused 0 (omega arith)
 broken-given d (wiring s room) = each-refusal-exactly d (wiring s room) .refused 0 (omega arith)
 
+-- A broken desk is answered 28 by every call, and a sound one by none.
 pub broken-exactly : (d : Desk) (c : Call) → (step d c .verdict ≡ DeskBroken) ↔ (sound d ≡ false)
 broken-exactly d c = (λ e. not-true _ (broken-given d c .0 e), λ e. broken-given d c .1 (ap not e))
 
 -- After any calls from the empty desk no call is answered 28.
 pub never-broken : (calls : List Call) (c : Call) → step (after emptyDesk calls) c .verdict ≡ DeskBroken → ⊥
 never-broken calls c e =
-    true≢false (sym (desk-as-told calls .unbroken) ∙ broken-exactly (after emptyDesk calls) c .0 e)
+    true≢false (sym (desk-as-past calls .unbroken) ∙ broken-exactly (after emptyDesk calls) c .0 e)

@@ -1,12 +1,12 @@
 -- What every history keeps: jobs are set and not repeated, openings keep the rules, and every edit could be made in its turn.
 -- From what an accepted call has passed; assumes nothing.
-use mathlib.Core.Path.{_≡_, refl, ap, _∙_}
+use mathlib.Core.Path.{_≡_, refl, _∙_}
 use mathlib.Core.Bool.{Bool, true, false}
 use mathlib.Core.List.{List, [], _∷_, map}
 use mathlib.Core.Logic.{⊎-elim}
-use Prim.Native.Nat.{ℕ, zero, suc, _<_}
+use Prim.Native.Nat.{ℕ, _<_}
 use native.Mathlib.Omega.{arith}
-use lib.ListN.{length, getD, set, replicate, length-set, length-replicate}
+use lib.ListN.{length, set, length-set, length-replicate}
 use lib.Seq.{getD-set-same, getD-set-other, map-set-same}
 use Rattle.refusal.specs.Tests.{both, either, choose}
 use Rattle.refusal.specs.Refusals.{accepted}
@@ -15,8 +15,10 @@ use Rattle.drawing.specs.declared.Pin.{Pin}
 use Rattle.drawing.specs.declared.Edit.{Edit}
 use Rattle.drawing.specs.Pins.{lawful}
 use Rattle.drawing.specs.Edits.{makeable, made, placed, moved, removed}
+use Rattle.drawing.proofs.Rules.{map-set}
+use Rattle.pinmap.proofs.Opening.{alike}
 use Rattle.pinmap.proofs.RoundTrip.{read-lawful}
-use Rattle.journal.specs.Journal.{mostSeats, replayable}
+use Rattle.journal.specs.Journal.{mostSeats, makeableAll}
 use Rattle.journal.proofs.Turns.{turn-nil, turn-first, turn-rest, turn-cons}
 use Rattle.desk.specs.Calls.{Call, seatIn, opening, closing, placing, moving, removing, undoing, redoing, writing, wiring}
 use Rattle.desk.specs.Refusals.{sameJob, jobAmong, verdictOf}
@@ -31,12 +33,14 @@ pub record Drawn (job : ℕ) (first : List Pin) (standing takenBack : List Edit)
   pub numbered : job ≡ 0 → ⊥
   pub start : lawful first ≡ true
   pub stands : stood first standing
-  pub redoes : replayable (pinsBy first standing) takenBack ≡ true
+  pub redoes : makeableAll (pinsBy first standing) takenBack ≡ true
 
+-- What a past keeps: nothing where the seat is closed.
 unfoldable pub sane : Past → Type 0
 sane closed = Unit {0}
 sane (opened job first standing takenBack) = Drawn job first standing takenBack
 
+-- What a history keeps: a past for each seat, each of them sane, and no job repeated.
 pub record Sane (h : List Past) : Type 0 where
   pub eight : length h ≡ mostSeats
   pub each : (s : ℕ) → sane (pastOf h s)
@@ -44,12 +48,14 @@ pub record Sane (h : List Past) : Type 0 where
 
 -- ---- one seat
 
+-- A new edit that can be made keeps a past sane,
 sane-anew : (e : Edit) (t : Past) → sane t → makeable (pinsIn t) e ≡ true → sane (anew e t)
 unfolding sane anew stood
 sane-anew e closed g m = tt
 sane-anew e (opened job first standing takenBack) g m =
     record { numbered = g .numbered; start = g .start; stands = (m, g .stands); redoes = turn-nil makeable made _ }
 
+-- and so does undo,
 sane-undone : (t : Past) → sane t → sane (undone t)
 unfolding sane undone stood pinsBy
 sane-undone closed g = tt
@@ -62,6 +68,7 @@ sane-undone (opened job first (e ∷ standing) takenBack) g =
       redoes = turn-cons makeable made (pinsBy first standing) e takenBack (g .stands .0) (g .redoes);
     }
 
+-- and redo.
 sane-redone : (t : Past) → sane t → sane (redone t)
 unfolding sane redone stood pinsBy
 sane-redone closed g = tt
@@ -74,17 +81,20 @@ sane-redone (opened job first standing (e ∷ takenBack)) g =
       redoes = turn-rest makeable made (pinsBy first standing) e takenBack (g .redoes);
     }
 
+-- A new edit changes no job,
 pub job-anew : (e : Edit) (t : Past) → jobIn (anew e t) ≡ jobIn t
 unfolding anew
 job-anew e closed = refl
 job-anew e (opened job first standing takenBack) = refl
 
+-- nor does undo,
 pub job-undone : (t : Past) → jobIn (undone t) ≡ jobIn t
 unfolding undone
 job-undone closed = refl
 job-undone (opened job first [] takenBack) = refl
 job-undone (opened job first (e ∷ standing) takenBack) = refl
 
+-- nor redo.
 pub job-redone : (t : Past) → jobIn (redone t) ≡ jobIn t
 unfolding redone
 job-redone closed = refl
@@ -92,11 +102,6 @@ job-redone (opened job first standing []) = refl
 job-redone (opened job first standing (e ∷ takenBack)) = refl
 
 -- ---- one call
-
-pub map-set : {A B : Type 0} (f : A → B) (l : List A) (s : ℕ) (a : A) → map f (set l s a) ≡ set (map f l) s (f a)
-map-set f [] s a = refl
-map-set f (r ∷ l) zero a = refl
-map-set f (r ∷ l) (suc s) a = ap (λ (m : List _). f r ∷ m) (map-set f l s a)
 
 module _ (h : List Past) (g : Sane h) where
   -- What the call makes of its own seat.
@@ -113,12 +118,15 @@ module _ (h : List Past) (g : Sane h) where
   sane-next (writing s room) z = g .each s
   sane-next (wiring s room) z = g .each s
 
+  -- A seat that keeps its job repeats none,
   jobs-kept : (s : ℕ) (t : Past) → jobIn t ≡ jobIn (pastOf h s) → jobsApart (map jobIn (set h s t)) ≡ true
   jobs-kept s t e = rw (map-set-same jobIn h s t closed e) (g .jobs)
 
+  -- nor does one with a job that is open nowhere.
   jobs-set : (s : ℕ) (t : Past) → jobAmong (jobIn t) (map jobIn h) ≡ false → jobsApart (map jobIn (set h s t)) ≡ true
   jobs-set s t e = rw (map-set jobIn h s t) (apart-set (jobIn t) (map jobIn h) s (g .jobs) e)
 
+  -- So no accepted call makes a job repeat,
   jobs-next : (c : Call) → accepted (answerIn h c) ≡ true → jobsApart (map jobIn (set h (seatIn c) (next c (pastOf h (seatIn c))))) ≡ true
   unfolding next answerIn verdictOf
   jobs-next (opening s job map) z = jobs-set s _ (opens (lookIn h s) job map z .fresh)
@@ -131,6 +139,7 @@ module _ (h : List Past) (g : Sane h) where
   jobs-next (writing s room) z = jobs-kept s _ refl
   jobs-next (wiring s room) z = jobs-kept s _ refl
 
+  -- and every past is sane after it.
   each-next : (c : Call) → accepted (answerIn h c) ≡ true → seatIn c < mostSeats → (t : ℕ)
       → sane (pastOf (set h (seatIn c) (next c (pastOf h (seatIn c)))) t)
   each-next c z k t =
@@ -140,33 +149,31 @@ module _ (h : List Past) (g : Sane h) where
       (λ (d : t ≡ seatIn c → ⊥). rw (getD-set-other h (seatIn c) t (next c (pastOf h (seatIn c))) closed d) (g .each t))
       (same-or-not t (seatIn c))
 
+  -- An accepted call names one of the eight seats.
   low : (c : Call) → accepted (answerIn h c) ≡ true → seatIn c < mostSeats
   unfolding answerIn
   low c z = seat-low (lookIn h (seatIn c)) c z
 
+  -- So an accepted call keeps the history sane; a refused one leaves it as it is.
   sane-by : (c : Call) (b : Bool) → accepted (answerIn h c) ≡ b → Sane (choose b (set h (seatIn c) (next c (pastOf h (seatIn c)))) h)
   unfolding choose
   sane-by c true z = record { eight = length-set h (seatIn c) _ ∙ g .eight; each = λ t. each-next c z (low c z) t; jobs = jobs-next c z }
   sane-by c false z = g
 
   -- A call keeps a history sane.
-  pub sane-tell : (c : Call) → Sane (pastAfter h c)
+  pub sane-after : (c : Call) → Sane (pastAfter h c)
   unfolding pastAfter
-  sane-tell c = sane-by c (accepted (answerIn h c)) refl
+  sane-after c = sane-by c (accepted (answerIn h c)) refl
 
 -- ---- any calls
 
-shut-at : (n s : ℕ) → getD (replicate n closed) s closed ≡ closed
-shut-at zero s = refl
-shut-at (suc n) zero = refl
-shut-at (suc n) (suc s) = shut-at n s
-
+-- Before any call the history is sane.
 pub sane-nothing : Sane nothing
 unfolding sane jobsApart jobAmong sameJob both either
-sane-nothing = record { eight = length-replicate mostSeats closed; each = λ s. rw (shut-at mostSeats s) tt; jobs = refl }
+sane-nothing = record { eight = length-replicate mostSeats closed; each = λ s. rw (alike mostSeats s closed) tt; jobs = refl }
 
 -- Any calls keep a history sane.
 pub sane-history : (calls : List Call) (h : List Past) → Sane h → Sane (history h calls)
 unfolding history
 sane-history [] h g = g
-sane-history (c ∷ calls) h g = sane-history calls (pastAfter h c) (sane-tell h g c)
+sane-history (c ∷ calls) h g = sane-history calls (pastAfter h c) (sane-after h g c)

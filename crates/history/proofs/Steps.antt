@@ -30,19 +30,22 @@ use Rattle.history.specs.History.{Past, closed, opened, pinsBy, isOpen, 
 use Rattle.history.proofs.Passed.{Enters, opens, closes, places, moves, removes, undoes, redoes}
 use Rattle.history.proofs.Stood.{stood, stood-lawful, stood-takeable}
 use Rattle.history.proofs.Sane.{sane, Sane}
-use Rattle.history.proofs.Simulation.{At, Agrees, zip-at, standing-kept, shown-open, shown-job, shown-pins, shown-count, shown-standing, shown-takenBack, shown-length, agrees-seat, agrees-records, used-in-use, jobs-same, used-same}
+use Rattle.history.proofs.Simulation.{At, Agrees, zip-take, zip-at, shown-open, shown-job, shown-pins, shown-count, shown-standing, shown-takenBack, shown-length, agrees-seat, agrees-records, used-in-use, jobs-same, used-same}
 
 -- ---- one seat after each call
 
+-- A closed seat that is opened holds the past of an opening,
 at-opened : (q : Seat) (l : List Edit) (t : Past) (job : ℕ) (p : List Pin) → At q l t → isOpen t ≡ false → At (openSeat job p) l (opened job p [] [])
 unfolding At pinsBy
 at-opened q l closed job p a o = record { shown = refl; job = refl; pins = refl; count = refl; edits = a .1 }
 at-opened q l (opened i first standing takenBack) job p a o = absurd (true≢false o)
 
+-- which has as many edits as before: none.
 edits-opened : (t : Past) → isOpen t ≡ false → 0 ≡ editsIn t
 edits-opened closed o = refl
 edits-opened (opened i first standing takenBack) o = cc
 
+-- A new edit stands: the seat holds its past with that edit,
 at-anew : (e : Edit) (q : Seat) (l : List Edit) (t : Past) → At q l t → isOpen t ≡ true
     → At (withPins q (made (q .pins) e) (q .standing + 1)) (take (q .standing) l ++ (e ∷ [])) (anew e t)
 unfolding At anew pinsBy
@@ -53,14 +56,16 @@ at-anew e q l (opened job first standing takenBack) a o =
       job = a .job;
       pins = rw (a .pins);
       count = omega (arith, a .count);
-      edits = rw (standing-kept q l standing takenBack _ _ a) (sym (reverseAux-eq standing (e ∷ [])));
+      edits = rw (zip-take l standing takenBack (q .standing) (a .edits) (a .count)) (sym (reverseAux-eq standing (e ∷ [])));
     }
 
+-- which has one edit more, and none of those taken back.
 edits-anew : (e : Edit) (t : Past) → isOpen t ≡ true → editsIn (anew e t) + length (takenBackIn t) ≡ editsIn t + 1
 unfolding anew
 edits-anew e closed o = cc
 edits-anew e (opened job first standing takenBack) o = omega arith
 
+-- Undo takes back the latest standing edit: the seat holds its past undone,
 at-undone : (q : Seat) (l : List Edit) (t : Past) → At q l t → sane t → (length (standingIn t) ≡ 0 → ⊥)
     → At (withPins q (unmade (q .pins) (getD l (q .standing - 1) noEdit)) (q .standing - 1)) l (undone t)
 unfolding At sane undone stood pinsBy
@@ -76,12 +81,14 @@ at-undone q l (opened job first (e ∷ standing) takenBack) a g n =
       edits = a .edits;
     }
 
+-- which has as many edits as before.
 edits-undone : (t : Past) → editsIn (undone t) ≡ editsIn t
 unfolding undone
 edits-undone closed = refl
 edits-undone (opened job first [] takenBack) = refl
 edits-undone (opened job first (e ∷ standing) takenBack) = omega arith
 
+-- Redo makes the most recently taken-back edit again: the seat holds its past redone,
 at-redone : (q : Seat) (l : List Edit) (t : Past) → At q l t → (length (takenBackIn t) ≡ 0 → ⊥)
     → At (withPins q (made (q .pins) (getD l (q .standing) noEdit)) (q .standing + 1)) l (redone t)
 unfolding At redone pinsBy
@@ -96,48 +103,48 @@ at-redone q l (opened job first standing (e ∷ takenBack)) a n =
       edits = a .edits;
     }
 
+-- which has as many edits as before.
 edits-redone : (t : Past) → editsIn (redone t) ≡ editsIn t
 unfolding redone
 edits-redone closed = refl
 edits-redone (opened job first standing []) = refl
 edits-redone (opened job first standing (e ∷ takenBack)) = omega arith
 
-at-shut : (l : List Edit) → l ≡ [] → At closedSeat l closed
+-- A closed seat without records holds a closed past.
+at-closed : (l : List Edit) → l ≡ [] → At closedSeat l closed
 unfolding At
-at-shut l e = (refl, e)
+at-closed l e = (refl, e)
 
 -- ---- such a desk is sound
 
 module _ (d : Desk) (h : List Past) (g : Agrees d h) (f : Sane h) where
-  module _ (s : ℕ) (k : s < mostSeats) where
-    here : At (seatOf d s) (editsOf d s) (pastOf h s)
-    here = g .holds .at s k
-
+  -- A seat that holds a sane past is sound,
   seat-by : (s : ℕ) (t : Past) → At (seatOf d s) (editsOf d s) t → sane t → soundSeat (seatOf d s) (editsOf d s) ≡ true
   unfolding soundSeat soundOpen soundClosed sane choose
   seat-by s closed a e =
-      rw (shown-open (seatOf d s) (editsOf d s) closed a) (eq-eqb _ _ (shown-length (seatOf d s) (editsOf d s) closed a))
+      rw (shown-open _ _ _ a) (eq-eqb _ _ (shown-length _ _ _ a))
   seat-by s (opened job first standing takenBack) a e =
-      let t : Past = opened job first standing takenBack in
       let n : seatOf d s .standing ≤ length (editsOf d s) =
-      omega (arith, shown-length (seatOf d s) (editsOf d s) t a, shown-count (seatOf d s) (editsOf d s) t a refl) in
+      omega (arith, shown-length _ _ _ a, shown-count _ _ _ a refl) in
       rw (
-        shown-open (seatOf d s) (editsOf d s) t a,
-        shown-job (seatOf d s) (editsOf d s) t a refl,
-        shown-standing (seatOf d s) (editsOf d s) t a,
-        shown-takenBack (seatOf d s) (editsOf d s) t a,
-        shown-pins (seatOf d s) (editsOf d s) t a refl,
+        shown-open _ _ _ a,
+        shown-job _ _ _ a refl,
+        shown-standing _ _ _ a,
+        shown-takenBack _ _ _ a,
+        shown-pins _ _ _ a refl,
       )
       (both-of (ap not (ne-eqb _ _ (e .numbered)))
       (both-of (le-leb _ _ n)
       (both-of (stood-lawful first standing (e .start) (e .stands))
       (both-of (stood-takeable first standing (e .start) (e .stands)) (e .redoes)))))
 
+  -- and so are all of them,
   seats-sound : (n : ℕ) → n ≤ mostSeats → soundTo n (d .seats) (inUse d) ≡ true
   unfolding soundTo
   seats-sound zero k = refl
-  seats-sound (suc n) k = both-of (seats-sound n (omega arith)) (seat-by n (pastOf h n) (here n k) (f .each n))
+  seats-sound (suc n) k = both-of (seats-sound n (omega arith)) (seat-by n (pastOf h n) (g .holds .at n k) (f .each n))
 
+  -- so the desk is sound.
   pub agrees-sound : sound d ≡ true
   unfolding sound
   agrees-sound =
@@ -164,6 +171,7 @@ closed-verdict k m (writing s room) a b e o p j = rw (a, b, e, o, p)
 closed-verdict k m (wiring s room) a b e o p j = rw (a, b, e, o, p)
 
 module _ (d : Desk) (h : List Past) (g : Agrees d h) (f : Sane h) where
+  -- Row 28 is passed.
   unbroken : not (sound d) ≡ false
   unbroken = ap not (agrees-sound d h g f)
 
@@ -171,12 +179,12 @@ module _ (d : Desk) (h : List Past) (g : Agrees d h) (f : Sane h) where
   pub look-same : (s : ℕ) → s < mostSeats → isOpen (pastOf h s) ≡ true → lookAt d s ≡ lookIn h s
   look-same s k o =
       let a : At (seatOf d s) (editsOf d s) (pastOf h s) = g .holds .at s k in
-      let p = shown-open (seatOf d s) (editsOf d s) (pastOf h s) a in
-      let q = shown-job (seatOf d s) (editsOf d s) (pastOf h s) a o in
-      let r = shown-pins (seatOf d s) (editsOf d s) (pastOf h s) a o in
-      let c = shown-count (seatOf d s) (editsOf d s) (pastOf h s) a o in
+      let p = shown-open _ _ _ a in
+      let q = shown-job _ _ _ a o in
+      let r = shown-pins _ _ _ a o in
+      let c = shown-count _ _ _ a o in
       let b : length (editsOf d s) - seatOf d s .standing ≡ length (takenBackIn (pastOf h s)) =
-      omega (arith, shown-length (seatOf d s) (editsOf d s) (pastOf h s) a, c) in
+      omega (arith, shown-length _ _ _ a, c) in
       let j = jobs-same d h g in
       let u = used-same d h g in
       let z = unbroken in
@@ -192,22 +200,24 @@ module _ (d : Desk) (h : List Past) (g : Agrees d h) (f : Sane h) where
         used = u i;
       }
 
+  -- So the answers are the same at one of the eight seats, open or closed.
   answer-open : (c : Call) → seatIn c < mostSeats → (b : Bool) → isOpen (pastOf h (seatIn c)) ≡ b → answerOf d c ≡ answerIn h c
   unfolding answerOf answerIn
   answer-open c k true o = ap (λ (l : Look). verdictOf l c) (look-same (seatIn c) k o)
   answer-open c k false o =
       closed-verdict (lookAt d (seatIn c)) (lookIn h (seatIn c)) c unbroken refl refl
-      (shown-open (seatOf d (seatIn c)) (editsOf d (seatIn c)) (pastOf h (seatIn c)) (g .holds .at (seatIn c) k) ∙ o) o (jobs-same d h g)
+      (shown-open _ _ _ (g .holds .at (seatIn c) k) ∙ o) o (jobs-same d h g)
 
   -- No seat above 7 is open.
   answer-above : (c : Call) → mostSeats ≤ seatIn c → answerOf d c ≡ answerIn h c
   unfolding answerOf answerIn
   answer-above c k =
       let n : length (d .seats) ≤ seatIn c = omega (arith, g .holds .eight) in
-      let m : length h ≤ seatIn c = omega (arith, g .holds .told) in
+      let m : length h ≤ seatIn c = omega (arith, g .holds .pasts) in
       closed-verdict (lookAt d (seatIn c)) (lookIn h (seatIn c)) c unbroken refl refl
       (ap (λ (q : Seat). q .opened) (List·getD-eq-default (d .seats) noSeat n)) (ap isOpen (List·getD-eq-default h closed m)) (jobs-same d h g)
 
+  -- Every call is answered alike.
   pub answer-same : (c : Call) → answerOf d c ≡ answerIn h c
   answer-same c =
       ⊎-elim (λ k. answer-above c k) (λ k. answer-open c k (isOpen (pastOf h (seatIn c))) refl) (order mostSeats (seatIn c))
@@ -216,6 +226,7 @@ module _ (d : Desk) (h : List Past) (g : Agrees d h) (f : Sane h) where
 
 module _ (d : Desk) (h : List Past) (g : Agrees d h) (f : Sane h) where
   module _ (s : ℕ) (k : s < mostSeats) where
+    -- Each seat holds its past.
     at-seat : At (seatOf d s) (editsOf d s) (pastOf h s)
     at-seat = g .holds .at s k
 
@@ -223,10 +234,11 @@ module _ (d : Desk) (h : List Past) (g : Agrees d h) (f : Sane h) where
     edited-length : (e : Edit) → isOpen (pastOf h s) ≡ true
         → length (added s (seatOf d s .standing) e (inUse d)) + length (takenBackIn (pastOf h s)) ≡ length (inUse d) + 1
     edited-length e o =
-        let n = shown-length (seatOf d s) (editsOf d s) (pastOf h s) at-seat in
-        let c = shown-count (seatOf d s) (editsOf d s) (pastOf h s) at-seat o in
+        let n = shown-length _ _ _ at-seat in
+        let c = shown-count _ _ _ at-seat o in
         omega (arith, added-length s (seatOf d s .standing) e (inUse d), kept-length s (seatOf d s .standing) (inUse d), n, c)
 
+    -- So after a new edit the desk agrees,
     agrees-edited : (e : Edit) → isOpen (pastOf h s) ≡ true → full (lookIn h s) ≡ false → Agrees (edited d s e) (set h s (anew e (pastOf h s)))
     unfolding edited
     agrees-edited e o z =
@@ -239,6 +251,7 @@ module _ (d : Desk) (h : List Past) (g : Agrees d h) (f : Sane h) where
         (omega (arith, edited-length e o, edits-anew e (pastOf h s) o))
         (rw (own-added s (seatOf d s .standing) e (inUse d)) (at-anew e (seatOf d s) (editsOf d s) (pastOf h s) at-seat o))
 
+    -- and after a closing, which frees all of the seat's records.
     agrees-closed : Agrees (effect d (closing s)) (set h s closed)
     unfolding effect
     agrees-closed =
@@ -246,15 +259,18 @@ module _ (d : Desk) (h : List Past) (g : Agrees d h) (f : Sane h) where
         (omega (arith, kept-length s 0 (inUse d), used-in-use d h g, g .room))
         (seated-kept s 0 (inUse d) (g .holds .named))
         (λ u e. own-other s u e 0 (inUse d))
-        (omega (arith, kept-length s 0 (inUse d), shown-length (seatOf d s) (editsOf d s) (pastOf h s) at-seat))
-        (at-shut _ (own-kept s 0 (inUse d)))
+        (omega (arith, kept-length s 0 (inUse d), shown-length _ _ _ at-seat))
+        (at-closed _ (own-kept s 0 (inUse d)))
 
+    -- The pins that the call looked at are the seat's.
     pins-same : isOpen (pastOf h s) ≡ true → seatOf d s .pins ≡ pinsIn (pastOf h s)
-    pins-same o = shown-pins (seatOf d s) (editsOf d s) (pastOf h s) at-seat o
+    pins-same o = shown-pins _ _ _ at-seat o
 
+  -- An accepted placing, move or removal is such an edit.
   agrees-entered : (s : ℕ) (e : Edit) → Enters (lookIn h s) e → Agrees (edited d s e) (set h s (anew e (pastOf h s)))
   agrees-entered s e p = agrees-edited s (p .reaches .low) e (p .reaches .shown) (p .room)
 
+  -- After any accepted call the desk agrees,
   agrees-next : (c : Call) → accepted (answerIn h c) ≡ true → Agrees (effect d c) (set h (seatIn c) (next c (pastOf h (seatIn c))))
   unfolding effect next answerIn verdictOf
   agrees-next (opening s job map) z =
@@ -279,17 +295,19 @@ module _ (d : Desk) (h : List Past) (g : Agrees d h) (f : Sane h) where
   agrees-next (writing s room) z = rw (set-getD h s closed) g
   agrees-next (wiring s room) z = rw (set-getD h s closed) g
 
+  -- and after a refused one, which changes nothing.
   agrees-by : (c : Call) (b : Bool) → accepted (answerIn h c) ≡ b
       → Agrees (choose b (effect d c) d) (choose b (set h (seatIn c) (next c (pastOf h (seatIn c)))) h)
   unfolding choose
   agrees-by c true z = agrees-next c z
   agrees-by c false z = g
 
-  -- ONE CALL: the desk answers as the history, and agrees with it afterwards.
+  -- ONE CALL: the desk answers as the history,
   pub step-answer : (c : Call) → step d c .verdict ≡ answerIn h c
   unfolding step
   step-answer c = answer-same d h g f c
 
+  -- and agrees with it afterwards.
   pub step-agrees : (c : Call) → Agrees (step d c .desk) (pastAfter h c)
   unfolding step pastAfter
   step-agrees c = rw (answer-same d h g f c) (agrees-by c (accepted (answerIn h c)) refl)

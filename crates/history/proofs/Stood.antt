@@ -43,6 +43,7 @@ pub record Traced (q : List Pin) (l : List Edit) : Type 0 where
   pub stands : stood (pinsBefore q l) l
   pub ends : pinsBy (pinsBefore q l) l ≡ q
 
+-- So it is with edits that can all be taken back from pins that keep the rules.
 pub traced : (l : List Edit) (q : List Pin) → lawful q ≡ true → takeableAll q l ≡ true → Traced q l
 unfolding pinsBefore stood pinsBy
 traced [] q h t = record { start = h; stands = tt; ends = refl }

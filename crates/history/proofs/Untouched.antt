@@ -24,17 +24,21 @@ pub record Untouched (d e : Desk) (t : ℕ) : Type 0 where
   pub standing : standingOf e t ≡ standingOf d t
   pub takenBack : takenBackOf e t ≡ takenBackOf d t
 
+-- The same seat with the same edits has the same of them standing and taken back.
 untouched-by : (d e : Desk) (t : ℕ) → seatOf e t ≡ seatOf d t → editsOf e t ≡ editsOf d t → Untouched d e t
 untouched-by d e t p q = record { seat = p; edits = q; standing = rw (p, q); takenBack = rw (p, q) }
 
 module _ (d : Desk) (s t : ℕ) (apart : t ≡ s → ⊥) where
+  -- Another seat changed leaves it so,
   other-seat : (r : Seat) → Untouched d (withSeat d s r) t
   other-seat r = untouched-by d (withSeat d s r) t (getD-set-other (d .seats) s t r noSeat apart) refl
 
+  -- also where that one's own records change.
   other-records : (r : Seat) (m : List Record) → own t m ≡ own t (inUse d) → Untouched d (withRecords d s r m) t
   other-records r m e =
       untouched-by d (withRecords d s r m) t (getD-set-other (d .seats) s t r noSeat apart) (ap (own t) (take-filled m) ∙ e)
 
+-- What a call makes of the desk leaves the seats that it does not name,
 other-effect : (d : Desk) (c : Call) (t : ℕ) → (t ≡ seatIn c → ⊥) → Untouched d (effect d c) t
 unfolding effect edited
 other-effect d (opening s job map) t n = other-seat d s t n _
@@ -47,6 +51,7 @@ other-effect d (redoing s) t n = other-seat d s t n _
 other-effect d (writing s room) t n = untouched-by d d t refl refl
 other-effect d (wiring s room) t n = untouched-by d d t refl refl
 
+-- and a refused one leaves all.
 other-by : (d e : Desk) (t : ℕ) (b : Bool) → Untouched d e t → Untouched d (choose b e d) t
 unfolding choose
 other-by d e t true u = u
@@ -67,6 +72,7 @@ pub refused-leaves-the-desk : (d : Desk) (c : Call) → accepted (step d c .verd
 unfolding step
 refused-leaves-the-desk d c e = choose-no _ _ e
 
+-- Of two that are the same it does not matter which is chosen.
 same-either : {A : Type 0} (b : Bool) (a : A) → choose b a a ≡ a
 unfolding choose
 same-either true a = refl
@@ -82,10 +88,12 @@ pub wiring-leaves-the-desk : (d : Desk) (s room : ℕ) → step d (wiring s room
 unfolding step effect
 wiring-leaves-the-desk d s room = same-either (accepted (answerOf d (wiring s room))) d
 
+-- The answer of wiring hands back the desk that it was given,
 pub wired-leaves-the-desk : (d : Desk) (s room : ℕ) → wiredOf d s room .desk ≡ d
 unfolding wiredOf
 wired-leaves-the-desk d s room = refl
 
+-- and so does that of writing.
 pub written-leaves-the-desk : (d : Desk) (s : ℕ) (buffer : List ℕ) → writtenOf d s buffer .desk ≡ d
 unfolding writtenOf
 written-leaves-the-desk d s buffer = refl
@@ -96,16 +104,18 @@ pub refused-leaves-the-buffer : (d : Desk) (s : ℕ) (buffer : List ℕ) → acc
 unfolding writtenOf bufferOf
 refused-leaves-the-buffer d s buffer e = (choose-no _ _ e, choose-no _ _ e)
 
--- Undo and redo need no further record: the journal and the used count stay as they are.
+-- Where one seat alone changes, or nothing does, the journal and the used count stay as they are.
 seat-alone : (d : Desk) (s : ℕ) (r : Seat) (b : Bool) → (choose b (withSeat d s r) d .journal ≡ d .journal) × (choose b (withSeat d s r) d .used ≡ d .used)
 unfolding choose
 seat-alone d s r true = (refl, refl)
 seat-alone d s r false = (refl, refl)
 
+-- Undo needs no further record: the journal and the used count stay as they are,
 pub undo-keeps-the-journal : (d : Desk) (s : ℕ) → (step d (undoing s) .desk .journal ≡ d .journal) × (step d (undoing s) .desk .used ≡ d .used)
 unfolding step effect
 undo-keeps-the-journal d s = seat-alone d s _ (accepted (answerOf d (undoing s)))
 
+-- and redo needs none.
 pub redo-keeps-the-journal : (d : Desk) (s : ℕ) → (step d (redoing s) .desk .journal ≡ d .journal) × (step d (redoing s) .desk .used ≡ d .used)
 unfolding step effect
 redo-keeps-the-journal d s = seat-alone d s _ (accepted (answerOf d (redoing s)))

@@ -1,6 +1,6 @@
 -- What wiring a seat answers, on ANY desk: its verdict is the one that the call is answered, and never 18; refused, the answer is empty and the lent list
 -- as it was. From the rows of the calls, the tree's boxes and what a refused wiring of a feed is; assumes nothing.
-use mathlib.Core.Path.{_≡_, refl, sym, ap, _∙_}
+use mathlib.Core.Path.{_≡_, refl, sym, _∙_}
 use mathlib.Core.Bool.{true, false, true≢false}
 use mathlib.Core.List.{List}
 use Prim.Native.Nat.{ℕ, zero, suc, _/_}
@@ -11,7 +11,7 @@ use Rattle.refusal.specs.Tests.{both}
 use Rattle.refusal.specs.Refusals.{accepted}
 use Rattle.refusal.specs.declared.Verdict.{Verdict}
 use Rattle.refusal.specs.declared.Verdict.the-variants.{Accepted, BoxesMeet}
-use Rattle.refusal.proofs.Rows.{Row, firstOf, Given, refusalAt, numberOf, unlike, unlike-first, distinct, Exactly}
+use Rattle.refusal.proofs.Rows.{Row, firstOf, Given, refusalAt, unlike, distinct, Exactly}
 use Rattle.drawing.specs.declared.Pin.{Pin}
 use Rattle.drawing.specs.Pins.{lawful, feedOf}
 use Rattle.drawing.proofs.Rules.{lawful-parts, feed-long}
@@ -19,6 +19,7 @@ use Rattle.pinmap.specs.Record.{recordSize}
 use Rattle.pinmap.specs.Map.{noPins}
 use Rattle.journal.specs.Journal.{mostSeats}
 use Rattle.tree.proofs.Apart.{never-meet}
+use Rattle.tree.specs.Trees.{mostRuns}
 use Rattle.copper.specs.declared.Shape.the-variants.{Straight}
 use Rattle.copper.specs.declared.Leg.{Leg}
 use Rattle.wiring.specs.declared.Wiring.{Wiring}
@@ -27,11 +28,11 @@ use Rattle.wiring.proofs.Refusing.{laid-behind}
 use Rattle.lent.proofs.Untouched.{Alone, turned-by, wiring-turned, untouched}
 use Rattle.desk.specs.declared.Desk.{Desk}
 use Rattle.desk.specs.Calls.{Call, opening, closing, placing, moving, removing, undoing, redoing, writing, wiring}
-use Rattle.desk.specs.Refusals.{turnedOpening, turnedClosing, turnedPlacing, turnedMoving, turnedRemoving, turnedUndoing, turnedRedoing, turnedWriting, turnedWiring, verdictOf}
+use Rattle.desk.specs.Refusals.{turnedNaming, turnedOpening, turnedClosing, turnedPlacing, turnedMoving, turnedRemoving, turnedUndoing, turnedRedoing, turnedWriting, turnedWiring, verdictOf}
 use Rattle.desk.specs.Desk.{seatOf, lookAt, answerOf, step, wiredOf, wiredSeatOf, lentOf}
 use Rattle.desk.proofs.Sound.{pins-lawful}
 use Rattle.history.proofs.MapRows.{recordRows, map-first}
-use Rattle.history.proofs.Refused.{openingRows, closingRows, placingRows, movingRows, removingRows, undoingRows, redoingRows, writingRows, wiringRows, exactly-wiring, each-refusal-exactly}
+use Rattle.history.proofs.Refused.{openingRows, closingRows, placingRows, movingRows, removingRows, undoingRows, redoingRows, writingRows, wiringRows, exactly-wiring, each-refusal-exactly, never-given}
 
 -- The verdict in the answer of wiring a seat is what the call is answered,
 pub wired-verdict : (d : Desk) (s room : ℕ) → wiredOf d s room .laid .wiring .verdict ≡ answerOf d (wiring s room)
@@ -58,7 +59,7 @@ records-unlike (suc left) map job number next earlier = records-unlike left _ jo
 
 -- Rows with other refusals do not give 18.
 other-rows : (rows : List Row) → unlike BoxesMeet rows ≡ true → firstOf rows Accepted ≡ BoxesMeet → ⊥
-other-rows rows u e = unlike-first BoxesMeet rows Accepted u (λ (f : BoxesMeet ≡ Accepted). omega (arith, ap numberOf f)) (sym e)
+other-rows rows u e = never-given BoxesMeet rows (omega arith) u e
 
 -- The wiring of an open seat of a sound desk: its pins are on the board, so that no boxes meet.
 wiring-never-18 : (d : Desk) (s room : ℕ) → step d (wiring s room) .verdict ≡ BoxesMeet → ⊥
@@ -95,27 +96,30 @@ pub record Empty (w : Wiring) : Type 0 where
   pub runs-zero : w .count ≡ 0
   pub legs-zero : w .legs ≡ 0
   pub choices-zero : w .weighed ≡ 0
-  pub entries-blank : w .runs ≡ replicate 31 (shaped 0 0 Straight)
+  pub entries-blank : w .runs ≡ replicate mostRuns (shaped 0 0 Straight)
 
+-- A wiring that was turned away is such.
 away-empty : (v : Verdict) → Empty (turnedAway v .wiring)
 unfolding turnedAway runEntries
 away-empty v = record { length-zero = refl; runs-zero = refl; legs-zero = refl; choices-zero = refl; entries-blank = refl }
 
+-- A refused wiring of a seat is one that was turned away.
 wired-turned : (d : Desk) (s room : ℕ) → Alone (wiredOf d s room .laid)
 unfolding wiredOf
 wired-turned d s room =
-    let v = turnedClosing (lookAt d s) in
+    let v = turnedNaming (lookAt d s) in
     turned-by (accepted v) v (wiringOf (feedOf (seatOf d s .pins)) room) (wiring-turned (feedOf (seatOf d s .pins)) room)
 
 -- A refused wiring of a seat has length, runs, legs and choices zero, and every run entry 0, 0, straight;
 pub refused-wiring-is-empty : (d : Desk) (s room : ℕ) → accepted (wiredOf d s room .laid .wiring .verdict) ≡ false → Empty (wiredOf d s room .laid .wiring)
 refused-wiring-is-empty d s room e = rw (wired-turned d s room e) (away-empty (wiredOf d s room .laid .wiring .verdict))
 
--- into a lent list too, which it leaves as it was.
+-- into a lent list too,
 pub refused-lent-is-empty : (d : Desk) (s : ℕ) (lent : List Leg) → accepted (wiredSeatOf d s lent .wiring .verdict) ≡ false → Empty (wiredSeatOf d s lent .wiring)
 unfolding wiredSeatOf
 refused-lent-is-empty d s lent e = refused-wiring-is-empty d s (length lent) e
 
+-- which it leaves as it was.
 pub refused-leaves-the-legs : (d : Desk) (s : ℕ) (lent : List Leg) → accepted (wiredSeatOf d s lent .wiring .verdict) ≡ false → lentOf d s lent ≡ lent
 unfolding wiredSeatOf lentOf
 refused-leaves-the-legs d s lent e = untouched (wiredOf d s (length lent) .laid) lent (wired-turned d s (length lent)) e

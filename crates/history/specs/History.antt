@@ -61,7 +61,7 @@ unfoldable pub sum : List ℕ → ℕ
 sum [] = 0
 sum (n ∷ l) = n + sum l
 
--- What is told of a seat; nothing is open above 7.
+-- The past of a seat; nothing is open above 7.
 abbrev pub pastOf : List Past → ℕ → Past
 pastOf h s = getD h s closed
 

@@ -1,15 +1,11 @@
--- A seat's edits cut into those that stand, the latest first, and those taken back: the cut one edit further on, and after a new edit. Assumes nothing.
+-- A seat's edits cut into those that stand, the latest first, and those taken back: the cut one edit further on. Assumes nothing.
 use mathlib.Core.Path.{_≡_, refl, ap, sym, _∙_}
 use mathlib.Core.List.{List, [], _∷_, reverse, reverse-append}
-use Prim.Native.Nat.{ℕ, _+_, _-_, _<_, _≤_}
+use Prim.Native.Nat.{ℕ, _+_, _-_, _<_}
 use native.Mathlib.Numerals.{add-one}
 use native.Mathlib.Omega.{arith}
-use lib.ListN.{length, take, getD, length-append, length-reverse}
-use lib.Seq.{take-suc, drop-cons, length-take-le}
-use Rattle.drawing.specs.declared.Edit.{Edit}
-use Rattle.journal.specs.declared.Record.{Record}
-use Rattle.journal.specs.Journal.{own, added}
-use Rattle.journal.proofs.Own.{own-added}
+use lib.ListN.{length, take, getD, length-reverse}
+use lib.Seq.{take-suc, drop-cons}
 use Rattle.journal.proofs.Passing.{turned}
 
 -- One edit more stands than the first n: the edit of number n, counted from 0, is the latest.
@@ -21,8 +17,3 @@ pub counted-back : {A : Type 0} (l : List A) (n : ℕ) (d : A) → n < length l 
 counted-back {A = A} l n d h =
     let k : length l - (n + 1) < length (reverse l) = omega (arith, length-reverse l) in
     ap (λ (m : List A). getD m 0 d) (sym (drop-cons (reverse l) (length l - (n + 1)) d k) ∙ turned l (length l) (n + 1) refl ∙ stands-more l n d h)
-
--- After a new edit of a seat of whose edits the first k stood, it stands on those, and none is taken back.
-module _ (s k : ℕ) (e : Edit) (l : List Record) (h : k ≤ length (own s l)) where
-  pub added-count : length (own s (added s k e l)) ≡ k + 1
-  added-count = rw (own-added s k e l) (length-append (take k (own s l)) (e ∷ []) ∙ rw (length-take-le k (own s l) h))

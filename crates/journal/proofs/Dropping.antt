@@ -18,9 +18,11 @@ pub record Dropping (l : List Record) (s keep i : ℕ) (out : List Record) (w k 
   pub sized : w ≡ length done
   pub whole : kept s keep l ≡ done ++ kept s k (drop i l)
 
+-- Before the loop nothing is written;
 pub drop-start : (l : List Record) (s keep : ℕ) (b : Record) → b ≡ blank → Dropping l s keep 0 (replicate mostRecords b) 0 keep
 drop-start l s keep b e = record { done = []; shown = rw e (sym filled-nil); sized = refl; whole = refl }
 
+-- One turn of the loop, at the record i.
 module _ (j : List Record) (u s keep i : ℕ) (out : List Record) (w k : ℕ) (f : u ≤ length j) (h : i < u) (p : Dropping (take u j) s keep i out w k) where
   -- The record is written.
   write : (n : ℕ) → w < mostRecords → kept s k (drop i (take u j)) ≡ getD j i blank ∷ kept s n (drop (i + 1) (take u j))
@@ -58,6 +60,7 @@ module _ (j : List Record) (u s keep i : ℕ) (out : List Record) (w k : ℕ) (f
         whole = p .whole ∙ rw (next j u i f h, o, kept-none s (getD j i blank) (drop (i + 1) (take u j)) e);
       }
 
+-- after it, all that is kept.
 pub drop-end : (j : List Record) (u s keep i : ℕ) (out : List Record) (w k : ℕ) → u ≤ length j → u ≤ i → Dropping (take u j) s keep i out w k
     → _≡_ {A = Compacted} (record { journal = out; used = w }) (compacted (kept s keep (take u j)))
 drop-end j u s keep i out w k f h p =

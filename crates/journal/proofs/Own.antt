@@ -13,34 +13,41 @@ use Rattle.drawing.specs.declared.Edit.{Edit}
 use Rattle.journal.specs.declared.Record.{Record}
 use Rattle.journal.specs.Journal.{recorded, own, kept, added}
 
--- No records.
+-- Where there are no records:
 module _ (s : ℕ) where
+  -- a seat has no edits,
   pub own-nil : own s [] ≡ []
   unfolding own
   own-nil = refl
 
+  -- and dropping leaves none.
   pub kept-nil : (k : ℕ) → kept s k [] ≡ []
   unfolding kept
   kept-nil k = refl
 
 -- One record more at the front: of this seat, or of another.
 module _ (s : ℕ) (r : Record) (l : List Record) where
+  -- This seat's adds an edit to those of the seat,
   pub own-here : r .seat ≡ s → own s (r ∷ l) ≡ r .edit ∷ own s l
   unfolding own
   own-here e = choose-yes _ _ (eq-eqb _ _ e)
 
+  -- another's does not.
   pub own-past : (r .seat ≡ s → ⊥) → own s (r ∷ l) ≡ own s l
   unfolding own
   own-past d = choose-no _ _ (ne-eqb _ _ d)
 
+  -- Where some of the seat's are kept, its first is one of them;
   pub kept-here : (k : ℕ) → r .seat ≡ s → kept s (suc k) (r ∷ l) ≡ r ∷ kept s k l
   unfolding kept
   kept-here k e = ap (λ (m : List Record). r ∷ m) (choose-yes _ _ (eq-eqb _ _ e))
 
+  -- where none is, it is dropped;
   pub kept-none : r .seat ≡ s → kept s 0 (r ∷ l) ≡ kept s 0 l
   unfolding kept
   kept-none e = choose-yes _ _ (eq-eqb _ _ e)
 
+  -- another's is kept.
   pub kept-past : (k : ℕ) → (r .seat ≡ s → ⊥) → kept s k (r ∷ l) ≡ r ∷ kept s k l
   unfolding kept
   kept-past zero d = choose-no _ _ (ne-eqb _ _ d)
@@ -86,11 +93,13 @@ own-kept s (suc k) (r ∷ l) =
     (λ d. rw (kept-past s r l (suc k) d, own-past s r (kept s (suc k) l) d, own-past s r l d) (own-kept s (suc k) l))
     (same-or-not (r .seat) s)
 
--- Another seat keeps all its edits.
+-- Two seats that are not the same.
 module _ (s t : ℕ) (apart : t ≡ s → ⊥) where
+  -- No record is of both.
   not-both : {n : ℕ} → n ≡ s → n ≡ t → ⊥
   not-both p q = apart (sym q ∙ p)
 
+  -- Dropping from the one, the other keeps all its edits.
   pub own-other : (k : ℕ) (l : List Record) → own t (kept s k l) ≡ own t l
   own-other k [] = rw (kept-nil s k)
   own-other zero (r ∷ l) =
@@ -116,26 +125,6 @@ kept-length s (suc k) (r ∷ l) =
     ⊎-elim
     (λ e. rw (kept-here s r l k e, own-here s r l e) (omega (arith, kept-length s k l)))
     (λ d. rw (kept-past s r l (suc k) d, own-past s r l d) (omega (arith, kept-length s (suc k) l)))
-    (same-or-not (r .seat) s)
-
--- Where the seat has no edits beyond the first k, nothing is dropped.
-pub kept-all : (s k : ℕ) (l : List Record) → length (own s l) ≤ k → kept s k l ≡ l
-kept-all s k [] h = kept-nil s k
-kept-all s zero (r ∷ l) h =
-    ⊎-elim
-    (λ e. let g : length (r .edit ∷ own s l) ≤ 0 = rw (own-here s r l e) at h in absurd (omega arith))
-    (λ d.
-    let g : length (own s l) ≤ 0 = rw (own-past s r l d) at h in
-    rw (kept-past s r l zero d, kept-all s zero l g))
-    (same-or-not (r .seat) s)
-kept-all s (suc k) (r ∷ l) h =
-    ⊎-elim
-    (λ e.
-    let g : length (r .edit ∷ own s l) ≤ suc k = rw (own-here s r l e) at h in
-    rw (kept-here s r l k e, kept-all s k l (omega arith)))
-    (λ d.
-    let g : length (own s l) ≤ suc k = rw (own-past s r l d) at h in
-    rw (kept-past s r l (suc k) d, kept-all s (suc k) l g))
     (same-or-not (r .seat) s)
 
 -- The records after a new edit of the seat, of which the first k edits stood.

@@ -12,11 +12,13 @@ use Rattle.journal.proofs.Own.{own-nil, own-here, own-past, own-append}
 
 -- Forwards: the records from i on.
 module _ (j : List Record) (u i : ℕ) (f : u ≤ length j) where
+  -- The next is the record i;
   pub next : i < u → drop i (take u j) ≡ getD j i blank ∷ drop (i + 1) (take u j)
   next h =
       let a : length (take u j) ≡ u = length-take-le u j f in
       drop-cons (take u j) i blank (omega arith) ∙ rw (getD-take u j i blank h, add-one)
 
+  -- past those in use none is left.
   pub none-left : u ≤ i → drop i (take u j) ≡ []
   none-left h =
       let a : length (take u j) ≡ u = length-take-le u j f in
@@ -24,17 +26,21 @@ module _ (j : List Record) (u i : ℕ) (f : u ≤ length j) where
       drop-of-length-le (take u j) b
 
   module _ (s : ℕ) where
+    -- Where it is the seat's, it is the next of the seat's edits;
     pub next-own : i < u → getD j i blank .seat ≡ s → own s (drop i (take u j)) ≡ getD j i blank .edit ∷ own s (drop (i + 1) (take u j))
     next-own h e = rw (next h) (own-here s _ _ e)
 
+    -- where it is another's, the seat's edits are those after it;
     pub next-other : i < u → (getD j i blank .seat ≡ s → ⊥) → own s (drop i (take u j)) ≡ own s (drop (i + 1) (take u j))
     next-other h d = rw (next h) (own-past s _ _ d)
 
+    -- at the end none of the seat's is left.
     pub own-left : u ≤ i → own s (drop i (take u j)) ≡ []
     own-left h = rw (none-left h) (own-nil s)
 
 -- Backwards: the records below i, the latest first.
 module _ (j : List Record) (s i : ℕ) (h : 0 < i) (f : i ≤ length j) where
+  -- They are those below i - 1, and then the record i - 1.
   below : own s (take i j) ≡ own s (take (i - 1) j) ++ own s (getD j (i - 1) blank ∷ [])
   below =
       let w : i ≡ suc (i - 1) = omega arith in
@@ -42,9 +48,11 @@ module _ (j : List Record) (s i : ℕ) (h : 0 < i) (f : i ≤ length j) where
       ∙ ap (own s) (take-suc j (i - 1) blank (omega arith))
       ∙ own-append s (take (i - 1) j) (getD j (i - 1) blank ∷ [])
 
+  -- Where that is the seat's, it is the latest of the seat's edits;
   pub back-own : getD j (i - 1) blank .seat ≡ s → reverse (own s (take i j)) ≡ getD j (i - 1) blank .edit ∷ reverse (own s (take (i - 1) j))
   back-own e = rw (below, own-here s (getD j (i - 1) blank) [] e, own-nil s) (reverse-append (own s (take (i - 1) j)) _)
 
+  -- where it is another's, the seat's edits are those before it.
   pub back-other : (getD j (i - 1) blank .seat ≡ s → ⊥) → reverse (own s (take i j)) ≡ reverse (own s (take (i - 1) j))
   back-other d = rw (below, own-past s (getD j (i - 1) blank) [] d, own-nil s, append-nil (own s (take (i - 1) j)))
 

@@ -11,38 +11,43 @@ use Rattle.refusal.proofs.Tests.{both-left, both-right, both-of, both-yes, both
 use Rattle.grid.proofs.Flat.{same-or-not}
 use Rattle.drawing.specs.declared.Edit.{Edit}
 use Rattle.journal.specs.declared.Record.{Record}
-use Rattle.journal.specs.Journal.{mostSeats, recorded, kept, added, seated, ownedBelow}
+use Rattle.journal.specs.Journal.{mostSeats, recorded, kept, added, seated, own}
 use Rattle.journal.proofs.Own.{own-nil, own-here, own-past, kept-nil, kept-here, kept-none, kept-past}
 
 -- One record more at the front.
 module _ (r : Record) (l : List Record) where
-  pub seated-first : seated (r ∷ l) ≡ true → r .seat < mostSeats
+  -- Where all are seated, so is the first,
+  seated-first : seated (r ∷ l) ≡ true → r .seat < mostSeats
   unfolding seated
   seated-first h = ltb-true _ _ (both-left _ _ h)
 
-  pub seated-rest : seated (r ∷ l) ≡ true → seated l ≡ true
+  -- and so are the others;
+  seated-rest : seated (r ∷ l) ≡ true → seated l ≡ true
   unfolding seated
   seated-rest h = both-right _ _ h
 
-  pub seated-cons : r .seat < mostSeats → seated l ≡ true → seated (r ∷ l) ≡ true
+  -- where both are, all are.
+  seated-cons : r .seat < mostSeats → seated l ≡ true → seated (r ∷ l) ≡ true
   unfolding seated
   seated-cons p q = both-of (lt-ltb _ _ p) q
 
-  -- The first record decides: where it passes, what is left are the others; where it fails, all is said.
+  -- The first record decides: where it passes, what is left are the others;
   pub seated-yes : r .seat < mostSeats → seated (r ∷ l) ≡ seated l
   unfolding seated
   seated-yes p = both-yes _ (lt-ltb _ _ p)
 
+  -- where it fails, all is said.
   pub seated-no : mostSeats ≤ r .seat → seated (r ∷ l) ≡ false
   unfolding seated
   seated-no p = both-no _ (le-ltb _ _ p)
 
+-- Where there are no records, all are seated.
 pub seated-nil : seated [] ≡ true
 unfolding seated
 seated-nil = refl
 
 -- Seated records put together are seated.
-pub seated-append : (l m : List Record) → seated l ≡ true → seated m ≡ true → seated (l ++ m) ≡ true
+seated-append : (l m : List Record) → seated l ≡ true → seated m ≡ true → seated (l ++ m) ≡ true
 seated-append [] m h k = k
 seated-append (r ∷ l) m h k = seated-cons r (l ++ m) (seated-first r l h) (seated-append l m (seated-rest r l h) k)
 
@@ -65,17 +70,25 @@ seated-kept s (suc k) (r ∷ l) h =
 pub seated-added : (s k : ℕ) (e : Edit) (l : List Record) → s < mostSeats → seated l ≡ true → seated (added s k e l) ≡ true
 seated-added s k e l p h = seated-append (kept s k l) _ (seated-kept s k l h) (seated-cons (recorded s e) [] p seated-nil)
 
+-- How many records the seats below n own together.
+unfoldable pub ownedBelow : ℕ → List Record → ℕ
+ownedBelow zero l = 0
+ownedBelow (suc n) l = ownedBelow n l + length (own n l)
+
+-- Of no records the seats own none.
 owned-nil : (n : ℕ) → ownedBelow n [] ≡ 0
 unfolding ownedBelow
 owned-nil zero = refl
 owned-nil (suc n) = rw (own-nil n) (omega (arith, owned-nil n))
 
+-- A record is owned by none of the seats below its own,
 owned-past : (n : ℕ) (r : Record) (l : List Record) → n ≤ r .seat → ownedBelow n (r ∷ l) ≡ ownedBelow n l
 unfolding ownedBelow
 owned-past zero r l h = refl
 owned-past (suc n) r l h =
     rw (own-past n r l (λ (e : r .seat ≡ n). omega arith)) (omega (arith, owned-past n r l (omega arith)))
 
+-- and once by those up to it.
 owned-here : (n : ℕ) (r : Record) (l : List Record) → r .seat < n → ownedBelow n (r ∷ l) ≡ ownedBelow n l + 1
 unfolding ownedBelow
 owned-here zero r l h = absurd (omega arith)

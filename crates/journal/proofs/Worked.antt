@@ -11,7 +11,8 @@ use Rattle.drawing.specs.declared.Edit.{Edit}
 use Rattle.drawing.specs.declared.Edit.the-variants.{Placed, Moved}
 use Rattle.drawing.specs.Pins.{holding}
 use Rattle.journal.specs.declared.Record.{Record}
-use Rattle.journal.specs.Journal.{recorded, own, kept, added, seated, ownedBelow}
+use Rattle.journal.specs.Journal.{mostRecords, mostSeats, recorded, own, countsFrom, countsOf, kept, added, seated}
+use Rattle.journal.proofs.Seated.{ownedBelow}
 
 abbrev at : ℕ → ℕ → Place
 at a b = record { x = pos a; y = pos b }
@@ -31,9 +32,13 @@ closing-leaves-the-other : kept 0 0 two ≡ recorded 1 (placed 0 (at 2 2)) ∷ [
 unfolding kept choose
 closing-leaves-the-other = refl
 
-both-are-counted : ownedBelow 8 two ≡ 2
+both-are-counted : ownedBelow mostSeats two ≡ 2
 unfolding ownedBelow own choose
 both-are-counted = refl
+
+each-seat-is-counted : countsOf two ≡ 1 ∷ 1 ∷ replicate 6 0
+unfolding countsFrom own choose
+each-seat-is-counted = refl
 
 -- D2: pin 0 placed and moved, the move undone, then pin 1 placed: the move is gone.
 abbrev moved : List Record
@@ -47,7 +52,7 @@ move-is-freed = refl
 abbrev full : List Record
 full = recorded 0 (placed 0 (at 1 1)) ∷ replicate 255 (recorded 0 (Moved 0 (at 1 1) (at 4 4)))
 
-another-seat-finds-no-room : length (kept 1 0 full) ≡ 256
+another-seat-finds-no-room : length (kept 1 0 full) ≡ mostRecords
 unfolding kept choose
 another-seat-finds-no-room = refl
 

@@ -1,15 +1,14 @@
 -- The journal: the edits of one seat in it, what dropping and appending leave, and when a seat's edits can be redone and taken back.
 use mathlib.Core.Bool.{Bool, true}
 use mathlib.Core.List.{List, [], _∷_, _++_}
-use Prim.Native.Nat.{ℕ, zero, suc, _+_, _-_}
+use Prim.Native.Nat.{ℕ, zero, suc, _-_}
 use lib.Dec.{eqb, ltb}
-use lib.IntN.{pos}
 use lib.ListN.{length, replicate}
 use Rattle.refusal.specs.Tests.{both, choose}
+use Rattle.grid.specs.Place.{middle}
 use Rattle.drawing.specs.declared.Pin.{Pin}
 use Rattle.drawing.specs.declared.Edit.{Edit}
-use Rattle.drawing.specs.declared.Edit.the-variants.{Placed}
-use Rattle.drawing.specs.Edits.{makeable, made, takeable, unmade}
+use Rattle.drawing.specs.Edits.{makeable, made, takeable, unmade, placed}
 use Rattle.journal.specs.declared.Record.{Record}
 use Rattle.journal.specs.declared.Compacted.{Compacted}
 
@@ -23,7 +22,7 @@ mostSeats = 8
 
 -- The edit of a record that is not in use.
 abbrev pub noEdit : Edit
-noEdit = Placed 0 (record { place = record { x = pos 0; y = pos 0 } })
+noEdit = placed 0 middle
 
 -- A record that is not in use.
 abbrev pub blank : Record
@@ -37,6 +36,15 @@ recorded s e = record { seat = s; edit = e }
 unfoldable pub own : ℕ → List Record → List Edit
 own s [] = []
 own s (r ∷ l) = choose (eqb (r .seat) s) (r .edit ∷ own s l) (own s l)
+
+-- How many records each of the k seats from s on owns.
+unfoldable pub countsFrom : ℕ → ℕ → List Record → List ℕ
+countsFrom s zero l = []
+countsFrom s (suc k) l = length (own s l) ∷ countsFrom (suc s) k l
+
+-- How many records each seat of the desk owns.
+abbrev pub countsOf : List Record → List ℕ
+countsOf l = countsFrom 0 mostSeats l
 
 -- The records without those of the seat beyond its first k.
 unfoldable pub kept : ℕ → ℕ → List Record → List Record
@@ -61,19 +69,14 @@ unfoldable pub seated : List Record → Bool
 seated [] = true
 seated (r ∷ l) = both (ltb (r .seat) mostSeats) (seated l)
 
--- How many records the seats below n own together.
-unfoldable pub ownedBelow : ℕ → List Record → ℕ
-ownedBelow zero l = 0
-ownedBelow (suc n) l = ownedBelow n l + length (own n l)
-
 -- Each edit passes a test on the pins that the steps of those before it leave.
 unfoldable pub inTurn : (List Pin → Edit → Bool) → (List Pin → Edit → List Pin) → List Pin → List Edit → Bool
 inTurn test step q [] = true
 inTurn test step q (e ∷ l) = both (test q e) (inTurn test step (step q e) l)
 
 -- The edits can be made one after the other.
-abbrev pub replayable : List Pin → List Edit → Bool
-replayable q l = inTurn makeable made q l
+abbrev pub makeableAll : List Pin → List Edit → Bool
+makeableAll q l = inTurn makeable made q l
 
 -- The edits, the latest first, can be taken back one after the other.
 abbrev pub takeableAll : List Pin → List Edit → Bool

@@ -1,6 +1,5 @@
 // The journal: the records of all seats, counting and finding a seat's own, dropping and appending, and whether a seat's edits can be redone and taken back.
 use drawing::Edit;
-use drawing::Held;
 use drawing::Pin;
 use feed::PINS;
 use grid::Place;
@@ -8,7 +7,7 @@ ghost use mathlib.Core.Path.{_≡_};
 ghost use Prim.Native.Nat.{_<_, _≤_};
 ghost use mathlib.Core.List.{reverse};
 ghost use lib.ListN.{drop, getD, length, set, take};
-ghost use Rattle.journal.specs.Journal.{mostRecords, noEdit, blank, own, kept, compacted, seated, replayable, takeableAll};
+ghost use Rattle.journal.specs.Journal.{mostRecords, noEdit, blank, own, countsOf, kept, compacted, seated, makeableAll, takeableAll};
 
 // All seats share a journal of this many records.
 pub const RECORDS: usize = 256;
@@ -29,15 +28,10 @@ pub struct Compacted {
 }
 
 // The edit of a record that is not in use.
-pub fn no_edit() -> Edit
+fn no_edit() -> Edit
     ensures { λ r. ⌜ r ≡ noEdit ⌝ }
 {
-    Edit::Placed(
-        0,
-        Held {
-            place: Place { x: 0, y: 0 },
-        },
-    )
+    drawing::edit_placing(0, Place { x: 0, y: 0 })
 }
 
 // A record that is not in use.
@@ -53,16 +47,34 @@ pub fn count_of(journal: [Record; RECORDS], used: usize, seat: usize) -> usize
     requires { ⌜ used ≤ mostRecords ⌝ }
     ensures { λ r. ⌜ r ≡ length (own seat (take used journal)) ⌝ }
 {
-    let mut count: usize = 0;
-    let mut i: usize = 0;
+    let mut count = 0;
+    let mut i = 0;
     while i < used {
         let seen = journal[i];
-        i = i + 1;
+        i += 1;
         if seen.seat == seat {
-            count = count + 1;
+            count += 1;
         }
     }
     count
+}
+
+// How many of the first `used` records each seat owns, in one pass over them.
+pub fn counts_of(journal: [Record; RECORDS], used: usize) -> [usize; SEATS]
+    requires { ⌜ used ≤ mostRecords ⌝ }
+    ensures { λ r. ⌜ r ≡ countsOf (take used journal) ⌝ }
+{
+    let mut counts = [0; SEATS];
+    let mut i = 0;
+    while i < used {
+        let owned = journal[i];
+        let seat = owned.seat;
+        i += 1;
+        if seat < SEATS {
+            counts[seat] += 1;
+        }
+    }
+    counts
 }
 
 // The seat's edit that has `later` of its edits after it: with none, the newest of that seat.
@@ -70,17 +82,17 @@ pub fn edit_of(journal: [Record; RECORDS], used: usize, seat: usize, later: usiz
     requires { ⌜ used ≤ mostRecords ⌝ }
     ensures { λ r. ⌜ r ≡ getD (reverse (own seat (take used journal))) later noEdit ⌝ }
 {
-    let mut left: usize = later;
-    let mut i: usize = used;
+    let mut left = later;
+    let mut i = used;
     while 0 < i {
-        i = i - 1;
+        i -= 1;
         let sought = journal[i];
         if sought.seat == seat {
             if left == 0 {
                 let e = sought.edit;
                 return e;
             }
-            left = left - 1;
+            left -= 1;
         }
     }
     no_edit()
@@ -93,21 +105,21 @@ pub fn compact(journal: [Record; RECORDS], used: usize, seat: usize, keep: usize
 {
     let b = blank_record();
     let mut out = [b; RECORDS];
-    let mut written: usize = 0;
-    let mut left: usize = keep;
-    let mut i: usize = 0;
+    let mut written = 0;
+    let mut left = keep;
+    let mut i = 0;
     while i < used {
         let entry = journal[i];
-        i = i + 1;
+        i += 1;
         if entry.seat == seat {
             if 0 < left {
-                left = left - 1;
+                left -= 1;
                 out[written] = entry;
-                written = written + 1;
+                written += 1;
             }
         } else {
             out[written] = entry;
-            written = written + 1;
+            written += 1;
         }
     }
     Compacted {
@@ -131,11 +143,11 @@ pub fn all_seated(journal: [Record; RECORDS], used: usize) -> bool
     requires { ⌜ used ≤ mostRecords ⌝ }
     ensures { λ r. ⌜ r ≡ seated (take used journal) ⌝ }
 {
-    let mut i: usize = 0;
+    let mut i = 0;
     while i < used {
         let r = journal[i];
         if r.seat < SEATS {
-            i = i + 1;
+            i += 1;
         } else {
             return false;
         }
@@ -152,17 +164,17 @@ pub fn can_redo_all(
     standing: usize,
 ) -> bool
     requires { ⌜ used ≤ mostRecords ⌝ }
-    ensures { λ r. ⌜ r ≡ replayable pins (drop standing (own seat (take used journal))) ⌝ }
+    ensures { λ r. ⌜ r ≡ makeableAll pins (drop standing (own seat (take used journal))) ⌝ }
 {
     let mut q = pins;
-    let mut skip: usize = standing;
-    let mut i: usize = 0;
+    let mut skip = standing;
+    let mut i = 0;
     while i < used {
         let redone = journal[i];
-        i = i + 1;
+        i += 1;
         if redone.seat == seat {
             if 0 < skip {
-                skip = skip - 1;
+                skip -= 1;
             } else {
                 let e = redone.edit;
                 if drawing::can_make(q, e) {
@@ -190,14 +202,14 @@ pub fn can_take_back_all(
     ensures { λ r. ⌜ r ≡ takeableAll pins (reverse (take standing (own seat (take used journal)))) ⌝ }
 {
     let mut q = pins;
-    let mut later: usize = owned - standing;
-    let mut i: usize = used;
+    let mut later = owned - standing;
+    let mut i = used;
     while 0 < i {
-        i = i - 1;
+        i -= 1;
         let undone = journal[i];
         if undone.seat == seat {
             if 0 < later {
-                later = later - 1;
+                later -= 1;
             } else {
                 let e = undone.edit;
                 if drawing::can_take_back(q, e) {

@@ -15,18 +15,22 @@ pub record Alike (at bt : ℕ → Place) (near neat : ℕ → ℕ) (n : ℕ) : T
   pub far-ends : (r : ℕ) → r < n → at (suc r) ≡ bt (suc r)
 
 module _ (at bt : ℕ → Place) (near neat : ℕ → ℕ) (n : ℕ) (alike : Alike at bt near neat n) where
+  -- Their runs are bent alike ..
   bent-alike : (r : ℕ) → r < n → isBent at near r ≡ isBent bt neat r
   unfolding isBent
   bent-alike r l = rw (alike .near-ends r l, alike .far-ends r l)
 
+  -- .. their pins show the same before a run leads on ..
   first-alike : (r : ℕ) (u : Bool) → r < n → firstTally at near (suc r) u ≡ firstTally bt neat (suc r) u
   unfolding firstTally
   first-alike r u l = rw (alike .near-ends r l, alike .far-ends r l)
 
+  -- .. and when one does ..
   next-alike : (t : Tally) (r : ℕ) (u : Bool) → r < n → nextTally at near t r u ≡ nextTally bt neat t r u
   unfolding nextTally
   next-alike t r u l = rw (alike .near-ends r l, alike .far-ends r l)
 
+  -- .. so that each pin costs the same ..
   cost-alike : (favoured : Bool) (k i next : ℕ) (t : Tally) → k + next ≤ n → pinCost at near favoured k i next t ≡ pinCost bt neat favoured k i next t
   unfolding pinCost
   cost-alike favoured zero i next t h = refl
@@ -46,6 +50,7 @@ module _ (at bt : ℕ → Place) (near neat : ℕ → ℕ) (n : ℕ) (alike : Al
         cost-alike favoured k i (suc next) t (omega arith),
       )
 
+  -- .. and as many choices are weighed.
   weighed-alike : (k i next c : ℕ) → k + next ≤ n → weighedFrom at near k i next c ≡ weighedFrom bt neat k i next c
   unfolding weighedFrom
   weighed-alike zero i next c h = refl

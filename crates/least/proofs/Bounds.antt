@@ -2,32 +2,38 @@
 -- Assumes that the places are on the board.
 use mathlib.Core.Path.{_≡_, sym, ap, _∙_}
 use mathlib.Core.Bool.{Bool, true, false}
-use Prim.Native.Nat.{ℕ, zero, suc, _+_, _*_, _^_, _≤_}
+use Prim.Native.Nat.{ℕ, zero, suc, _+_, _-_, _*_, _^_, _≤_}
 use native.Mathlib.Nat.{pow-suc, suc-mul, mul-assoc}
 use native.Mathlib.Omega.{arith}
 use lib.Dec.{eqb}
+use lib.Pow.{pow-mono}
 use Rattle.refusal.specs.Tests.{choose}
 use Rattle.grid.specs.declared.Place.{Place}
 use Rattle.grid.specs.Place.{inside}
+use Rattle.tree.specs.Trees.{mostRuns}
 use Rattle.copper.specs.declared.Tally.{Tally}
-use Rattle.least.specs.Asking.{markOf, lesserOf, doubledIf, isBent, firstTally, nextTally, pinCost, choicesFrom, weighedFrom, sizeFrom, Modest}
+use Rattle.least.specs.declared.Least.{Least}
+use Rattle.least.specs.Asking.{base, markOf, lesserOf, doubledIf, isBent, firstTally, nextTally, pinCost, choicesFrom, weighedFrom, leastFrom, sizeFrom, Modest}
 use Rattle.least.proofs.Reading.{mark-small}
 use Rattle.least.proofs.Modesty.{modest-first, modest-next, modest-owed}
 use Rattle.least.proofs.Stepping.{doubled-none, choices-sum, weighed-split}
 
--- The most that a pin owes, as a cost, and with the mark of the run that reached it.
+-- The most that a pin owes, as a cost.
 abbrev pub most : ℕ
 most = 1125899906842624
 
+-- The same with the mark of the run that reached it.
 abbrev pub each : ℕ
 each = 1125900980584448
 
+-- The lesser of two shapes is no more than the lower.
 pub lesser-low : (t : Bool) (x y : ℕ) → lesserOf t x y ≤ x
 unfolding lesserOf choose
 lesser-low true x y = omega arith
 lesser-low false x y = omega arith
 
 module _ (at : ℕ → Place) (near : ℕ → ℕ) (favoured : Bool) (on-board : (i : ℕ) → inside (at i) ≡ true) where
+  -- A pin costs at most so much for each run below it, and what it owes itself.
   pub cost-most : (k i next : ℕ) (t : Tally) → Modest t → pinCost at near favoured k i next t ≤ sizeFrom near k i next * each + most
   unfolding pinCost sizeFrom
   cost-most zero i next t m = omega (arith, modest-owed m)
@@ -41,7 +47,9 @@ module _ (at : ℕ → Place) (near : ℕ → ℕ) (favoured : Bool) (on-board :
       b = isBent at near next
 
       u : ℕ
-      u = markOf favoured next true + pinCost at near favoured k (suc next) (suc next) (firstTally at near (suc next) true) + pinCost at near favoured k i (suc next) (nextTally at near t next true)
+      u =
+          markOf favoured next true + pinCost at near favoured k (suc next) (suc next) (firstTally at near (suc next) true)
+          + pinCost at near favoured k i (suc next) (nextTally at near t next true)
 
       go : (h : Bool) (p q : ℕ) {x y z : ℕ} → x ≤ p * each + most → y ≤ q * each + most → z ≤ q * each + most
           → choose h (lesserOf b (markOf favoured next false + x + y) u) z ≤ choose h (1 + p + q) q * each + most
@@ -50,11 +58,13 @@ module _ (at : ℕ → Place) (near : ℕ → ℕ) (favoured : Bool) (on-board :
       go false p q e f g = unfold choose in g
 
 module _ (at : ℕ → Place) (near : ℕ → ℕ) where
+  -- A bent run at most doubles the choices.
   doubled-choices : (t : Bool) (k i next : ℕ) → choicesFrom at near k i next (doubledIf t 1) ≤ choicesFrom at near k i next 1 + choicesFrom at near k i next 1
   unfolding doubledIf choose
   doubled-choices true k i next = omega (arith, choices-sum at near k i next 1 1)
   doubled-choices false k i next = omega arith
 
+  -- Each run to come at most doubles the choices at a pin.
   pub choices-most : (k i next : ℕ) → choicesFrom at near k i next 1 ≤ 2 ^ k
   unfolding choicesFrom
   choices-most zero i next = omega arith
@@ -64,12 +74,22 @@ module _ (at : ℕ → Place) (near : ℕ → ℕ) where
       go true p q = unfold choose in omega (arith, pow-suc 2 k)
       go false p q = unfold choose in omega (arith, pow-suc 2 k)
 
+  -- At most as many choices as there are masks were weighed for what is found.
+  pub found-few : (favoured : Bool) (n i next : ℕ) (f : Least) (t : Tally) → n ≤ mostRuns → f ≡ leastFrom at near favoured n i next t → f .weighed ≤ base
+  unfolding leastFrom
+  found-few favoured n i next f t few e =
+      let c : f .weighed ≡ choicesFrom at near (n - next) i next 1 = ap (λ (z : Least). z .weighed) e in
+      let p : 2 ^ (n - next) ≤ 2 ^ mostRuns = pow-mono (let k : n - next ≤ mostRuns = omega arith in k) in
+      omega (arith, c, choices-most (n - next) i next, p)
+
+  -- How the bound of the choices below a pin grows with one run more.
   below-next : (k : ℕ) → suc k * 2 ^ suc k ≡ k * 2 ^ k + k * 2 ^ k + (2 ^ k + 2 ^ k)
   below-next k =
       let a : suc k * 2 ^ suc k ≡ k * 2 ^ suc k + 2 ^ suc k = suc-mul k (2 ^ suc k) in
       let b : k * 2 ^ suc k ≡ k * 2 ^ k * 2 = ap (λ (z : ℕ). k * z) (pow-suc 2 k) ∙ sym (mul-assoc k (2 ^ k) 2) in
       omega (arith, a, b, pow-suc 2 k)
 
+  -- The choices weighed below a pin are at most those of each run to come.
   pub below-most : (k i next : ℕ) → weighedFrom at near k i next 0 ≤ k * 2 ^ k
   unfolding weighedFrom
   below-most zero i next = omega arith

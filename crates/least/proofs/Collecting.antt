@@ -15,26 +15,28 @@ use borrow.Author.Tests.{eqb-true, eqb-false, not-true, not-false}
 use Rattle.refusal.specs.Tests.{choose}
 use Rattle.grid.specs.declared.Place.{Place}
 use Rattle.grid.specs.Place.{isStraight}
+use Rattle.feed.specs.Feeds.{mostPins}
+use Rattle.tree.specs.Trees.{mostRuns}
 use Rattle.copper.specs.declared.Tally.{Tally}
 use Rattle.copper.specs.Shapes.{shapeOf}
 use Rattle.copper.specs.Arms.{reachedBy}
 use Rattle.least.specs.declared.Asked.{Asked}
 use Rattle.least.specs.declared.Least.{Least}
-use Rattle.least.specs.Asking.{placeAt, nearAt, markOf, isBent, isBentInto, firstTally, pinBest, runBest, choicesFrom, weighedFrom, weighedBelow, askedPin, askedRun, leastFrom, sizeFrom, Known, Weighable, Askable}
+use Rattle.least.specs.Asking.{base, placeAt, nearAt, markOf, isBent, isBentInto, firstTally, pinBest, runBest, choicesFrom, weighedFrom, weighedBelow, askedPin, askedRun, leastFrom, sizeFrom, Known, Weighable, Askable}
 use Rattle.least.proofs.Reading.{mark-small}
 use Rattle.least.proofs.Modesty.{modest-first}
 use Rattle.least.proofs.Stepping.{choices-sum, weighed-split, weighed-on, weighed-past, weighed-end, size-on, size-past}
-use Rattle.least.proofs.Bounds.{most, each, cost-most, choices-most, below-most}
+use Rattle.least.proofs.Bounds.{most, each, cost-most, found-few, below-most}
 use Rattle.least.proofs.Weighing.{doubled-bent, doubled-straight}
 
 -- The runs of pin i before run r were asked; `weighed` choices were weighed for them.
 pub record Collected (xs ys : List ℤ) (near : List ℕ) (favoured : Bool) (n i : ℕ) (lower upper : List ℕ) (weighed r : ℕ) : Type 0 where
   pub ask : Askable xs ys near n i
-  pub low-long : length lower ≡ 31
-  pub up-long : length upper ≡ 31
+  pub low-long : length lower ≡ mostRuns
+  pub up-long : length upper ≡ mostRuns
   pub from : i ≤ r
   pub to : r ≤ n
-  pub small : sizeFrom (nearAt near) (n - r) i r ≤ 31
+  pub small : sizeFrom (nearAt near) (n - r) i r ≤ mostRuns
   pub known : (q : ℕ) → q < r → i ≤ q → nearAt near q ≡ i
       → (getD lower q 0 ≡ runBest (placeAt xs ys) (nearAt near) favoured n q false) × (getD upper q 0 ≡ runBest (placeAt xs ys) (nearAt near) favoured n q true)
   pub sum : weighed + weighedFrom (placeAt xs ys) (nearAt near) (n - r) i r 0 ≡ weighedFrom (placeAt xs ys) (nearAt near) (n - i) i i 0
@@ -46,7 +48,7 @@ one-shape at near zero e = refl
 one-shape at near (suc r) e = rw (not-false (isStraight (at (near r)) (at (suc r))) e)
 
 -- The pin and the near pin of the run that reached it are in range.
-pub pin-in : (xs ys : List ℤ) (near : List ℕ) (n i : ℕ) → Askable xs ys near n i → (i < 32) × ((i ≡ 0 → ⊥) → nearAt near (i - 1) < 32)
+pub pin-in : (xs ys : List ℤ) (near : List ℕ) (n i : ℕ) → Askable xs ys near n i → (i < mostPins) × ((i ≡ 0 → ⊥) → nearAt near (i - 1) < mostPins)
 pin-in xs ys near n i a =
     (omega (arith, a .upto, a .tree .few), λ ne. omega (arith, a .upto, a .tree .few, a .tree .grown (i - 1) (omega (arith, a .upto, ne)), ne))
 
@@ -57,32 +59,29 @@ module _ (xs ys : List ℤ) (near : List ℕ) (favoured : Bool) (n i : ℕ) wher
   abbrev on : ℕ → ℕ
   on = nearAt near
 
-  few-below : Askable xs ys near n i → weighedFrom at on (n - i) i i 0 ≤ 66571993088
+  -- The choices weighed below a pin are at most those of 31 runs.
+  few-below : Askable xs ys near n i → weighedFrom at on (n - i) i i 0 ≤ mostRuns * base
   few-below a =
-      let k : n - i ≤ 31 = omega (arith, a .tree .few) in
-      let p : 2 ^ (n - i) ≤ 2 ^ 31 = pow-mono k in
-      let q : (n - i) * 2 ^ (n - i) ≤ 31 * 2 ^ 31 = mul-le-mul k p in
+      let k : n - i ≤ mostRuns = omega (arith, a .tree .few) in
+      let p : 2 ^ (n - i) ≤ 2 ^ mostRuns = pow-mono k in
+      let q : (n - i) * 2 ^ (n - i) ≤ mostRuns * 2 ^ mostRuns = mul-le-mul k p in
       omega (arith, below-most at on (n - i) i i, q)
 
-  few-here : Askable xs ys near n i → (f : Least) (s : Tally) → f ≡ leastFrom at on favoured n i i s → f .weighed ≤ 2147483648
-  unfolding leastFrom
-  few-here a f s g =
-      let c : f .weighed ≡ choicesFrom at on (n - i) i i 1 = ap (λ (z : Least). z .weighed) g in
-      let k : n - i ≤ 31 = omega (arith, a .tree .few) in
-      let p : 2 ^ (n - i) ≤ 2 ^ 31 = pow-mono k in
-      omega (arith, c, choices-most at on (n - i) i i, p)
-
-  pub begin : (l u : List ℕ) → length l ≡ 31 → length u ≡ 31 → Askable xs ys near n i → Collected xs ys near favoured n i l u 0 i
+  -- Before its first run nothing is asked yet.
+  pub begin : (l u : List ℕ) → length l ≡ mostRuns → length u ≡ mostRuns → Askable xs ys near n i → Collected xs ys near favoured n i l u 0 i
   begin l u p q a =
       record { ask = a; low-long = p; up-long = q; from = omega arith; to = a .upto; small = a .small; known = λ r l h. absurd (omega arith); sum = omega arith }
 
   module _ (l u : List ℕ) (w r : ℕ) (c : Collected xs ys near favoured n i l u w r) where
-    pub room : r < n → r < 31
+    -- A run to be asked has its entry ..
+    pub room : r < n → r < mostRuns
     room h = omega (arith, c .ask .tree .few)
 
+    -- .. and where it leads on from the pin, its far pin can be asked.
     pub asks : r < n → on r ≡ i → Askable xs ys near n (r + 1)
     asks h e = record { tree = c .ask .tree; upto = omega arith; small = omega (arith, c .small, size-on at on n i r h e) }
 
+    -- A run of another pin is passed by.
     pub miss : r < n → (on r ≡ i → ⊥) → Collected xs ys near favoured n i l u w (r + 1)
     miss h e =
         record {
@@ -102,6 +101,7 @@ module _ (xs ys : List ℤ) (near : List ℕ) (favoured : Bool) (n i : ℕ) wher
         go q b k z false y = let ne : q ≡ r → ⊥ = eqb-false q r y in c .known q (omega (arith, ne)) k z
 
     module _ (h : r < n) (e : on r ≡ i) (a : Asked) (g : a ≡ askedRun at on favoured n r) where
+      -- What the run answers: its cost in either shape, and the choices weighed for it.
       lower-is : a .lower ≡ runBest at on favoured n r false
       unfolding askedRun
       lower-is = ap (λ (z : Asked). z .lower) g
@@ -114,9 +114,11 @@ module _ (xs ys : List ℤ) (near : List ℕ) (favoured : Bool) (n i : ℕ) wher
       unfolding askedRun
       weighed-is = ap (λ (z : Asked). z .weighed) g
 
+      -- These still fit with those before ..
       pub adds : w + a .weighed < 18446744073709551616
       adds = omega (arith, weighed-is, c .sum, weighed-on at on n i r h e, few-below (c .ask))
 
+      -- .. and the answer is kept.
       pub hit : Collected xs ys near favoured n i (set l r (a .lower)) (set u r (a .upper)) (w + a .weighed) (r + 1)
       hit =
           record {
@@ -144,9 +146,11 @@ module _ (xs ys : List ℤ) (near : List ℕ) (favoured : Bool) (n i : ℕ) wher
 
     -- All were asked.
     module _ (h : n ≤ r) where
+      -- All choices below the pin are counted.
       at-end : w ≡ weighedFrom at on (n - i) i i 0
       at-end = omega (arith, c .sum, weighed-end at on n i r h)
 
+      -- So the shapes of its runs can be weighed.
       pub weighs : (v : Bool) (s : Tally) → s ≡ firstTally at on i v → Weighable xs ys near l u favoured n i i s
       unfolding Known
       weighs v s e =
@@ -158,8 +162,9 @@ module _ (xs ys : List ℤ) (near : List ℕ) (favoured : Bool) (n i : ℕ) wher
           }
 
       module _ (f : Least) (s : Tally) (es : s ≡ firstTally at on i false) (ef : f ≡ leastFrom at on favoured n i i s) where
+        -- The choices at the pin fit with those below it, for one shape of the run that reached it ..
         pub fits-one : w + f .weighed < 18446744073709551616
-        fits-one = omega (arith, at-end, few-below (c .ask), few-here (c .ask) f s ef)
+        fits-one = omega (arith, at-end, few-below (c .ask), found-few at on favoured n i i f s (c .ask .tree .few) ef)
 
         -- A pin that a straight run reached, or none.
         pub answer-straight : (b : Bool) → b ≡ isBentInto at on i → not b ≡ true
@@ -172,9 +177,13 @@ module _ (xs ys : List ℤ) (near : List ℕ) (favoured : Bool) (n i : ℕ) wher
 
         -- A pin that a bent run reached.
         module _ (g : Least) (v : Tally) (ev : v ≡ firstTally at on i true) (eg : g ≡ leastFrom at on favoured n i i v) where
+          -- .. and for both.
           pub fits-two : w + f .weighed + g .weighed < 18446744073709551616
-          fits-two = omega (arith, at-end, few-below (c .ask), few-here (c .ask) f s ef, few-here (c .ask) g v eg)
+          fits-two =
+              let few = c .ask .tree .few in
+              omega (arith, at-end, few-below (c .ask), found-few at on favoured n i i f s few ef, found-few at on favoured n i i g v few eg)
 
+          -- It answers with what either shape costs.
           pub answer-bent : (b : Bool) → b ≡ isBentInto at on i → not b ≡ false
               → record { lower = f .cost; upper = g .cost; weighed = w + f .weighed + g .weighed } ≡ askedPin at on favoured n i
           unfolding askedPin pinBest weighedBelow leastFrom
@@ -186,7 +195,8 @@ module _ (xs ys : List ℤ) (near : List ℕ) (favoured : Bool) (n i : ℕ) wher
 
   -- The run that reaches pin i + 1 asks it.
   module _ (a : Askable xs ys near n (i + 1)) (f : Asked) (e : f ≡ askedPin at on favoured n (i + 1)) where
-    pin-most : (v : Bool) → pinBest at on favoured n (i + 1) v ≤ 31 * each + most
+    -- A pin costs at most so much for each of 31 runs.
+    pin-most : (v : Bool) → pinBest at on favoured n (i + 1) v ≤ mostRuns * each + most
     unfolding pinBest
     pin-most v =
         omega (
@@ -195,18 +205,21 @@ module _ (xs ys : List ℤ) (near : List ℕ) (favoured : Bool) (n i : ℕ) wher
           cost-most at on favoured (a .tree .on-board) (n - (i + 1)) (i + 1) (i + 1) (firstTally at on (i + 1) v) (modest-first at on (a .tree .on-board) (i + 1) v),
         )
 
+    -- So its cost fits with the mark of the run in the lower shape ..
     pub fits-lower : (m : ℕ) → m ≡ markOf favoured i false → m + f .lower < 18446744073709551616
     unfolding askedPin
     fits-lower m em =
         let z : f .lower ≡ pinBest at on favoured n (i + 1) false = ap (λ (y : Asked). y .lower) e in
         omega (arith, z, pin-most false, mark-small favoured false i)
 
+    -- .. and in the upper ..
     pub fits-upper : (m : ℕ) → m ≡ markOf favoured i true → m + f .upper < 18446744073709551616
     unfolding askedPin
     fits-upper m em =
         let z : f .upper ≡ pinBest at on favoured n (i + 1) true = ap (λ (y : Asked). y .upper) e in
         omega (arith, z, pin-most true, mark-small favoured true i)
 
+    -- .. and these are what the run answers.
     pub run-answer : (m o : ℕ) → m ≡ markOf favoured i false → o ≡ markOf favoured i true
         → record { lower = m + f .lower; upper = o + f .upper; weighed = f .weighed } ≡ askedRun at on favoured n i
     unfolding askedRun askedPin runBest

@@ -29,6 +29,7 @@ record Ours (p : Place) : Type 0 where
   held-x : I32 (p .x)
   held-y : I32 (p .y)
 
+-- A place inside the board is one.
 ours : (p : Place) → inside p ≡ true → Ours p
 unfolding inside
 ours p e =
@@ -38,6 +39,7 @@ ours p e =
     let k = number-held (p .y) b in
     record { x = board (record { sfits = h }) a; y = board (record { sfits = k }) b; held-x = h; held-y = k }
 
+-- It fits the numbers that hold it.
 held : {p : Place} → Ours p → Held p
 held o = record { x = o .held-x; y = o .held-y }
 
@@ -45,11 +47,13 @@ held o = record { x = o .held-x; y = o .held-y }
 cross : {a b : Place} → Ours a → Ours b → Ours (crossing a b)
 cross p q = record { x = p .x; y = q .y; held-x = p .held-x; held-y = q .held-y }
 
+-- Either of two such places is one ..
 either-ours : (t : Bool) {a b : Place} → Ours a → Ours b → Ours (choose t a b)
 unfolding choose
 either-ours true p q = p
 either-ours false p q = q
 
+-- .. and so is a corner between them.
 corner-ours : (s : Shape) (a b : Place) → Ours a → Ours b → Ours (cornerOf s a b)
 corner-ours Straight a b p q = q
 corner-ours Lower a b p q = unfold lowerCorner in either-ours _ (cross q p) (cross p q)
@@ -62,10 +66,12 @@ record Brief (a : Arms) : Type 0 where
   north : a .north ≤ 131072
   south : a .south ≤ 131072
 
+-- An arm is as long as its ends are apart, or nothing.
 brief-by : (t : Bool) (h k : ℕ) → k - h ≤ 131072 → cond t (k - h) 0 ≤ 131072
 brief-by true h k l = l
 brief-by false h k l = omega arith
 
+-- The arm from one to another is brief.
 arms-brief : (a b : Place) → Ours a → Ours b → Brief (armsTo a b)
 arms-brief a b p q = rw (arms-site a b (held p) (held q)) go
   where
@@ -83,11 +89,13 @@ arms-brief a b p q = rw (arms-site a b (held p) (held q)) go
 pub modest-fair : {t : Tally} → Modest t → Fair t
 modest-fair m = record { east = omega arith; west = omega arith; north = omega arith; south = omega arith; paid = m .paid }
 
+-- It owes at most so many steps.
 pub modest-owed : {t : Tally} → Modest t → owed t ≤ 524288
 unfolding owed spread
 modest-owed m = omega arith
 
 module _ (at : ℕ → Place) (near : ℕ → ℕ) (on-board : (i : ℕ) → inside (at i) ≡ true) where
+  -- What a pin of the board shows is modest, before any run leads on ..
   pub modest-first : (i : ℕ) (u : Bool) → Modest (firstTally at near i u)
   unfolding firstTally spread
   modest-first zero u = omega arith
@@ -95,17 +103,20 @@ module _ (at : ℕ → Place) (near : ℕ → ℕ) (on-board : (i : ℕ) → ins
       let a = ours (at (near r)) (on-board (near r)) in
       let b = ours (at (suc r)) (on-board (suc r)) in
       let f = fair-reached u (at (near r)) (at (suc r)) (held a) (held b) in
-      let s = arms-brief (at (suc r)) (cornerOf (shapeOf u (at (near r)) (at (suc r))) (at (suc r)) (at (near r))) b (corner-ours (shapeOf u (at (near r)) (at (suc r))) (at (suc r)) (at (near r)) b a) in
+      let shape = shapeOf u (at (near r)) (at (suc r)) in
+      let s = arms-brief (at (suc r)) (cornerOf shape (at (suc r)) (at (near r))) b (corner-ours shape (at (suc r)) (at (near r)) b a) in
       unfold reachedBy in record { east = s .east; west = s .west; north = s .north; south = s .south; paid = unfold reachedBy in f .paid }
 
+  -- .. and when one more does.
   pub modest-next : (t : Tally) (r : ℕ) (u : Bool) → Modest t → Modest (nextTally at near t r u)
   unfolding nextTally leadingOn
   modest-next t r u m =
       let a = ours (at (near r)) (on-board (near r)) in
       let b = ours (at (suc r)) (on-board (suc r)) in
       let f = fair-leading u (at (near r)) (at (suc r)) (held a) (held b) t (modest-fair m) in
-      let s = arms-brief (at (near r)) (cornerOf (shapeOf u (at (near r)) (at (suc r))) (at (near r)) (at (suc r))) a (corner-ours (shapeOf u (at (near r)) (at (suc r))) (at (near r)) (at (suc r)) a b) in
-      go (armsTo (at (near r)) (cornerOf (shapeOf u (at (near r)) (at (suc r))) (at (near r)) (at (suc r)))) s (unfold leadingOn in f .paid)
+      let shape = shapeOf u (at (near r)) (at (suc r)) in
+      let s = arms-brief (at (near r)) (cornerOf shape (at (near r)) (at (suc r))) a (corner-ours shape (at (near r)) (at (suc r)) a b) in
+      go (armsTo (at (near r)) (cornerOf shape (at (near r)) (at (suc r)))) s (unfold leadingOn in f .paid)
     where
       go : (b : Arms) → Brief b → t .paid ≤ spread (longest (t .arms) b) → Modest (record { arms = longest (t .arms) b; paid = t .paid })
       go b s p =

@@ -17,6 +17,7 @@ use Rattle.least.specs.Asking.{base, lesserOf, doubledIf, isBent, isBent
 more : (n next : ℕ) → next < n → n - next ≡ suc (n - (next + 1))
 more n next l = omega arith
 
+-- With none to come.
 no-more : (n next : ℕ) → n ≤ next → n - next ≡ 0
 no-more n next l = omega arith
 
@@ -26,6 +27,7 @@ unfolding doubledIf choose
 doubled-sum true c d = omega arith
 doubled-sum false c d = refl
 
+-- Twice nothing is nothing.
 pub doubled-none : (t : Bool) → doubledIf t 0 ≡ 0
 unfolding doubledIf choose
 doubled-none true = refl
@@ -43,7 +45,8 @@ module _ (at : ℕ → Place) (near : ℕ → ℕ) where
       t = isBent at near next
 
       go : (h : Bool)
-          → choicesFrom at near k i (suc next) (doubledIf t c + doubledIf t d) ≡ choicesFrom at near k i (suc next) (doubledIf t c) + choicesFrom at near k i (suc next) (doubledIf t d)
+          → choicesFrom at near k i (suc next) (doubledIf t c + doubledIf t d)
+          ≡ choicesFrom at near k i (suc next) (doubledIf t c) + choicesFrom at near k i (suc next) (doubledIf t d)
           → choicesFrom at near k i (suc next) (c + d) ≡ choicesFrom at near k i (suc next) c + choicesFrom at near k i (suc next) d
           → choose h (choicesFrom at near k i (suc next) (doubledIf t (c + d))) (choicesFrom at near k i (suc next) (c + d))
           ≡ choose h (choicesFrom at near k i (suc next) (doubledIf t c)) (choicesFrom at near k i (suc next) c)
@@ -75,41 +78,50 @@ module _ (at : ℕ → Place) (near : ℕ → ℕ) where
   -- Of n runs.
   module _ (n i next : ℕ) where
     module _ (l : next < n) (h : near next ≡ i) where
+      -- A run that leads on from the pin, where it is bent, doubles the choices there ..
       pub choices-on : (c : ℕ) → choicesFrom at near (n - next) i next c ≡ choicesFrom at near (n - (next + 1)) i (next + 1) (doubledIf (isBent at near next) c)
       unfolding choicesFrom choose
       choices-on c = rw (more n next l, eq-eqb (near next) i h, add-one next)
 
+      -- .. adds those weighed at its far pin and below ..
       pub weighed-on : weighedFrom at near (n - next) i next 0 ≡ weighedBelow at near n (next + 1) + weighedFrom at near (n - (next + 1)) i (next + 1) 0
       unfolding weighedFrom weighedBelow isBentInto choose
       weighed-on = rw (more n next l, eq-eqb (near next) i h, add-one next, doubled-none (isBent at near next))
 
+      -- .. and counts with the runs below its far pin.
       pub size-on : sizeFrom near (n - next) i next ≡ 1 + sizeFrom near (n - (next + 1)) (next + 1) (next + 1) + sizeFrom near (n - (next + 1)) i (next + 1)
       unfolding sizeFrom choose
       size-on = rw (more n next l, eq-eqb (near next) i h, add-one next)
 
     module _ (l : next < n) (h : near next ≡ i → ⊥) where
+      -- A run of another pin changes neither the choices at this pin ..
       pub choices-past : (c : ℕ) → choicesFrom at near (n - next) i next c ≡ choicesFrom at near (n - (next + 1)) i (next + 1) c
       unfolding choicesFrom choose
       choices-past c = rw (more n next l, ne-eqb (near next) i h, add-one next)
 
+      -- .. nor those below it ..
       pub weighed-past : weighedFrom at near (n - next) i next 0 ≡ weighedFrom at near (n - (next + 1)) i (next + 1) 0
       unfolding weighedFrom choose
       weighed-past = rw (more n next l, ne-eqb (near next) i h, add-one next)
 
+      -- .. nor the number of its runs.
       pub size-past : sizeFrom near (n - next) i next ≡ sizeFrom near (n - (next + 1)) i (next + 1)
       unfolding sizeFrom choose
       size-past = rw (more n next l, ne-eqb (near next) i h, add-one next)
 
     module _ (l : n ≤ next) where
+      -- After the last run the choices are as many as came to the pin ..
       pub choices-end : (c : ℕ) → choicesFrom at near (n - next) i next c ≡ c
       unfolding choicesFrom
       choices-end c = rw (no-more n next l)
 
+      -- .. and there are none below it.
       pub weighed-end : weighedFrom at near (n - next) i next 0 ≡ 0
       unfolding weighedFrom
       weighed-end = rw (no-more n next l)
 
     module _ (favoured : Bool) (t : Tally) where
+      -- With a run that leads on, the pin costs the lesser of what its shapes come to, each with the runs after it.
       pub cost-on : next < n → near next ≡ i
           → pinCost at near favoured (n - next) i next t
           ≡ lesserOf (isBent at near next)
@@ -118,10 +130,12 @@ module _ (at : ℕ → Place) (near : ℕ → ℕ) where
       unfolding pinCost runBest pinBest choose
       cost-on l h = rw (more n next l, eq-eqb (near next) i h, add-one next)
 
+      -- A run of another pin costs it nothing.
       pub cost-past : next < n → (near next ≡ i → ⊥) → pinCost at near favoured (n - next) i next t ≡ pinCost at near favoured (n - (next + 1)) i (next + 1) t
       unfolding pinCost choose
       cost-past l h = rw (more n next l, ne-eqb (near next) i h, add-one next)
 
+      -- After the last run it costs what its arms owe.
       pub cost-end : n ≤ next → pinCost at near favoured (n - next) i next t ≡ owed t * base
       unfolding pinCost
       cost-end l = rw (no-more n next l)

@@ -10,6 +10,7 @@ use lib.IntN.{ℤ}
 use lib.Dec.{eqb}
 use Rattle.refusal.specs.Tests.{choose}
 use Rattle.grid.specs.declared.Place.{Place}
+use Rattle.tree.specs.Trees.{mostRuns}
 use Rattle.copper.specs.declared.Tally.{Tally}
 use Rattle.copper.specs.Arms.{owed, noTally}
 use Rattle.copper_laws.proofs.Sums.{sumBelow, sum-same, sum-none}
@@ -17,11 +18,13 @@ use Rattle.copper_laws.proofs.Least.{lesser, best, shown, total, best-least, be
 use Rattle.copper_laws.proofs.Tallies.{startAt, addAt, bentAt, leastOf}
 use Rattle.least.specs.Asking.{base, nearAt, markOf, lesserOf, doubledIf, isBent, isBentInto, firstTally, nextTally, pinCost, pinBest, weighedFrom, weighedBelow, sizeFrom, Grown, Askable}
 
+-- A choice as the specs write it, and as the law of least choices does.
 choose-cond : (t : Bool) (x y : ℕ) → choose t x y ≡ cond t x y
 unfolding choose
 choose-cond true x y = refl
 choose-cond false x y = refl
 
+-- As many ones as runs.
 sum-ones : (n : ℕ) → sumBelow n (λ r. 1) ≡ n
 unfolding sumBelow
 sum-ones zero = refl
@@ -36,6 +39,7 @@ module _ (near : ℕ → ℕ) where
       choose-cond (eqb (near next) i) (1 + sizeFrom near k (suc next) (suc next) + sizeFrom near k i (suc next)) (sizeFrom near k i (suc next))
       ∙ rw (size-is k (suc next) (suc next), size-is k i (suc next))
 
+  -- A tree has no more runs below its first pin than it has.
   size-most : (n : ℕ) → ((r : ℕ) → r < n → near r ≤ r) → sizeFrom near n 0 0 ≤ n
   unfolding total
   size-most n grown =
@@ -48,7 +52,7 @@ askable xs ys near n g =
     record {
       tree = g;
       upto = omega arith;
-      small = rw (sub-zero n) (let z : sizeFrom (nearAt near) n 0 0 ≤ 31 = omega (arith, size-most (nearAt near) n (g .grown), g .few) in z);
+      small = rw (sub-zero n) (let z : sizeFrom (nearAt near) n 0 0 ≤ mostRuns = omega (arith, size-most (nearAt near) n (g .grown), g .few) in z);
     }
 
 module _ (at : ℕ → Place) (near : ℕ → ℕ) where
@@ -72,6 +76,7 @@ module _ (at : ℕ → Place) (near : ℕ → ℕ) where
       same true false x y z = unfold choose lesserOf in refl
       same false b x y z = unfold choose in refl
 
+  -- So the first pin costs the least of all choices of shapes at once.
   pub tree-cost : (favoured : Bool) (n : ℕ) → pinBest at near favoured n 0 false ≡ leastOf at near base (markOf favoured) n
   unfolding pinBest leastOf firstTally
   tree-cost favoured n = rw (sub-zero n) (cost-is favoured n 0 0 noTally)
@@ -87,6 +92,7 @@ module _ (at : ℕ → Place) (near : ℕ → ℕ) where
   abbrev nextCount : ℕ → ℕ → Bool → ℕ
   nextCount a r u = doubledIf (isBent at near r) a
 
+  -- The choices weighed, as a least cost: each pin costs its choices, and no shape costs anything.
   weighed-is : (k i next c : ℕ) → weighedFrom at near k i next c ≡ best ℕ firstCount nextCount (λ a. a) near (λ r. false) (λ r u. 0) k i next c
   unfolding weighedFrom best isBentInto
   weighed-is zero i next c = refl
@@ -98,6 +104,7 @@ module _ (at : ℕ → Place) (near : ℕ → ℕ) where
       same true x y z = unfold choose in omega arith
       same false x y z = unfold choose in refl
 
+  -- What a pin shows is then its choices.
   shown-is : (m : ℕ) (s : ℕ → Bool) (i : ℕ) → shown ℕ firstCount nextCount (λ a. a) near (λ r. false) (λ r u. 0) m s i ≡ weighedAt m i
   unfolding shown weighedAt
   shown-is zero s i = refl
@@ -108,7 +115,8 @@ module _ (at : ℕ → Place) (near : ℕ → ℕ) where
   unfolding weighedBelow total
   tree-weighed n grown =
       let z = best-reached ℕ firstCount nextCount (λ a. a) near (λ r. false) (λ r u. 0) n grown in
-      let e : weighedFrom at near (n - 0) 0 0 (firstCount 0 false) ≡ weighedFrom at near n 0 0 (firstCount 0 false) = ap (λ (k : ℕ). weighedFrom at near k 0 0 (firstCount 0 false)) (sub-zero n) in
+      let e : weighedFrom at near (n - 0) 0 0 (firstCount 0 false) ≡ weighedFrom at near n 0 0 (firstCount 0 false) =
+      ap (λ (k : ℕ). weighedFrom at near k 0 0 (firstCount 0 false)) (sub-zero n) in
       omega (
         arith,
         e,

@@ -11,9 +11,11 @@ use lib.ListN.{getD}
 use Rattle.refusal.specs.Tests.{choose}
 use Rattle.grid.specs.declared.Place.{Place}
 use Rattle.grid.specs.Place.{inside, isStraight}
+use Rattle.tree.specs.Trees.{mostRuns}
 use Rattle.copper.specs.declared.Tally.{Tally}
 use Rattle.copper.specs.Arms.{noTally, reachedBy, leadingOn, owed, spread}
 use Rattle.least.specs.declared.Asked.{Asked}
+use Rattle.least.specs.declared.Ends.{Ends}
 use Rattle.least.specs.declared.Least.{Least}
 
 -- One more than any mask of 31 shapes.
@@ -33,9 +35,13 @@ abbrev pub differs : Bool → Bool → Bool
 differs true b = not b
 differs false b = b
 
--- The mark of a shape in the mask: none for the favoured shape; for the other one that outweighs the marks of all later runs.
+-- The mark of a run in a mask of shapes outweighs the marks of all later runs.
+abbrev pub markAt : ℕ → ℕ
+markAt r = 2 ^ (mostRuns - 1 - r)
+
+-- The mark of a shape in the mask: none for the favoured shape, and for the other the run's.
 unfoldable pub markOf : Bool → ℕ → Bool → ℕ
-markOf favoured r upper = choose (differs upper favoured) (2 ^ (30 - r)) 0
+markOf favoured r upper = choose (differs upper favoured) (markAt r) 0
 
 -- The lesser of what the shapes of a bent run come to; a straight run has one shape.
 unfoldable pub lesserOf : Bool → ℕ → ℕ → ℕ
@@ -46,9 +52,13 @@ unfoldable pub doubledIf : Bool → ℕ → ℕ
 doubledIf t n = choose t (n + n) n
 
 module _ (at : ℕ → Place) (near : ℕ → ℕ) where
+  -- Where a run begins, and where it ends.
+  abbrev pub endsOf : ℕ → Ends
+  endsOf r = record { near = at (near r); far = at (suc r) }
+
   -- A run whose ends share neither x nor y is bent.
   unfoldable pub isBent : ℕ → Bool
-  isBent r = not (isStraight (at (near r)) (at (suc r)))
+  isBent r = not (isStraight (endsOf r .near) (endsOf r .far))
 
   -- The run that reached a pin is bent; no run reached the first.
   unfoldable pub isBentInto : ℕ → Bool
@@ -58,11 +68,11 @@ module _ (at : ℕ → Place) (near : ℕ → ℕ) where
   -- What a pin shows before any run leads on, where the run that reached it has this shape.
   unfoldable pub firstTally : ℕ → Bool → Tally
   firstTally zero upper = noTally
-  firstTally (suc r) upper = reachedBy upper (at (near r)) (at (suc r))
+  firstTally (suc r) upper = reachedBy upper (endsOf r .near) (endsOf r .far)
 
   -- What a pin shows when run r leads on in this shape too.
   unfoldable pub nextTally : Tally → ℕ → Bool → Tally
-  nextTally tally r upper = leadingOn tally upper (at (near r)) (at (suc r))
+  nextTally tally r upper = leadingOn tally upper (endsOf r .near) (endsOf r .far)
 
   module _ (favoured : Bool) where
     -- What pin i costs with all below it, where it shows `tally` and the k runs from `next` on are to come.
@@ -132,7 +142,7 @@ pub record Modest (tally : Tally) : Type 0 where
 
 -- A tree of pins on the board, written by when its pins were reached.
 pub record Grown (xs ys : List ℤ) (near : List ℕ) (n : ℕ) : Type 0 where
-  pub few : n ≤ 31
+  pub few : n ≤ mostRuns
   pub grown : (r : ℕ) → r < n → nearAt near r ≤ r
   pub on-board : (i : ℕ) → inside (placeAt xs ys i) ≡ true
 
@@ -147,10 +157,10 @@ pub record Weighable (xs ys : List ℤ) (near lower upper : List ℕ) (favoured 
   pub tree : Grown xs ys near n
   pub modest : Modest tally
   pub known : Known (placeAt xs ys) (nearAt near) favoured n lower upper i next
-  pub small : sizeFrom (nearAt near) (n - next) i next ≤ 31
+  pub small : sizeFrom (nearAt near) (n - next) i next ≤ mostRuns
 
 -- What asking a pin asks for.
 pub record Askable (xs ys : List ℤ) (near : List ℕ) (n i : ℕ) : Type 0 where
   pub tree : Grown xs ys near n
   pub upto : i ≤ n
-  pub small : sizeFrom (nearAt near) (n - i) i i ≤ 31
+  pub small : sizeFrom (nearAt near) (n - i) i i ≤ mostRuns

@@ -1,10 +1,14 @@
 // The least cost of a tree's shapes: what a pin costs is asked of the runs below it, and what a run costs of the pin at its far end.
 // Pins are numbered by when they were reached: run r reaches pin r + 1 from pin near[r]. A shape is a bool: false is lower, true is upper.
 use copper::Tally;
+use feed::PINS;
 use grid::Place;
+use tree::RUNS;
 ghost use mathlib.Core.Path.{_≡_};
 ghost use Prim.Native.Nat.{_+_, _-_, _<_, min};
-ghost use Rattle.least.specs.Asking.{placeAt, nearAt, markOf, isBent, isBentInto, firstTally, nextTally, askedPin, askedRun, leastFrom, leastOfTree, Grown, Weighable, Askable};
+ghost use Rattle.feed.specs.Feeds.{mostPins};
+ghost use Rattle.tree.specs.Trees.{mostRuns};
+ghost use Rattle.least.specs.Asking.{placeAt, nearAt, markOf, endsOf, isBent, isBentInto, firstTally, nextTally, askedPin, askedRun, leastFrom, leastOfTree, Grown, Weighable, Askable};
 
 // One more than any mask of 31 shapes.
 pub const BASE: u64 = 2147483648;
@@ -22,9 +26,15 @@ pub struct Least {
     pub weighed: u64,
 }
 
+// Where a run begins, and where it ends.
+pub struct Ends {
+    pub near: Place,
+    pub far: Place,
+}
+
 // Where a pin stands.
-fn place_at(xs: &[i32; 32], ys: &[i32; 32], pin: usize) -> Place
-    requires { ⌜ pin < 32 ⌝ }
+fn place_at(xs: &[i32; PINS], ys: &[i32; PINS], pin: usize) -> Place
+    requires { ⌜ pin < mostPins ⌝ }
     ensures { λ r. ⌜ r ≡ placeAt (now (xs .entry)) (now (ys .entry)) pin ⌝ }
 {
     Place {
@@ -33,19 +43,28 @@ fn place_at(xs: &[i32; 32], ys: &[i32; 32], pin: usize) -> Place
     }
 }
 
+// The ends of a run.
+fn ends_of(xs: &[i32; PINS], ys: &[i32; PINS], near: &[usize; RUNS], run: usize) -> Ends
+    requires { ⌜ (run < mostRuns) × (nearAt (now near) run < mostPins) ⌝ }
+    ensures { λ r. ⌜ r ≡ endsOf (placeAt (now (xs .entry)) (now (ys .entry))) (nearAt (now (near .entry))) run ⌝ }
+{
+    let near = place_at(xs, ys, near[run]);
+    let far = place_at(xs, ys, run + 1);
+    Ends { near, far }
+}
+
 // Whether a run is bent.
-fn is_bent(xs: &[i32; 32], ys: &[i32; 32], near: &[usize; 31], run: usize) -> bool
-    requires { ⌜ (run < 31) × (nearAt (now near) run < 32) ⌝ }
+fn is_bent(xs: &[i32; PINS], ys: &[i32; PINS], near: &[usize; RUNS], run: usize) -> bool
+    requires { ⌜ (run < mostRuns) × (nearAt (now near) run < mostPins) ⌝ }
     ensures { λ r. ⌜ r ≡ isBent (placeAt (now (xs .entry)) (now (ys .entry))) (nearAt (now (near .entry))) run ⌝ }
 {
-    let a = place_at(xs, ys, near[run]);
-    let b = place_at(xs, ys, run + 1);
-    !copper::is_straight(a, b)
+    let ends = ends_of(xs, ys, near, run);
+    !copper::is_straight(ends.near, ends.far)
 }
 
 // Whether the run that reached a pin is bent.
-fn is_bent_into(xs: &[i32; 32], ys: &[i32; 32], near: &[usize; 31], pin: usize) -> bool
-    requires { ⌜ (pin < 32) × ((pin ≡ 0 → ⊥) → nearAt (now near) (pin - 1) < 32) ⌝ }
+fn is_bent_into(xs: &[i32; PINS], ys: &[i32; PINS], near: &[usize; RUNS], pin: usize) -> bool
+    requires { ⌜ (pin < mostPins) × ((pin ≡ 0 → ⊥) → nearAt (now near) (pin - 1) < mostPins) ⌝ }
     ensures { λ r. ⌜ r ≡ isBentInto (placeAt (now (xs .entry)) (now (ys .entry))) (nearAt (now (near .entry))) pin ⌝ }
 {
     if pin == 0 {
@@ -56,43 +75,47 @@ fn is_bent_into(xs: &[i32; 32], ys: &[i32; 32], near: &[usize; 31], pin: usize) 
 
 // The mark of a shape in the mask of shapes.
 fn mark(favoured: bool, run: usize, upper: bool) -> u64
-    requires { ⌜ run < 31 ⌝ }
+    requires { ⌜ run < mostRuns ⌝ }
     ensures { λ r. ⌜ r ≡ markOf favoured run upper ⌝ }
 {
     if upper == favoured {
         return 0;
     }
-    1 << (30 - run)
+    1 << (RUNS - 1 - run)
 }
 
 // What a pin shows before any run leads on.
-fn first_tally(xs: &[i32; 32], ys: &[i32; 32], near: &[usize; 31], pin: usize, upper: bool) -> Tally
-    requires { ⌜ (pin < 32) × ((pin ≡ 0 → ⊥) → nearAt (now near) (pin - 1) < 32) ⌝ }
+fn first_tally(
+    xs: &[i32; PINS],
+    ys: &[i32; PINS],
+    near: &[usize; RUNS],
+    pin: usize,
+    upper: bool,
+) -> Tally
+    requires { ⌜ (pin < mostPins) × ((pin ≡ 0 → ⊥) → nearAt (now near) (pin - 1) < mostPins) ⌝ }
     ensures { λ r. ⌜ r ≡ firstTally (placeAt (now (xs .entry)) (now (ys .entry))) (nearAt (now (near .entry))) pin upper ⌝ }
 {
     if pin == 0 {
         return copper::no_tally();
     }
-    let a = place_at(xs, ys, near[pin - 1]);
-    let b = place_at(xs, ys, pin);
-    copper::reached_by(upper, a, b)
+    let ends = ends_of(xs, ys, near, pin - 1);
+    copper::reached_by(upper, ends.near, ends.far)
 }
 
 // What a pin shows when a run leads on too.
 fn next_tally(
-    xs: &[i32; 32],
-    ys: &[i32; 32],
-    near: &[usize; 31],
+    xs: &[i32; PINS],
+    ys: &[i32; PINS],
+    near: &[usize; RUNS],
     tally: Tally,
     run: usize,
     upper: bool,
 ) -> Tally
-    requires { ⌜ (run < 31) × (nearAt (now near) run < 32) ⌝ }
+    requires { ⌜ (run < mostRuns) × (nearAt (now near) run < mostPins) ⌝ }
     ensures { λ r. ⌜ r ≡ nextTally (placeAt (now (xs .entry)) (now (ys .entry))) (nearAt (now (near .entry))) tally run upper ⌝ }
 {
-    let a = place_at(xs, ys, near[run]);
-    let b = place_at(xs, ys, run + 1);
-    copper::leading_on(tally, upper, a, b)
+    let ends = ends_of(xs, ys, near, run);
+    copper::leading_on(tally, upper, ends.near, ends.far)
 }
 
 // The lesser of two costs.
@@ -104,11 +127,11 @@ fn lesser(a: u64, b: u64) -> u64
 
 // What a pin costs with all below it, where it shows `tally` and the runs from `run` on are to come: every choice of their shapes is weighed.
 fn weigh(
-    xs: &[i32; 32],
-    ys: &[i32; 32],
-    near: &[usize; 31],
-    lower: &[u64; 31],
-    upper: &[u64; 31],
+    xs: &[i32; PINS],
+    ys: &[i32; PINS],
+    near: &[usize; RUNS],
+    lower: &[u64; RUNS],
+    upper: &[u64; RUNS],
     favoured: bool,
     count: usize,
     pin: usize,
@@ -125,6 +148,7 @@ fn weigh(
             weighed: 1,
         };
     }
+    let next = run + 1;
     if near[run] != pin {
         return weigh(
             xs,
@@ -135,23 +159,12 @@ fn weigh(
             favoured,
             count,
             pin,
-            run + 1,
+            next,
             tally,
         );
     }
     let low = next_tally(xs, ys, near, tally, run, false);
-    let below = weigh(
-        xs,
-        ys,
-        near,
-        lower,
-        upper,
-        favoured,
-        count,
-        pin,
-        run + 1,
-        low,
-    );
+    let below = weigh(xs, ys, near, lower, upper, favoured, count, pin, next, low);
     let first = lower[run] + below.cost;
     if !is_bent(xs, ys, near, run) {
         return Least {
@@ -159,19 +172,8 @@ fn weigh(
             weighed: below.weighed,
         };
     }
-    let high = next_tally(xs, ys, near, tally, run, true);
-    let above = weigh(
-        xs,
-        ys,
-        near,
-        lower,
-        upper,
-        favoured,
-        count,
-        pin,
-        run + 1,
-        high,
-    );
+    let up = next_tally(xs, ys, near, tally, run, true);
+    let above = weigh(xs, ys, near, lower, upper, favoured, count, pin, next, up);
     let second = upper[run] + above.cost;
     Least {
         cost: lesser(first, second),
@@ -182,9 +184,9 @@ fn weigh(
 // What a pin costs, for either shape of the run that reached it: the runs that lead on from it are asked once, then every choice of their
 // shapes is weighed.
 fn pin_best(
-    xs: &[i32; 32],
-    ys: &[i32; 32],
-    near: &[usize; 31],
+    xs: &[i32; PINS],
+    ys: &[i32; PINS],
+    near: &[usize; RUNS],
     favoured: bool,
     count: usize,
     pin: usize,
@@ -192,8 +194,8 @@ fn pin_best(
     requires { ⌜ Askable (now xs) (now ys) (now near) count pin ⌝ }
     ensures { λ r. ⌜ r ≡ askedPin (placeAt (now (xs .entry)) (now (ys .entry))) (nearAt (now (near .entry))) favoured count pin ⌝ }
 {
-    let mut lower = [0u64; 31];
-    let mut upper = [0u64; 31];
+    let mut lower = [0u64; RUNS];
+    let mut upper = [0u64; RUNS];
     let mut weighed = 0u64;
     let mut run = pin;
     while run < count {
@@ -214,19 +216,8 @@ fn pin_best(
             weighed: weighed + below.weighed,
         };
     }
-    let high = first_tally(xs, ys, near, pin, true);
-    let above = weigh(
-        xs,
-        ys,
-        near,
-        &lower,
-        &upper,
-        favoured,
-        count,
-        pin,
-        pin,
-        high,
-    );
+    let up = first_tally(xs, ys, near, pin, true);
+    let above = weigh(xs, ys, near, &lower, &upper, favoured, count, pin, pin, up);
     Asked {
         lower: below.cost,
         upper: above.cost,
@@ -236,9 +227,9 @@ fn pin_best(
 
 // What a run costs in either shape: its mark, and what the pin at its far end costs.
 fn run_best(
-    xs: &[i32; 32],
-    ys: &[i32; 32],
-    near: &[usize; 31],
+    xs: &[i32; PINS],
+    ys: &[i32; PINS],
+    near: &[usize; RUNS],
     favoured: bool,
     count: usize,
     run: usize,
@@ -248,19 +239,19 @@ fn run_best(
 {
     let far = pin_best(xs, ys, near, favoured, count, run + 1);
     let low = mark(favoured, run, false);
-    let high = mark(favoured, run, true);
+    let up = mark(favoured, run, true);
     Asked {
         lower: low + far.lower,
-        upper: high + far.upper,
+        upper: up + far.upper,
         weighed: far.weighed,
     }
 }
 
 // What the shapes of a whole tree cost at least, and the choices that are weighed to find it.
 pub fn least_cost(
-    xs: &[i32; 32],
-    ys: &[i32; 32],
-    near: &[usize; 31],
+    xs: &[i32; PINS],
+    ys: &[i32; PINS],
+    near: &[usize; RUNS],
     favoured: bool,
     count: usize,
 ) -> Least

@@ -12,18 +12,18 @@ use Rattle.refusal.specs.Refusals.{accepted}
 use Rattle.refusal.specs.declared.Verdict.{Verdict}
 use Rattle.refusal.specs.declared.Verdict.the-variants.{NoPins, BoxesMeet, RoomTooSmall}
 use Rattle.refusal.proofs.Rows.{passed}
-use Rattle.grid.specs.declared.Place.{Place}
 use Rattle.feed.specs.declared.Spot.{Spot}
+use Rattle.feed.specs.Feeds.{mostPins}
 use Rattle.tree.specs.declared.Run.{Run}
 use Rattle.tree.specs.Growth.{pinsOf, runsAmong, runsOf, grown}
 use Rattle.tree.specs.Boxes.{boxesMeet}
-use Rattle.tree.specs.Trees.{none}
+use Rattle.tree.specs.Trees.{mostRuns, none}
 use Rattle.tree.proofs.Membership.{pins-few}
 use Rattle.copper.specs.declared.Shape.{Shape}
-use Rattle.copper.specs.declared.Shape.the-variants.{Straight, Lower, Upper}
 use Rattle.copper.specs.Shapes.{legsOf}
 use Rattle.wiring.specs.Choices.{legsOfChoice, nearEnd, farEnd, bestChoice}
-use Rattle.wiring.specs.Answer.{laidWith, turnedAway, answerWith, wiringVerdict, wiringWith, wiringFavouring, wiringOf}
+use Rattle.wiring.specs.Answer.{mostLegs, laidWith, turnedAway, answerWith, wiringVerdict, wiringWith, wiringFavouring, wiringOf}
+use Rattle.wiring.proofs.Filling.{legs-many, leg-small}
 
 -- ---- at most 31 runs
 -- Growing takes as many runs as it is told.
@@ -32,28 +32,27 @@ unfolding grown
 grown-many feed zero reached left = refl
 grown-many feed (suc n) reached left = ap suc (grown-many feed n _ _)
 
-among-few : (feed : List Spot) (pins : List ℕ) → length pins ≤ 32 → length (runsAmong feed pins) ≤ 31
+-- One run fewer than pins.
+among-few : (feed : List Spot) (pins : List ℕ) → length pins ≤ mostPins → length (runsAmong feed pins) ≤ mostRuns
 unfolding runsAmong
 among-few feed [] h = omega arith
 among-few feed (p ∷ left) h = omega (arith, grown-many feed (length left) (p ∷ []) left)
 
-runs-few : (feed : List Spot) → length feed ≡ 32 → length (runsOf feed) ≤ 31
+-- So a feed has at most 31 runs.
+runs-few : (feed : List Spot) → length feed ≡ mostPins → length (runsOf feed) ≤ mostRuns
 unfolding runsOf pinsOf
 runs-few feed full = among-few feed (pinsOf feed) (omega (arith, pins-few 0 feed))
 
 -- ---- at most two legs a run
-two-legs : (s : Shape) (a b : Place) → length (legsOf s a b) ≤ 2
-unfolding legsOf
-two-legs Straight a b = omega arith
-two-legs Lower a b = omega arith
-two-legs Upper a b = omega arith
-
+-- A run has at most two legs.
 legs-few : (feed : List Spot) (runs : List Run) (shapes : List Shape) → length (legsOfChoice feed runs shapes) ≤ 2 * length runs
 unfolding legsOfChoice
 legs-few feed [] shapes = omega arith
 legs-few feed (r ∷ runs) [] = omega arith
 legs-few feed (r ∷ runs) (s ∷ shapes) =
-    omega (arith, length-append (legsOf s (nearEnd feed r) (farEnd feed r)) (legsOfChoice feed runs shapes), two-legs s (nearEnd feed r) (farEnd feed r), legs-few feed runs shapes)
+    let a = nearEnd feed r in
+    let b = farEnd feed r in
+    omega (arith, length-append (legsOf s a b) (legsOfChoice feed runs shapes), leg-small s (legs-many s a b), legs-few feed runs shapes)
 
 -- ---- no more than the room
 module _ (feed : List Spot) (runs : List Run) (shapes : List Shape) (room : ℕ) where
@@ -74,12 +73,12 @@ module _ (feed : List Spot) (runs : List Run) (shapes : List Shape) (room : ℕ)
   fits-by false v most h = zero-le
 
 -- The legs of a wiring are at most 62, and at most the room.
-pub wiring-fits : (feed : List Spot) (room : ℕ) → length feed ≡ 32 → (wiringOf feed room .wiring .legs ≤ 62) × (wiringOf feed room .wiring .legs ≤ room)
+pub wiring-fits : (feed : List Spot) (room : ℕ) → length feed ≡ mostPins → (wiringOf feed room .wiring .legs ≤ mostLegs) × (wiringOf feed room .wiring .legs ≤ room)
 unfolding wiringOf wiringFavouring wiringWith
 wiring-fits feed room full =
     let runs = runsOf feed in
     let shapes = bestChoice false feed runs in
     let v = wiringVerdict feed runs shapes room in (
-      fits-by feed runs shapes room (accepted v) v 62 (λ _. omega (arith, legs-few feed runs shapes, runs-few feed full)),
+      fits-by feed runs shapes room (accepted v) v mostLegs (λ _. omega (arith, legs-few feed runs shapes, runs-few feed full)),
       fits-by feed runs shapes room (accepted v) v room (room-kept feed runs shapes room),
     )

@@ -20,6 +20,7 @@ use Rattle.lent.specs.Lent.{filledWith}
 abbrev pub Alone : Laid → Type 0
 Alone l = accepted (l .wiring .verdict) ≡ false → l ≡ turnedAway (l .wiring .verdict)
 
+-- So is one that may be turned away before it is given ..
 pub turned-by : (t : Bool) (v : Verdict) (l : Laid) → Alone l → Alone (choose t l (turnedAway v))
 unfolding choose turnedAway
 turned-by true v l h e = h e
@@ -30,6 +31,7 @@ answer-given : (feed : List Spot) (runs : List Run) (shapes : List Shape) → Al
 unfolding answerWith laidWith accepted
 answer-given feed runs shapes e = absurd (true≢false e)
 
+-- .. and the wiring of a feed.
 pub wiring-turned : (feed : List Spot) (room : ℕ) → Alone (wiringOf feed room)
 unfolding wiringOf wiringFavouring wiringWith
 wiring-turned feed room =
@@ -43,5 +45,6 @@ pub turned-fills : (v : Verdict) (lent : List Leg) → filledWith (turnedAway v)
 unfolding filledWith turnedAway
 turned-fills v lent = refl
 
+-- A refused answer leaves the list that was lent as it was.
 pub untouched : (l : Laid) (lent : List Leg) → Alone l → accepted (l .wiring .verdict) ≡ false → filledWith l lent ≡ lent
 untouched l lent h e = ap (λ (m : Laid). filledWith m lent) (h e) ∙ turned-fills (l .wiring .verdict) lent

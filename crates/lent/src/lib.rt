@@ -5,7 +5,7 @@ use wiring::Wiring;
 ghost use mathlib.Core.Path.{_≡_};
 ghost use Prim.Native.Nat.{_≤_, _<_};
 ghost use lib.ListN.{length, getD};
-ghost use Rattle.wiring.specs.Answer.{noLeg};
+ghost use Rattle.wiring.specs.Answer.{mostLegs, noLeg};
 ghost use Rattle.lent.specs.Lent.{filledWith};
 
 // How many legs an answer has.
@@ -18,7 +18,7 @@ fn count_of(laid: Laid) -> usize
 
 // One leg of an answer.
 fn leg_at(laid: Laid, at: usize) -> Leg
-    requires { ⌜ at < 62 ⌝ }
+    requires { ⌜ at < mostLegs ⌝ }
     ensures { λ r. ⌜ r ≡ getD (laid .legs) at noLeg ⌝ }
 {
     laid.legs[at]
@@ -33,7 +33,7 @@ pub fn wiring_of(laid: Laid) -> Wiring
 
 // Fills the list that was lent with the legs of an answer; entries after these keep what they held.
 pub fn fill(laid: Laid, legs: &mut [Leg])
-    requires { ⌜ (laid .wiring .legs ≤ 62) × (laid .wiring .legs ≤ length (now legs)) ⌝ }
+    requires { ⌜ (laid .wiring .legs ≤ mostLegs) × (laid .wiring .legs ≤ length (now legs)) ⌝ }
     ensures { λ _. ⌜ now (legs .exit) ≡ filledWith laid (now (legs .entry)) ⌝ }
 {
     let count = count_of(laid);

@@ -13,7 +13,7 @@ use borrow.Author.Tests.{lt-ltb, eqb-true}
 use Rattle.refusal.specs.Tests.{both, either, choose}
 use Rattle.refusal.specs.Refusals.{accepted, turn}
 use Rattle.refusal.specs.declared.Verdict.the-variants.{JobZero, MapLength}
-use Rattle.feed.specs.Feeds.{meets, meetsAny, within, settled, allWithin, allApart}
+use Rattle.feed.specs.Feeds.{spotsTooNear, tooNearAny, within, settled, allWithin, allApart}
 use Rattle.drawing.specs.Pins.{lawful, spotOf, feedOf}
 use Rattle.tree.specs.Growth.{keptIf, pinsFrom, pinsOf}
 use Rattle.wiring.specs.Answer.{turnedAway, wiringVerdict, wiringWith, wiringFavouring, wiringOf}
@@ -22,20 +22,20 @@ use Rattle.pinmap.specs.Map.{mostBytes, noPins, readFrom, wrongLength, readMap}
 use Rattle.desk.specs.Refusals.{sameJob, jobAmong, turnedOpening, turnedClosing, verdictOf}
 use Rattle.desk.specs.Desk.{jobOf, jobsApart, soundOpen, soundClosed, soundSeat, soundTo, sound, effect, answerOf, step, emptyDesk, wiredOf}
 use Rattle.script.specs.Text.{text}
-use Rattle.script.specs.Answers.{shown, carriedText, toldLine, verdictLine}
-use Rattle.script.proofs.Steps.{order}
+use Rattle.script.specs.Answers.{digits, carriedText, toldLine, verdictLine}
+use Rattle.grid.proofs.Flat.{order}
 use Rattle.shown.specs.Shown.{mapText}
 use Rattle.mapped.specs.Mapped.{mostRead, jobOfMap, openedWith, wiredWith, mapAnswer}
 use Rattle.mapped.proofs.Opening.{opened, printed-refused}
 
 -- Empty input is a drawing without pins: nothing to wire.
 pub empty-input : mapAnswer [] ≡ text "refused 17\n"
-unfolding jobOfMap openedWith wiredWith mapAnswer mapText toldLine carriedText shown wiredOf step effect answerOf verdictOf turnedOpening turnedClosing jobAmong sameJob sound soundTo soundSeat soundOpen soundClosed jobsApart jobOf emptyDesk readMap wrongLength readFrom noPins own filled seated inTurn meets meetsAny within settled allWithin allApart lawful spotOf feedOf wiringOf wiringFavouring wiringWith wiringVerdict turnedAway pinsOf pinsFrom keptIf accepted turn both either choose
+unfolding jobOfMap openedWith wiredWith mapAnswer mapText toldLine carriedText digits wiredOf step effect answerOf verdictOf turnedOpening turnedClosing jobAmong sameJob sound soundTo soundSeat soundOpen soundClosed jobsApart jobOf emptyDesk readMap wrongLength readFrom noPins own filled seated inTurn spotsTooNear tooNearAny within settled allWithin allApart lawful spotOf feedOf wiringOf wiringFavouring wiringWith wiringVerdict turnedAway pinsOf pinsFrom keptIf accepted turn both either choose
 empty-input = refl
 
 -- A single byte is 13.
 pub single-byte : (b : ℕ) → mapAnswer (b ∷ []) ≡ text "refused 13\n"
-unfolding jobOfMap readMap wrongLength accepted turn either choose toldLine carriedText shown
+unfolding jobOfMap readMap wrongLength accepted turn either choose toldLine carriedText digits
 single-byte b = printed-refused (b ∷ []) {v = MapLength} (opened (b ∷ [])) refl
 
 -- Job 0 is 4, whatever follows.
@@ -45,16 +45,17 @@ job-zero input e = printed-refused input {v = JobZero} (opened input ∙ rw e) r
 
 -- Two bytes of zero at the front give 4 at any length from two up, before 13.
 pub two-zeros : (rest : List ℕ) → mapAnswer (0 ∷ 0 ∷ rest) ≡ text "refused 4\n"
-unfolding jobOfMap toldLine carriedText shown choose
+unfolding jobOfMap toldLine carriedText digits choose
 two-zeros rest = job-zero (0 ∷ 0 ∷ rest) refl
 
--- Under any other job more than 384 bytes are 13.
+-- Under any other job a map that is too long is 13.
 too-long : (input : List ℕ) → eqb (jobOfMap input) 0 ≡ false → mostBytes < length input → mapAnswer input ≡ verdictLine MapLength
 unfolding turn choose either accepted wrongLength readMap
 too-long input e h = printed-refused input {v = MapLength} (opened input ∙ rw (e, lt-ltb mostBytes (length input) h)) refl
 
+-- And prints so: more than 384 bytes are 13.
 pub above-384 : (input : List ℕ) → eqb (jobOfMap input) 0 ≡ false → mostBytes < length input → mapAnswer input ≡ text "refused 13\n"
-unfolding toldLine carriedText shown choose
+unfolding toldLine carriedText digits choose
 above-384 input e h = too-long input e h
 
 -- The job is read from what is kept.

@@ -6,12 +6,14 @@ use native.Mathlib.Omega.{arith}
 use lib.ListN.{length, getD}
 use Rattle.mapped.specs.Mapped.{jobOfMap}
 
+-- With fewer than two bytes the job is 1.
 pub job-short : (map : List ℕ) → length map < 2 → 1 ≡ jobOfMap map
 unfolding jobOfMap
 job-short [] h = refl
 job-short (b ∷ []) h = refl
 job-short (b ∷ c ∷ rest) h = absurd (omega arith)
 
+-- With two or more it is in the first two, high byte first.
 pub job-long : (map : List ℕ) → 2 ≤ length map → getD map 0 0 * 256 + getD map 1 0 ≡ jobOfMap map
 unfolding jobOfMap
 job-long [] h = absurd (omega arith)

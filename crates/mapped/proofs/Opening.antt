@@ -17,10 +17,11 @@ use Rattle.desk.specs.declared.Wired.{Wired}
 use Rattle.desk.specs.Calls.{opening}
 use Rattle.desk.specs.Refusals.{sameJob, jobAmong, turnedOpening, verdictOf}
 use Rattle.desk.specs.Desk.{jobOf, jobsApart, soundClosed, soundSeat, soundTo, sound, answerOf, step, emptyDesk, wiredOf}
-use Rattle.script.specs.Text.{over, room}
+use Rattle.script.specs.Text.{over, answerBytes}
 use Rattle.script.specs.Answers.{verdictLine}
 use Rattle.shown.specs.Shown.{mapText}
-use Rattle.mapped.specs.Mapped.{jobOfMap, mostLegs, openedWith, wiredWith, mapAnswer}
+use Rattle.wiring.specs.Answer.{mostLegs}
+use Rattle.mapped.specs.Mapped.{jobOfMap, openedWith, wiredWith, mapAnswer}
 
 -- Opening a map at seat 0 of the empty desk: 4, then as the map is read.
 opens : (job : ℕ) (map : List ℕ) → answerOf emptyDesk (opening 0 job map) ≡ turn (eqb job 0) JobZero (readMap map job .verdict)
@@ -31,6 +32,7 @@ opens job map = by (eqb job 0) refl
     by true e = rw e
     by false e = rw e
 
+-- The program's opening is turned away in that order.
 pub opened : (map : List ℕ) → openedWith map .verdict ≡ turn (eqb (jobOfMap map) 0) JobZero (readMap map (jobOfMap map) .verdict)
 unfolding openedWith step
 opened map = opens (jobOfMap map) map
@@ -46,19 +48,24 @@ printed-wired map e = rw e
 
 -- What the calls of the program hand back, from the job and the empty desk on.
 module _ (map : List ℕ) {job : ℕ} {d : Desk} {a : Answered} (j : job ≡ jobOfMap map) (n : d ≡ emptyDesk) (o : a ≡ step d (opening 0 job map)) where
+  -- They opened the map as the program does.
   open-so : a ≡ openedWith map
   unfolding openedWith
   open-so = o ∙ rw (j, n)
 
+  -- An opening that was refused: its verdict is the answer.
   pub answer-refused : accepted (a .verdict) ≡ false → verdictLine (a .verdict) ≡ mapAnswer map
   answer-refused e = sym (printed-refused map (sym (ap (λ (x : Answered). x .verdict) open-so)) e)
 
-  pub answer-wired : {w : Wired} → w ≡ wiredOf (a .desk) 0 mostLegs → accepted (a .verdict) ≡ true → mapText job (w .laid .wiring) ≡ mapAnswer map
+  -- One that was accepted: the wiring is.
+  pub answer-wired : {w : Wired} → w ≡ wiredOf (a .desk) 0 mostLegs → accepted (a .verdict) ≡ true
+      → mapText job (w .laid .wiring) ≡ mapAnswer map
   unfolding wiredWith
   answer-wired {w} q e =
       let x : w ≡ wiredOf (openedWith map .desk) 0 mostLegs = q ∙ ap (λ (x : Answered). wiredOf (x .desk) 0 mostLegs) open-so in
       rw (j, x) (sym (printed-wired map (sym (ap (λ (x : Answered). accepted (x .verdict)) open-so) ∙ e)))
 
 -- What was printed under one name was printed under the other.
-pub printed : (before : List ℕ) {n : ℕ} {after p q : List ℕ} → p ≡ q → n ≡ length p → n ≤ room → after ≡ over p before → ((n ≡ length q) × (n ≤ room)) × (after ≡ over q before)
+pub printed : (before : List ℕ) {n : ℕ} {after p q : List ℕ} → p ≡ q → n ≡ length p → n ≤ answerBytes → after ≡ over p before
+    → ((n ≡ length q) × (n ≤ answerBytes)) × (after ≡ over q before)
 printed o e h k l = ((h ∙ ap length e, k), l ∙ ap (λ (t : List ℕ). over t o) e)

@@ -12,6 +12,7 @@ use Rattle.refusal.specs.Refusals.{accepted, turn}
 use Rattle.refusal.specs.declared.Verdict.{Verdict}
 use Rattle.refusal.specs.declared.Verdict.the-variants.{Accepted, SeatAbove, NotOpen, NoPins, BoxesMeet, RoomTooSmall, DeskBroken}
 use Rattle.feed.specs.declared.Spot.{Spot}
+use Rattle.feed.specs.Feeds.{mostPins}
 use Rattle.tree.specs.declared.Run.{Run}
 use Rattle.tree.specs.Growth.{pinsOf, runsOf}
 use Rattle.tree.specs.Boxes.{boxesMeet}
@@ -20,14 +21,14 @@ use Rattle.copper.specs.declared.Shape.{Shape}
 use Rattle.drawing.specs.Pins.{feedOf}
 use Rattle.wiring.specs.declared.Laid.{Laid}
 use Rattle.wiring.specs.Choices.{legsOfChoice, bestChoice}
-use Rattle.wiring.specs.Answer.{laidWith, turnedAway, answerWith, wiringVerdict, wiringWith, wiringFavouring, wiringOf}
+use Rattle.wiring.specs.Answer.{mostLegs, laidWith, turnedAway, answerWith, wiringVerdict, wiringWith, wiringFavouring, wiringOf}
 use Rattle.lent.proofs.Fitting.{wiring-fits}
 use Rattle.journal.specs.Journal.{mostSeats}
 use Rattle.desk.specs.declared.Desk.{Desk}
 use Rattle.desk.specs.Refusals.{turnedClosing}
 use Rattle.desk.specs.Desk.{seatOf, lookAt, sound, wiredOf}
 use Rattle.desk.proofs.Sound.{feed-whole}
-use Rattle.mapped.specs.Mapped.{mostLegs, openedWith, wiredWith}
+use Rattle.mapped.specs.Mapped.{openedWith, wiredWith}
 
 -- The rows before 17 are not 19.
 closing-else : (a b c : Bool) → turn a DeskBroken (turn b SeatAbove (turn c NotOpen Accepted)) ≡ RoomTooSmall → ⊥
@@ -63,7 +64,7 @@ module _ (feed : List Spot) (runs : List Run) (shapes : List Shape) (room : ℕ)
   wiring-else = wiring-by (none (pinsOf feed)) (boxesMeet feed runs)
 
 -- A feed of 32 spots is not refused for its room.
-feed-else : (feed : List Spot) → length feed ≡ 32 → wiringOf feed mostLegs .wiring .verdict ≡ RoomTooSmall → ⊥
+feed-else : (feed : List Spot) → length feed ≡ mostPins → wiringOf feed mostLegs .wiring .verdict ≡ RoomTooSmall → ⊥
 unfolding wiringOf wiringFavouring
 feed-else feed h =
     let runs = runsOf feed in

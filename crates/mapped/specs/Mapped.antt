@@ -7,6 +7,7 @@ use Rattle.desk.specs.declared.Answered.{Answered}
 use Rattle.desk.specs.Calls.{opening}
 use Rattle.desk.specs.Desk.{emptyDesk, step, wiredOf}
 use Rattle.wiring.specs.declared.Wiring.{Wiring}
+use Rattle.wiring.specs.Answer.{mostLegs}
 use Rattle.script.specs.Answers.{verdictLine}
 use Rattle.shown.specs.Shown.{mapText}
 
@@ -15,10 +16,6 @@ unfoldable pub jobOfMap : List ℕ → ℕ
 jobOfMap [] = 1
 jobOfMap (b ∷ []) = 1
 jobOfMap (b ∷ c ∷ rest) = b * 256 + c
-
--- The most legs that a board has: 31 runs of two legs each.
-abbrev pub mostLegs : ℕ
-mostLegs = 62
 
 -- The program opens the map at seat 0 of the empty desk, under its job.
 unfoldable pub openedWith : List ℕ → Answered

@@ -1,19 +1,24 @@
 // What the program wiremap answers to its input, as bytes in a lent buffer.
 use desk::Desk;
-use script::answers::ROOM;
+use script::answers::ANSWER_BYTES;
 use script::answers::print_verdict;
 use shown::print_map;
+use wiring::LEGS;
 ghost use mathlib.Core.Path.{_≡_};
 ghost use Prim.Native.Nat.{_≤_};
-ghost use lib.ListN.{length};
-ghost use Rattle.script.specs.Text.{over, room};
-ghost use Rattle.mapped.specs.Mapped.{jobOfMap, mapAnswer};
+ghost use lib.ListN.{length, replicate};
+ghost use Rattle.script.specs.Text.{over, answerBytes};
+ghost use Rattle.mapped.specs.Mapped.{jobOfMap, mapAnswer, mostRead};
 
 // Of a longer input it is enough to read so many bytes (proofs/Inputs.antt).
-pub const MOST_READ: usize = 397;
+const MOST_READ: usize = 397;
 
-// The most legs that a board has (proofs/Room.antt).
-const MOST_LEGS: usize = 62;
+// Room for as much of the input as is enough to read.
+pub fn window() -> [u8; MOST_READ]
+    ensures { λ r. ⌜ r ≡ replicate mostRead 0 ⌝ }
+{
+    [0u8; MOST_READ]
+}
 
 // The job in the first two bytes of a map, and job 1 where there are fewer.
 fn job_of_map(map: &[u8]) -> u16
@@ -26,8 +31,8 @@ fn job_of_map(map: &[u8]) -> u16
 }
 
 // Opens a map at seat 0 of an empty desk under its job, wires it, and prints the answer; says how many bytes that is.
-pub fn map_answer(map: &[u8], out: &mut [u8; ROOM]) -> usize
-    ensures { λ r. ⌜ (r ≡ length (mapAnswer (now (map .entry)))) × (r ≤ room) ⌝ }
+pub fn map_answer(map: &[u8], out: &mut [u8; ANSWER_BYTES]) -> usize
+    ensures { λ r. ⌜ (r ≡ length (mapAnswer (now (map .entry)))) × (r ≤ answerBytes) ⌝ }
     ensures { λ _. ⌜ now (out .exit) ≡ over (mapAnswer (now (map .entry))) (now (out .entry)) ⌝ }
 {
     let job = job_of_map(map);
@@ -36,7 +41,7 @@ pub fn map_answer(map: &[u8], out: &mut [u8; ROOM]) -> usize
     let verdict = opened.verdict;
     if refusal::is_accepted(verdict) {
         let d = opened.desk;
-        let wired = d.wire(0, MOST_LEGS);
+        let wired = d.wire(0, LEGS);
         let laid = wired.laid;
         let wiring = laid.wiring;
         return print_map(job, wiring, out);

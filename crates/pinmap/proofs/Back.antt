@@ -11,11 +11,14 @@ use lib.Seq.{getD-set-other, getD-take, getD-drop}
 use Rattle.refusal.specs.declared.Verdict.{Verdict}
 use Rattle.refusal.specs.Tests.{choose}
 use Rattle.refusal.specs.Refusals.{accepted}
+use Rattle.refusal.proofs.Tests.{opposite}
 use Rattle.grid.proofs.Flat.{order}
 use Rattle.drawing.specs.declared.Held.{Held}
 use Rattle.drawing.specs.declared.Pin.{Pin}
-use Rattle.feed.specs.Feeds.{within, crowded}
-use Rattle.drawing.specs.Pins.{absent, there, holding, lawful, spotOf}
+use Rattle.feed.specs.declared.Spot.the-variants.{At}
+use Rattle.feed.specs.Feeds.{within}
+use Rattle.feed.proofs.Rules.{clear-other}
+use Rattle.drawing.specs.Pins.{absent, there, holding, lawful, spotOf, feedOf}
 use Rattle.drawing.proofs.Rules.{lawful-parts, lawful-set}
 use Rattle.pinmap.specs.declared.Record.{Record}
 use Rattle.pinmap.specs.declared.Reading.{Reading}
@@ -24,6 +27,7 @@ use Rattle.pinmap.specs.Map.{refusedBy, withPinOf, readFrom, mapFrom, ma
 use Rattle.pinmap.proofs.Faults.{Faultless, faultless}
 use Rattle.pinmap.proofs.Records.{Bytes, record-written}
 
+-- Where no pin is there, the map is empty.
 map-clear : (job i : ℕ) (l : List Pin) → ((k : ℕ) → getD l k absent ≡ absent) → mapFrom job i l ≡ []
 unfolding mapFrom pinBytes
 map-clear job i [] f = refl
@@ -43,26 +47,31 @@ map-put job i (q ∷ l) (suc p) held h f =
     let r = map-put job (i + 1) l p held (omega arith) (λ k g. f (suc k) (omega arith)) in
     ap (λ (b : List ℕ). pinBytes job i q ++ b) (rw z at r) ∙ sym (append-assoc (pinBytes job i q) (mapFrom job (i + 1) l) (recordBytes job (i + suc p) held))
 
+-- What is left of a list of bytes is one of bytes,
 pub bytes-drop : (n : ℕ) (m : List ℕ) → Bytes m → Bytes (drop n m)
 bytes-drop n m b i = rw (getD-drop n m i 0) (b (n + i))
 
+-- and so is its front.
 bytes-take : (n : ℕ) (m : List ℕ) → Bytes m → Bytes (take n m)
 bytes-take n m b i =
-    ⊎-elim (λ (h : n ≤ i). rw (List·getD-eq-default (take n m) 0 {n = i} (omega (arith, length-take n m))) (omega arith)) (λ (h : i < n). rw (getD-take n m i 0 h) (b i)) (order n i)
+    ⊎-elim (λ (h : n ≤ i). rw (List·getD-eq-default (take n m) 0 {n = i} (omega (arith, length-take n m))) (omega arith))
+    (λ (h : i < n). rw (getD-take n m i 0 h) (b i)) (order n i)
 
-no-bytes : (m : List ℕ) → length m ≡ 0 → m ≡ []
-no-bytes m e = drop-of-length-le m {i = 0} (omega arith)
+-- A list without entries is empty.
+pub none-there : {A : Type 0} (l : List A) → length l ≡ 0 → l ≡ []
+none-there l e = drop-of-length-le l {i = 0} (omega arith)
 
 -- The pins so far: they keep the rules, and none from `next` on is there.
 pub record Kept (next : ℕ) (earlier : List Pin) : Type 0 where
   pub rules : lawful earlier ≡ true
   pub clear : (k : ℕ) → next ≤ k → getD earlier k absent ≡ absent
 
+-- A record without a fault keeps that: its pin joins them, and the next one is above it.
 kept-next : (job next : ℕ) (earlier : List Pin) (r : Record) → Kept next earlier → Faultless job next earlier r → Kept (r .pin + 1) (withPinOf earlier r)
-unfolding withPinOf crowded within spotOf
+unfolding withPinOf within spotOf
 kept-next job next earlier r s f =
     record {
-      rules = lawful-set earlier (r .pin) (there (holding (r .place))) (s .rules) (f .on-board) (f .free);
+      rules = lawful-set earlier (r .pin) (there (holding (r .place))) (s .rules) (f .on-board) (clear-other (At (r .place)) (feedOf earlier) (r .pin) (f .free));
       clear = λ k h. getD-set-other earlier (r .pin) k (there (holding (r .place))) absent (λ g. omega arith) ∙ s .clear k (omega (arith, f .above));
     }
 
@@ -71,6 +80,7 @@ pub record Back (job : ℕ) (m : List ℕ) (earlier : List Pin) (r : Reading) : 
   pub bytes : Bytes m → mapOf job (r .pins) ≡ mapOf job earlier ++ m
   pub rules : lawful (r .pins) ≡ true
 
+-- So many records, read to the end after any such pins, give that back.
 abbrev pub BackFrom : ℕ → ℕ → Type 0
 BackFrom job left =
     (m : List ℕ) (number next : ℕ) (earlier : List Pin) → length m ≡ left * recordSize → Kept next earlier
@@ -93,24 +103,31 @@ back-next job left rec m number next earlier n s a c =
     let z : 0 + r .pin ≡ r .pin = omega arith in
     let p : Bytes m → mapFrom job 0 (set earlier (r .pin) (there (holding (r .place)))) ≡ mapFrom job 0 earlier ++ part =
     λ b.
-    map-put job 0 earlier (r .pin) (holding (r .place)) (omega (arith, f .pin-low, lawful-parts earlier (s .rules) .long)) (λ k h. s .clear k (omega (arith, f .above)))
+    map-put job 0 earlier (r .pin) (holding (r .place)) (omega (arith, f .pin-low, lawful-parts earlier (s .rules) .long))
+    (λ k h. s .clear k (omega (arith, f .above)))
     ∙ ap (λ (x : List ℕ). mapFrom job 0 earlier ++ x) (rw z (record-written part job next earlier w (bytes-take recordSize m b) f)) in
     record {
-      bytes = λ b. g .bytes (bytes-drop recordSize m b) ∙ ap (λ (x : List ℕ). x ++ drop recordSize m) (p b) ∙ append-assoc (mapFrom job 0 earlier) part (drop recordSize m) ∙ ap (λ (x : List ℕ). mapFrom job 0 earlier ++ x) (take-append-drop recordSize m);
+      bytes = λ b.
+          g .bytes (bytes-drop recordSize m b) ∙ ap (λ (x : List ℕ). x ++ drop recordSize m) (p b)
+          ∙ append-assoc (mapFrom job 0 earlier) part (drop recordSize m)
+          ∙ ap (λ (x : List ℕ). mapFrom job 0 earlier ++ x) (take-append-drop recordSize m);
       rules = g .rules;
     }
 
 -- A reading that goes on only where a record is accepted.
-back-by : (job : ℕ) (m : List ℕ) (earlier : List Pin) (t : Bool) (x : Reading) (v : Verdict) → accepted v ≡ t → (t ≡ true → accepted (x .verdict) ≡ true → Back job m earlier x)
+back-by : (job : ℕ) (m : List ℕ) (earlier : List Pin) (t : Bool) (x : Reading) (v : Verdict) → accepted v ≡ t
+    → (t ≡ true → accepted (x .verdict) ≡ true → Back job m earlier x)
     → accepted (choose t x (refusedBy v) .verdict) ≡ true → Back job m earlier (choose t x (refusedBy v))
 unfolding choose
 back-by job m earlier true x v e f a = f refl a
-back-by job m earlier false x v e f a = let z : _≡_ {A = ℕ} 0 1 = cc in absurd (omega arith)
+back-by job m earlier false x v e f a = absurd (opposite a e)
 
+-- So it is with any number of records.
 pub back-from : (job left : ℕ) → BackFrom job left
 unfolding readFrom
 back-from job zero m number next earlier n s a =
-    record { bytes = λ b. sym (rw (no-bytes m (omega arith)) (append-nil (mapOf job earlier))); rules = s .rules }
+    record { bytes = λ b. sym (rw (none-there m (omega arith)) (append-nil (mapOf job earlier))); rules = s .rules }
 back-from job (suc left) m number next earlier n s a =
-    back-by job m earlier (accepted (judged job number next earlier (recordOf (take recordSize m)))) _ (judged job number next earlier (recordOf (take recordSize m))) refl
+    let v : Verdict = judged job number next earlier (recordOf (take recordSize m)) in
+    back-by job m earlier (accepted v) _ v refl
     (back-next job left (back-from job left) m number next earlier n s) a

@@ -1,6 +1,6 @@
 -- A record is accepted just where none of its faults is there. Assumes nothing.
-use mathlib.Core.Path.{_≡_, refl, sym}
-use mathlib.Core.Bool.{Bool, true, false, not}
+use mathlib.Core.Path.{_≡_, refl, sym, ap}
+use mathlib.Core.Bool.{true, false, not}
 use mathlib.Core.List.{List}
 use Prim.Native.Nat.{ℕ, _<_, _≤_}
 use borrow.Author.Tests.{leb-false, ltb-false, eqb-true, not-false, eq-eqb, lt-leb, le-ltb}
@@ -23,10 +23,8 @@ pub record Faultless (job next : ℕ) (earlier : List Pin) (r : Record) : Type 0
   pub above : next ≤ r .pin
   pub free : placeTaken earlier r ≡ false
 
-not-is : (t : Bool) → t ≡ true → not t ≡ false
-not-is t e = rw e
-
 module _ (job number next : ℕ) (earlier : List Pin) (r : Record) where
+  -- A record that is accepted has no fault,
   pub faultless : accepted (judged job number next earlier r) ≡ true → Faultless job next earlier r
   unfolding judged accepted
   faultless e0 =
@@ -45,13 +43,14 @@ module _ (job number next : ℕ) (earlier : List Pin) (r : Record) where
         free = f6;
       }
 
+  -- and one that has none is accepted.
   pub no-fault : Faultless job next earlier r → judged job number next earlier r ≡ Accepted
   unfolding judged
   no-fault h =
       sym
-      (row-passed _ (sym (not-is _ (eq-eqb _ _ (h .own-job)))) refl
+      (row-passed _ (sym (ap not (eq-eqb _ _ (h .own-job)))) refl
       (row-passed _ (sym (lt-leb _ _ (h .pin-low))) refl
-      (row-passed _ (sym (not-is _ (eq-eqb _ _ (h .blank)))) refl
-      (row-passed _ (sym (not-is _ (h .on-board))) refl
+      (row-passed _ (sym (ap not (eq-eqb _ _ (h .blank)))) refl
+      (row-passed _ (sym (ap not (h .on-board))) refl
       (row-passed _ (sym (le-ltb _ _ (h .above))) refl
       (row-passed _ (sym (h .free)) refl refl))))))

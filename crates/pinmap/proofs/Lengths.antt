@@ -12,18 +12,22 @@ use Rattle.pinmap.specs.Map.{mostBytes, wrongLength, refusedBy, readFrom
 use Rattle.pinmap.proofs.Progress.{countOf}
 
 module _ (map : List ℕ) where
+  -- A map of more than 384 bytes has a wrong length,
   pub too-long : mostBytes < length map → wrongLength map ≡ true
   unfolding wrongLength
   too-long h = either-left _ (lt-ltb _ _ h)
 
+  -- and so has one whose bytes are not a multiple of 12;
   pub not-whole : length map ≤ mostBytes → (length map % recordSize ≡ 0 → ⊥) → wrongLength map ≡ true
   unfolding wrongLength
   not-whole h k = either-right _ (le-ltb _ _ h) ∙ ap not (ne-eqb _ _ k)
 
+  -- any other has a right one,
   pub right-length : length map ≤ mostBytes → length map % recordSize ≡ 0 → wrongLength map ≡ false
   unfolding wrongLength
   right-length h k = either-right _ (le-ltb _ _ h) ∙ ap not (eq-eqb _ _ k)
 
+  -- and a right one is at most 384 and a multiple of 12.
   pub length-right : wrongLength map ≡ false → (length map ≤ mostBytes) × (length map % recordSize ≡ 0)
   unfolding wrongLength
   length-right e =
@@ -32,10 +36,12 @@ module _ (map : List ℕ) where
 
 -- Reading, by the length.
 module _ (map : List ℕ) (job : ℕ) where
+  -- A map of a wrong length is turned away with 13,
   pub turned-away : wrongLength map ≡ true → refusedBy MapLength ≡ readMap map job
   unfolding readMap
   turned-away e = sym (choose-yes _ _ e)
 
+  -- the records of any other are read.
   pub looked-at : wrongLength map ≡ false → readFrom (countOf map) map job 0 0 noPins ≡ readMap map job
   unfolding readMap
   looked-at e = sym (choose-no _ _ e)

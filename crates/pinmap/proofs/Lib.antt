@@ -1,9 +1,9 @@
 -- The laws of the pin map that other crates cite.
-pub mod Turns
+mod Turns
 pub mod Faults
-pub mod Lengths
-pub mod Progress
-pub mod Written
+mod Lengths
+mod Progress
+mod Written
 pub mod Records
 pub mod Opening
 pub mod Back

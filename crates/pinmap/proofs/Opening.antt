@@ -7,7 +7,7 @@ use mathlib.Core.List.{List, [], _∷_, _++_}
 use Prim.Native.Nat.{ℕ, zero, suc, _+_, _/_, _<_, _≤_}
 use native.Mathlib.Omega.{arith}
 use lib.ListN.{length, getD, take, drop, set, replicate, length-append, length-set}
-use lib.Seq.{getD-set-same, getD-set-other, set-getD, ext-getD, take-at, drop-at}
+use lib.Seq.{getD-set-same, getD-set-other, ext-getD, take-at, drop-at}
 use Rattle.refusal.specs.Tests.{either, choose}
 use Rattle.refusal.specs.Refusals.{accepted}
 use Rattle.grid.specs.Place.{inside}
@@ -16,13 +16,13 @@ use Rattle.drawing.specs.declared.Held.{Held}
 use Rattle.drawing.specs.declared.Stand.{Stand}
 use Rattle.drawing.specs.declared.Stand.the-variants.{Absent, There}
 use Rattle.drawing.specs.declared.Pin.{Pin}
-use Rattle.feed.specs.Feeds.{mostPins, spotAt, within, allApart, meets, meetsAny, meetsOther, crowded}
+use Rattle.feed.specs.Feeds.{mostPins, spotAt, within, allApart, spotsTooNear, tooNearAny}
 use Rattle.drawing.specs.Pins.{absent, there, lawful, spotOf, feedOf}
 use Rattle.feed.specs.declared.Spot.{Spot}
 use Rattle.feed.specs.declared.Spot.the-variants as spot
-use Rattle.feed.proofs.Rules.{meets-turned, apart-pair, within-at}
+use Rattle.feed.proofs.Rules.{spots-turned, apart-pair, within-at}
 use Rattle.drawing.proofs.Rules.{lawful-parts, feed-at}
-use Rattle.pinmap.specs.Record.{recordSize, recordBytes}
+use Rattle.pinmap.specs.Record.{recordSize, recordBytes, pinBytes}
 use Rattle.pinmap.specs.Map.{noPins, readAs, withPinOf, readFrom, mapFrom}
 use Rattle.pinmap.proofs.Faults.{Faultless, no-fault}
 use Rattle.pinmap.proofs.Written.{record-length, absent-bytes, there-bytes, map-next, map-end}
@@ -34,15 +34,18 @@ pub record Upto (l : List Pin) (i : ℕ) (earlier : List Pin) : Type 0 where
   pub below : (j : ℕ) → j < i → getD earlier j absent ≡ getD l j absent
   pub above : (j : ℕ) → i ≤ j → getD earlier j absent ≡ absent
 
+-- A list of one thing has it everywhere, and past its end where nothing else stands in.
+pub alike : {A : Type 0} (n i : ℕ) (a : A) → getD (replicate n a) i a ≡ a
+alike zero i a = refl
+alike (suc n) zero a = refl
+alike (suc n) (suc i) a = alike n i a
+
+-- Before the first pin of the drawing no pin has been read.
 pub upto-none : (l : List Pin) → Upto l 0 noPins
 unfolding noPins
-upto-none l = record { full = refl; below = λ j h. absurd (omega arith); above = λ j h. replicated mostPins j }
-  where
-    replicated : (n j : ℕ) → getD (replicate n absent) j absent ≡ absent
-    replicated zero j = refl
-    replicated (suc n) zero = refl
-    replicated (suc n) (suc j) = replicated n j
+upto-none l = record { full = refl; below = λ j h. absurd (omega arith); above = λ j h. alike mostPins j absent }
 
+-- After the last, the pins that were read are the drawing's.
 upto-all : (l : List Pin) (i : ℕ) (earlier : List Pin) → length l ≡ mostPins → mostPins ≤ i → Upto l i earlier → earlier ≡ l
 upto-all l i earlier n h u = ext-getD absent earlier l (u .full ∙ sym n) (λ j k. u .below j (omega (arith, u .full)))
 
@@ -75,33 +78,29 @@ module _ (l : List Pin) (i : ℕ) (earlier : List Pin) (u : Upto l i earlier) wh
       same j e = rw e (getD-set-same earlier i (getD l i absent) absent (omega (arith, u .full)))
 
   -- A pin that is near the pin of no number is near none.
-  none-met : (s : Spot) (feed : List Spot) → ((j : ℕ) → meets s (spotAt feed j) ≡ false) → meetsAny s feed ≡ false
-  unfolding meetsAny either
-  none-met s [] f = refl
-  none-met s (t ∷ feed) f = rw (f 0) (none-met s feed (λ j. f (suc j)))
+  none-near : (s : Spot) (feed : List Spot) → ((j : ℕ) → spotsTooNear s (spotAt feed j) ≡ false) → tooNearAny s feed ≡ false
+  unfolding tooNearAny either
+  none-near s [] f = refl
+  none-near s (t ∷ feed) f = rw (f 0) (none-near s feed (λ j. f (suc j)))
 
   module _ (a : allApart (feedOf l) ≡ true) (held : Held) (q : getD l i absent ≡ there held) where
     -- Of the pins below none is near to pin i, and those above are absent.
-    free-of : (j : ℕ) → meets (spot.At (held .place)) (spotAt (feedOf earlier) j) ≡ false
-    unfolding spotOf meets
+    free-of : (j : ℕ) → spotsTooNear (spot.At (held .place)) (spotAt (feedOf earlier) j) ≡ false
+    unfolding spotOf spotsTooNear
     free-of j =
         let s = spot.At (held .place) in
         let here : spotAt (feedOf l) i ≡ s = feed-at l i ∙ ap spotOf q in
-        ap (meets s) (feed-at earlier j)
-        ∙ ⊎-elim (λ (k : i ≤ j). ap (λ (p : Pin). meets s (spotOf p)) (u .above j k))
+        ap (spotsTooNear s) (feed-at earlier j)
+        ∙ ⊎-elim (λ (k : i ≤ j). ap (λ (p : Pin). spotsTooNear s (spotOf p)) (u .above j k))
         (λ (k : j < i).
-        ap (λ (p : Pin). meets s (spotOf p)) (u .below j k)
-        ∙ ap (meets s) (sym (feed-at l j)) ∙ meets-turned s (spotAt (feedOf l) j)
-        ∙ ap (meets (spotAt (feedOf l) j)) (sym here) ∙ apart-pair (feedOf l) j i a k)
+        ap (λ (p : Pin). spotsTooNear s (spotOf p)) (u .below j k)
+        ∙ ap (spotsTooNear s) (sym (feed-at l j)) ∙ spots-turned s (spotAt (feedOf l) j)
+        ∙ ap (spotsTooNear (spotAt (feedOf l) j)) (sym here) ∙ apart-pair (feedOf l) j i a k)
         (order i j)
 
     -- So its place is not taken.
-    place-free : crowded (feedOf earlier) i (held .place) ≡ false
-    unfolding crowded meetsOther spotOf
-    place-free =
-        let h : spotAt (feedOf earlier) i ≡ spot.Absent = feed-at earlier i ∙ ap spotOf (u .above i (omega arith)) in
-        let e : set (feedOf earlier) i spot.Absent ≡ feedOf earlier = ap (set (feedOf earlier) i) (sym h) ∙ set-getD (feedOf earlier) i spot.Absent in
-        rw e (none-met (spot.At (held .place)) (feedOf earlier) free-of)
+    place-free : tooNearAny (spot.At (held .place)) (feedOf earlier) ≡ false
+    place-free = none-near (spot.At (held .place)) (feedOf earlier) free-of
 
 -- The place of a pin of the drawing is on the board.
 place-inside : (l : List Pin) (i : ℕ) (held : Held) → lawful l ≡ true → getD l i absent ≡ there held → inside (held .place) ≡ true
@@ -111,11 +110,14 @@ place-inside l i held e q = ap within (sym (feed-at l i ∙ ap spotOf q)) ∙ wi
 -- A record without a fault at the front is read, and then what follows it.
 read-one : (left job number next pin : ℕ) (earlier : List Pin) (held : Held) (rest : List ℕ) → job < 65536 → inside (held .place) ≡ true
     → Faultless job next earlier (record { job = job; pin = pin; blank = 0; place = held .place })
-    → readFrom (suc left) (recordBytes job pin held ++ rest) job number next earlier ≡ readFrom left rest job (number + 1) (pin + 1) (set earlier pin (there held))
+    → readFrom (suc left) (recordBytes job pin held ++ rest) job number next earlier
+    ≡ readFrom left rest job (number + 1) (pin + 1) (set earlier pin (there held))
 unfolding readFrom withPinOf accepted choose
 read-one left job number next pin earlier held rest j e f =
-    let t : take recordSize (recordBytes job pin held ++ rest) ≡ recordBytes job pin held = take-at (recordBytes job pin held) rest recordSize (record-length job pin held) in
-    let d : drop recordSize (recordBytes job pin held ++ rest) ≡ rest = drop-at (recordBytes job pin held) rest recordSize (record-length job pin held) in
+    let b : List ℕ = recordBytes job pin held in
+    let n : length b ≡ recordSize = record-length job pin held in
+    let t : take recordSize (b ++ rest) ≡ b = take-at b rest recordSize n in
+    let d : drop recordSize (b ++ rest) ≡ rest = drop-at b rest recordSize n in
     rw (t, d, record-read job pin held j e, no-fault job number next earlier (record { job = job; pin = pin; blank = 0; place = held .place }) f)
 
 module _ (job : ℕ) (l : List Pin) (j : job < 65536) (e : lawful l ≡ true) where
@@ -125,15 +127,19 @@ module _ (job : ℕ) (l : List Pin) (j : job < 65536) (e : lawful l ≡ true) wh
       (number next : ℕ) (earlier : List Pin) → next ≤ i → Upto l i earlier
       → readFrom (length (mapFrom job i (drop i l)) / recordSize) (mapFrom job i (drop i l)) job number next earlier ≡ readAs l
 
+  -- If so from the next pin on, then from pin i on, which is absent or there.
   open-next : (i : ℕ) → i < mostPins → OpenFrom (i + 1) → (t : Stand) → getD l i absent ≡ record { stand = t } → OpenFrom i
   open-next i n rec Absent q number next earlier h u =
-      let m : mapFrom job i (drop i l) ≡ mapFrom job (i + 1) (drop (i + 1) l) =
-      map-next job l i (omega (arith, lawful-parts l e .long)) ∙ ap (λ (b : List ℕ). b ++ mapFrom job (i + 1) (drop (i + 1) l)) (absent-bytes job i (getD l i absent) (ap (λ (p : Pin). p .stand) q)) in
+      let rest : List ℕ = mapFrom job (i + 1) (drop (i + 1) l) in
+      let b : pinBytes job i (getD l i absent) ≡ [] = absent-bytes job i (getD l i absent) (ap (λ (p : Pin). p .stand) q) in
+      let m : mapFrom job i (drop i l) ≡ rest =
+      map-next job l i (omega (arith, lawful-parts l e .long)) ∙ ap (λ (b : List ℕ). b ++ rest) b in
       rw m (rec number next earlier (omega arith) (upto-skip l i earlier u q))
   open-next i n rec (There held) q number next earlier h u =
       let rest : List ℕ = mapFrom job (i + 1) (drop (i + 1) l) in
+      let b : pinBytes job i (getD l i absent) ≡ recordBytes job i held = there-bytes job i (getD l i absent) (ap (λ (p : Pin). p .stand) q) in
       let m : mapFrom job i (drop i l) ≡ recordBytes job i held ++ rest =
-      map-next job l i (omega (arith, lawful-parts l e .long)) ∙ ap (λ (b : List ℕ). b ++ rest) (there-bytes job i (getD l i absent) (ap (λ (p : Pin). p .stand) q)) in
+      map-next job l i (omega (arith, lawful-parts l e .long)) ∙ ap (λ (b : List ℕ). b ++ rest) b in
       let c : length (recordBytes job i held ++ rest) / recordSize ≡ suc (length rest / recordSize) =
       omega (arith, length-append (recordBytes job i held) rest, record-length job i held) in
       let p : inside (held .place) ≡ true = place-inside l i held e q in
@@ -143,6 +149,7 @@ module _ (job : ℕ) (l : List Pin) (j : job < 65536) (e : lawful l ≡ true) wh
       (read-one (length rest / recordSize) job number next i earlier held rest j p f
       ∙ rec (number + 1) (i + 1) (set earlier i (there held)) (omega arith) (rw q at (upto-put l i earlier u n)))
 
+  -- So from every pin on.
   pub open-from : (k i : ℕ) → i + k ≡ mostPins → OpenFrom i
   unfolding readFrom
   open-from zero i n number next earlier h u =

@@ -31,6 +31,7 @@ pub record Stands (map : List ℕ) (job : ℕ) (earlier : List Pin) (next number
   pub full : length earlier ≡ mostPins
   pub rest : readFrom (countOf map) map job 0 0 noPins ≡ readFrom (countOf map - number) (drop (number * recordSize) map) job number next earlier
 
+-- Before the first record all is left to read, and no pin has been read.
 pub begins : (map : List ℕ) (job : ℕ) {l : List Pin} → l ≡ noPins → Stands map job l 0 0
 unfolding noPins
 begins map job e =
@@ -46,6 +47,7 @@ module _ (map : List ℕ) (job : ℕ) (earlier : List Pin) (next number : ℕ) (
       sym (s .rest ∙ ap (λ (k : ℕ). readFrom k (drop (number * recordSize) map) job number next earlier) e)
 
   module _ (h : number < countOf map) where
+    -- What the record says.
     abbrev given : Record
     given = recordOf (partAt map number)
 
@@ -81,17 +83,20 @@ module _ (map : List ℕ) (job : ℕ) (earlier : List Pin) (next number : ℕ) (
 abbrev pub lentAt : List ℕ → ℕ → List ℕ
 lentAt map number = take (number * recordSize + recordSize - number * recordSize) (drop (number * recordSize) map)
 
+-- It is the part of that record,
 pub part-is : (map : List ℕ) (number : ℕ) → lentAt map number ≡ partAt map number
 part-is map number =
     let e : number * recordSize + recordSize - number * recordSize ≡ recordSize = omega arith in
     rw e
 
+-- and has twelve bytes.
 pub part-length : (map : List ℕ) (number : ℕ) → number < countOf map → length (lentAt map number) ≡ recordSize
 part-length map number h = rw part-is (simp (length-take, length-drop) (omega arith))
 
 -- The two ways that a turn of the loop goes, in the words of its calls.
 module _ (map : List ℕ) (job : ℕ) (earlier : List Pin) (next number : ℕ) (s : Stands map job earlier next number) (h : number < countOf map)
     {r : Record} {v : Verdict} {t : Bool} (er : r ≡ recordOf (lentAt map number)) (ev : v ≡ judged job number next earlier r) (et : t ≡ accepted v) where
+  -- A record that is not accepted ends the reading with its refusal;
   pub turn-stops : t ≡ false → refusedBy v ≡ readFrom (countOf map) map job 0 0 noPins
   turn-stops f =
       let e : r ≡ recordOf (partAt map number) = er ∙ ap recordOf (part-is map number) in
@@ -99,6 +104,7 @@ module _ (map : List ℕ) (job : ℕ) (earlier : List Pin) (next number : ℕ) (
       let a : accepted (judged job number next earlier (recordOf (partAt map number))) ≡ false = ap accepted (sym w) ∙ sym et ∙ f in
       ap refusedBy w ∙ stops map job earlier next number s h a
 
+  -- an accepted one goes to the pins, and the reading stands at the next;
   pub turn-goes : t ≡ true → {q : Pin} → q ≡ there (holding (r .place)) → Stands map job (set earlier (r .pin) q) (r .pin + 1) (number + 1)
   unfolding withPinOf
   turn-goes f {q} e =
@@ -107,5 +113,6 @@ module _ (map : List ℕ) (job : ℕ) (earlier : List Pin) (next number : ℕ) (
       ap accepted (ap (judged job number next earlier) (sym w) ∙ sym ev) ∙ sym et ∙ f in
       rw (e, w) (goes map job earlier next number s h a)
 
+  -- its pin is one of the drawing's.
   pub turn-pin : t ≡ true → r .pin < mostPins
   turn-pin f = faultless job number next earlier r (ap accepted (sym ev) ∙ sym et ∙ f) .pin-low

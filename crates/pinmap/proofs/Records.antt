@@ -12,7 +12,7 @@ use mir.Syntax.{w32}
 use mir.Val.{SFits}
 use Rattle.refusal.proofs.Tests.{both-left, both-right}
 use Rattle.grid.specs.declared.Place.{Place}
-use Rattle.grid.specs.Number.{numberAt, first, second, third, fourth, putAt}
+use Rattle.grid.specs.Number.{numberAt, firstByte, secondByte, thirdByte, fourthByte, putAt}
 use Rattle.grid.specs.Place.{inside}
 use Rattle.grid.proofs.Bytes.{join-split, first-byte, second-byte, third-byte, fourth-byte, written-read}
 use Rattle.grid.proofs.Board.{number-held}
@@ -44,6 +44,7 @@ record-read job pin held j e =
 abbrev pub Bytes : List ℕ → Type 0
 Bytes m = (i : ℕ) → getD m i 0 < 256
 
+-- A byte put where it stands already changes nothing.
 set-own : (l : List ℕ) (i v : ℕ) → v ≡ getD l i 0 → set l i v ≡ l
 set-own l i v e = rw e (set-getD l i 0)
 
@@ -70,11 +71,13 @@ data Made : List ℕ → Type 0 where
   none : Made []
   then : {a : ℕ} {m : List ℕ} → a < 256 → Made m → Made (a ∷ m)
 
+-- Such a list is one of bytes.
 made-bytes : {m : List ℕ} → Made m → Bytes m
 made-bytes none i = omega arith
 made-bytes (then h b) zero = h
 made-bytes (then h b) (suc i) = made-bytes b i
 
+-- Two lists of bytes, one after the other, are one of bytes.
 pub bytes-append : (m n : List ℕ) → Bytes m → Bytes n → Bytes (m ++ n)
 bytes-append [] n b c i = c i
 bytes-append (a ∷ m) n b c zero = b 0
@@ -86,8 +89,8 @@ unfolding recordBytes
 record-bytes job pin held j p e =
     let x : ℤ = held .place .x in
     let y : ℤ = held .place .y in
-    let y-bytes : Made (first y ∷ second y ∷ third y ∷ fourth y ∷ []) =
+    let y-bytes : Made (firstByte y ∷ secondByte y ∷ thirdByte y ∷ fourthByte y ∷ []) =
     then (first-byte y (y-held (held .place) e)) (then (second-byte y) (then (third-byte y) (then (fourth-byte y) none))) in
-    let place-bytes : Made (first x ∷ second x ∷ third x ∷ fourth x ∷ first y ∷ second y ∷ third y ∷ fourth y ∷ []) =
+    let place-bytes : Made (firstByte x ∷ secondByte x ∷ thirdByte x ∷ fourthByte x ∷ firstByte y ∷ secondByte y ∷ thirdByte y ∷ fourthByte y ∷ []) =
     then (first-byte x (x-held (held .place) e)) (then (second-byte x) (then (third-byte x) (then (fourth-byte x) y-bytes))) in
     made-bytes (then {a = job / 256} (omega arith) (then {a = job % 256} (omega arith) (then p (then {a = 0} (omega arith) place-bytes))))

@@ -1,7 +1,7 @@
 -- Written and read, both ways. The map of a drawing that keeps the rules opens under its job with the same pins; a map that opens is written with
 -- the same bytes, and its pins keep the rules. From the laws of records, read forwards and back. Assumes nothing.
 use mathlib.Core.Path.{_≡_, refl, sym, ap, _∙_}
-use mathlib.Core.Bool.{Bool, true, false}
+use mathlib.Core.Bool.{Bool, true, false, true≢false, false≢true}
 use mathlib.Core.List.{List, [], _∷_, _++_}
 use Prim.Native.Nat.{ℕ, zero, suc, _+_, _/_, _%_, _<_, _≤_}
 use native.Mathlib.Omega.{arith}
@@ -15,7 +15,7 @@ use Rattle.refusal.proofs.Tests.{both-left, both-right}
 use Rattle.drawing.specs.declared.Stand.{Stand}
 use Rattle.drawing.specs.declared.Stand.the-variants.{Absent, There}
 use Rattle.drawing.specs.declared.Pin.{Pin}
-use Rattle.feed.specs.Feeds.{mostPins, within, allWithin, allApart, meetsAny, meets}
+use Rattle.feed.specs.Feeds.{mostPins, within, allWithin, allApart, tooNearAny, spotsTooNear}
 use Rattle.drawing.specs.Pins.{spotIn, lawful, spotOf, feedOf}
 use Rattle.drawing.proofs.Rules.{lawful-parts}
 use Rattle.pinmap.specs.declared.Reading.{Reading}
@@ -30,11 +30,12 @@ use Rattle.pinmap.proofs.Back.{Kept, Back, back-from}
 
 -- ---- the map of a drawing
 
--- A drawing's map has at most 384 bytes, and a whole number of records.
+-- A drawing's map has at most 384 bytes,
 pub map-short : (job : ℕ) (l : List Pin) → length l ≡ mostPins → length (mapOf job l) ≤ mostBytes
 unfolding mapOf
 map-short job l n = omega (arith, map-size job 0 l .0)
 
+-- and a whole number of records.
 pub map-whole : (job : ℕ) (l : List Pin) → length (mapOf job l) % recordSize ≡ 0
 unfolding mapOf
 map-whole job l = map-size job 0 l .1
@@ -46,6 +47,7 @@ map-opens job l j e =
     sym (looked-at (mapFrom job 0 l) job (right-length (mapFrom job 0 l) (map-short job l (lawful-parts l e .long)) (map-whole job l)))
     ∙ open-from job l j e mostPins 0 refl 0 0 noPins (omega arith) (upto-none l)
 
+-- What a map has for a pin on the board is made of bytes,
 pin-bytes : (job pin : ℕ) (q : Pin) → job < 65536 → pin < 256 → within (spotOf q) ≡ true → Bytes (pinBytes job pin q)
 unfolding pinBytes within spotOf
 pin-bytes job pin q j p e = by-stand (q .stand) e
@@ -54,11 +56,13 @@ pin-bytes job pin q j p e = by-stand (q .stand) e
     by-stand Absent e = λ i. omega arith
     by-stand (There held) e = record-bytes job pin held j p e
 
+-- and so is the map from any pin on.
 bytes-from : (job i : ℕ) (l : List Pin) → job < 65536 → i + length l ≤ 256 → allWithin (feedOf l) ≡ true → Bytes (mapFrom job i l)
 unfolding mapFrom allWithin feedOf
 bytes-from job i [] j n e = λ k. omega arith
 bytes-from job i (q ∷ l) j n e =
-    bytes-append (pinBytes job i q) (mapFrom job (i + 1) l) (pin-bytes job i q j (omega arith) (both-left _ _ e)) (bytes-from job (i + 1) l j (omega arith) (both-right _ _ e))
+    bytes-append (pinBytes job i q) (mapFrom job (i + 1) l) (pin-bytes job i q j (omega arith) (both-left _ _ e))
+    (bytes-from job (i + 1) l j (omega arith) (both-right _ _ e))
 
 -- A drawing's map is made of bytes.
 pub map-bytes : (job : ℕ) (l : List Pin) → job < 65536 → lawful l ≡ true → Bytes (mapOf job l)
@@ -69,25 +73,28 @@ map-bytes job l j e = bytes-from job 0 l j (omega (arith, lawful-parts l e .long
 
 -- A drawing without pins keeps the rules.
 pub no-pins-lawful : lawful noPins ≡ true
-unfolding noPins lawful both spotOf feedOf allWithin within allApart meetsAny meets either
+unfolding noPins lawful both spotOf feedOf allWithin within allApart tooNearAny spotsTooNear either
 no-pins-lawful = refl
 
 -- A map that opens has a right length, and its records are read.
 back-length : (job : ℕ) (map : List ℕ) (t : Bool) (x : Reading) → (t ≡ false → accepted (x .verdict) ≡ true → Back job map noPins x)
     → accepted (choose t (refusedBy MapLength) x .verdict) ≡ true → Back job map noPins (choose t (refusedBy MapLength) x)
 unfolding choose accepted
-back-length job map true x f a = let z : _≡_ {A = ℕ} 0 1 = cc in absurd (omega arith)
+back-length job map true x f a = absurd (false≢true a)
 back-length job map false x f a = f refl a
 
+-- Reading begins with no pin.
 kept-none : Kept 0 noPins
 kept-none = record { rules = no-pins-lawful; clear = λ k h. upto-none noPins .above k (omega arith) }
 
+-- What a map that opens gives back.
 back-read : (job : ℕ) (map : List ℕ) → accepted (readMap map job .verdict) ≡ true → Back job map noPins (readMap map job)
 unfolding readMap
 back-read job map a =
     back-length job map (wrongLength map) (readFrom (length map / recordSize) map job 0 0 noPins)
     (λ e. back-from job (length map / recordSize) map 0 0 noPins (omega (arith, length-right map e .1)) kept-none) a
 
+-- A drawing without pins is written with no bytes.
 none-written : (job : ℕ) → mapOf job noPins ≡ []
 unfolding mapOf mapFrom pinBytes noPins
 none-written job = refl
@@ -103,12 +110,14 @@ opened-lawful job map a = back-read job map a .rules
 -- ---- a map in a buffer
 
 -- Where a writing is accepted, the bytes written are the map.
-buffer-by : (m buffer : List ℕ) (t : Bool) → let w : Writing = choose t (record { verdict = RoomTooSmall; bytes = 0 }) (record { verdict = Accepted; bytes = length m }) in
+buffer-by : (m buffer : List ℕ) (t : Bool)
+    → let w : Writing = choose t (record { verdict = RoomTooSmall; bytes = 0 }) (record { verdict = Accepted; bytes = length m }) in
     accepted (w .verdict) ≡ true → take (w .bytes) (choose t buffer (written m buffer)) ≡ m
 unfolding choose accepted written
-buffer-by m buffer true a = let z : _≡_ {A = ℕ} 0 1 = cc in absurd (omega arith)
+buffer-by m buffer true a = absurd (false≢true a)
 buffer-by m buffer false a = take-append-seam m (drop (length m) buffer)
 
+-- So the front of the lent buffer is the drawing's map.
 pub bytes-written : (job : ℕ) (l : List Pin) (buffer : List ℕ) → accepted (writeMap l job buffer .verdict) ≡ true
     → take (writeMap l job buffer .bytes) (bufferAfter l job buffer) ≡ mapOf job l
 unfolding writeMap bufferAfter
@@ -127,26 +136,29 @@ opened-written job map buffer b a c = bytes-written job (readMap map job .pins) 
 
 -- ---- a map that does not open
 
--- It gives no pins.
+-- A reading that goes on only where a record is accepted gives no pins where it is refused.
 refused-by : (t : Bool) (v : Verdict) (x : Reading) → accepted v ≡ t → (accepted (x .verdict) ≡ false → x .pins ≡ noPins)
     → accepted (choose t x (refusedBy v) .verdict) ≡ false → choose t x (refusedBy v) .pins ≡ noPins
 unfolding choose
 refused-by true v x e f a = f a
 refused-by false v x e f a = refl
 
+-- So where a record is faulty,
 refused-from : (left : ℕ) (map : List ℕ) (job number next : ℕ) (earlier : List Pin) → accepted (readFrom left map job number next earlier .verdict) ≡ false
     → readFrom left map job number next earlier .pins ≡ noPins
 unfolding readFrom accepted
-refused-from zero map job number next earlier a = let z : _≡_ {A = ℕ} 0 1 = cc in absurd (omega arith)
+refused-from zero map job number next earlier a = absurd (true≢false a)
 refused-from (suc left) map job number next earlier a =
     refused-by _ (judged job number next earlier (recordOf (take recordSize map))) _ refl (refused-from left (drop recordSize map) job (number + 1) _ _) a
 
+-- and where its length is wrong,
 refused-length : (t : Bool) (x : Reading) → (accepted (x .verdict) ≡ false → x .pins ≡ noPins)
     → accepted (choose t (refusedBy MapLength) x .verdict) ≡ false → choose t (refusedBy MapLength) x .pins ≡ noPins
 unfolding choose
 refused-length true x f a = refl
 refused-length false x f a = f a
 
+-- a map that is turned away gives no pins.
 pub refused-none : (job : ℕ) (map : List ℕ) → accepted (readMap map job .verdict) ≡ false → readMap map job .pins ≡ noPins
 unfolding readMap
 refused-none job map a = refused-length (wrongLength map) _ (refused-from (length map / recordSize) map job 0 0 noPins) a

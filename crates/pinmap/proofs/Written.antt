@@ -47,13 +47,15 @@ pub record-stored : (part : List ℕ) (job pin : ℕ) (held : Held) → length p
     → putAt (putAt (set (set (set (set part 0 (job / 256)) 1 (job % 256)) 2 pin) 3 0) 4 (held .place .x)) 8 (held .place .y) ≡ recordBytes job pin held
 unfolding putAt recordBytes
 record-stored part job pin held h =
-    sets-eq (recordBytes job pin held) part 0 (omega arith) ∙ ap (λ (l : List ℕ). recordBytes job pin held ++ l) (drop-of-length-le part {i = recordSize} (omega arith))
-    ∙ append-nil (recordBytes job pin held)
+    let r : List ℕ = recordBytes job pin held in
+    sets-eq r part 0 (omega arith) ∙ ap (λ (l : List ℕ). r ++ l) (drop-of-length-le part {i = recordSize} (omega arith)) ∙ append-nil r
 
+-- A record has its twelve bytes,
 pub record-length : (job pin : ℕ) (held : Held) → length (recordBytes job pin held) ≡ recordSize
 unfolding recordBytes
 record-length job pin held = refl
 
+-- so a pin has at most as many.
 pub pin-length : (job pin : ℕ) (q : Pin) → length (pinBytes job pin q) ≤ recordSize
 unfolding pinBytes recordBytes
 pin-length job pin q = by-stand (q .stand)
@@ -62,16 +64,18 @@ pin-length job pin q = by-stand (q .stand)
     by-stand Absent = omega arith
     by-stand (There held) = omega arith
 
--- A pin that is absent has no bytes, one that is there has its record.
 module _ (job pin : ℕ) (q : Pin) where
+  -- A pin that is absent has no bytes,
   pub absent-bytes : q .stand ≡ Absent → pinBytes job pin q ≡ []
   unfolding pinBytes
   absent-bytes e = rw e
 
+  -- one that is there has those of its record,
   pub there-bytes : {held : Held} → q .stand ≡ There held → pinBytes job pin q ≡ recordBytes job pin held
   unfolding pinBytes
   there-bytes e = rw e
 
+  -- and these are twelve.
   pub there-length : {held : Held} → q .stand ≡ There held → length (pinBytes job pin q) ≡ recordSize
   there-length {held} e = ap length (there-bytes e) ∙ record-length job pin held
 
@@ -85,18 +89,20 @@ part-put buffer part at e h =
     (sets-eq part buffer at (omega arith) ∙ append-assoc (take at buffer) part (drop (at + length part) buffer)
     ∙ ap (λ (l : List ℕ). take at buffer ++ (part ++ l)) (sym (drop-drop (length part) at buffer))))
 
--- The map from pin i on: what it has for pin i, and the map from the next pin on; nothing after the last pin.
 module _ (job : ℕ) (l : List Pin) (i : ℕ) where
+  -- The map from pin i on: what it has for pin i, then the map from the next pin on;
   pub map-next : i < length l → mapFrom job i (drop i l) ≡ pinBytes job i (getD l i absent) ++ mapFrom job (i + 1) (drop (i + 1) l)
   unfolding mapFrom
   map-next h = rw (drop-cons l i absent h, add-one)
 
+  -- after the last pin there is nothing.
   pub map-end : length l ≤ i → mapFrom job i (drop i l) ≡ []
   unfolding mapFrom
   map-end h = rw (drop-of-length-le l h)
 
 -- ---- how long a map is
 
+-- A pin has no bytes or those of a whole record.
 pin-whole : (job pin : ℕ) (q : Pin) → length (pinBytes job pin q) % recordSize ≡ 0
 unfolding pinBytes recordBytes
 pin-whole job pin q = by-stand (q .stand)
@@ -124,19 +130,26 @@ pub record Counted (l : List Pin) (bytes i : ℕ) : Type 0 where
   pub small : bytes ≤ i * recordSize
   pub rest : (job : ℕ) → length (mapOf job l) ≡ bytes + length (mapFrom job i (drop i l))
 
+-- Before the first pin no bytes are counted,
 pub counted-start : (l : List Pin) → Counted l 0 0
 unfolding mapOf
 counted-start l = record { within = omega arith; small = omega arith; rest = λ job. omega arith }
 
 module _ (l : List Pin) (bytes i : ℕ) (s : Counted l bytes i) where
-  pub counted-next : {n : ℕ} → i < length l → i < mostPins → ((job number : ℕ) → n ≡ length (pinBytes job number (getD l i absent))) → Counted l (bytes + n) (i + 1)
+  -- each pin adds its own,
+  pub counted-next : {n : ℕ} → i < length l → i < mostPins → ((job number : ℕ) → n ≡ length (pinBytes job number (getD l i absent)))
+      → Counted l (bytes + n) (i + 1)
   counted-next {n} h k e =
+      let q : Pin = getD l i absent in
       record {
         within = omega arith;
-        small = omega (arith, e 0 0, pin-length 0 0 (getD l i absent));
-        rest = λ job. omega (arith, s .rest job, ap length (map-next job l i h), e job i, length-append (pinBytes job i (getD l i absent)) (mapFrom job (i + 1) (drop (i + 1) l)));
+        small = omega (arith, e 0 0, pin-length 0 0 q);
+        rest = λ job.
+            let n = length-append (pinBytes job i q) (mapFrom job (i + 1) (drop (i + 1) l)) in
+            omega (arith, s .rest job, ap length (map-next job l i h), e job i, n);
       }
 
+  -- and after the last the count is how long the map is.
   pub counted-end : length l ≤ i → (job : ℕ) → bytes ≡ length (mapOf job l)
   counted-end h job = omega (arith, s .rest job, ap length (map-end job l i h))
 
@@ -149,19 +162,23 @@ pub record Storing (job : ℕ) (l : List Pin) (before now : List ℕ) (at i : �
   pub room : at + length (mapFrom job i (drop i l)) ≤ length before
   pub rest : sets now at (mapFrom job i (drop i l)) ≡ sets before 0 (mapOf job l)
 
+-- Before the first pin nothing is stored: the buffer has room for the whole map.
 pub storing-start : (job : ℕ) (l : List Pin) (buffer : List ℕ) → length (mapOf job l) ≤ length buffer → Storing job l buffer buffer 0 0
 unfolding mapOf
 storing-start job l buffer h = record { within = omega arith; same = refl; room = omega arith; rest = refl }
 
 module _ (job : ℕ) (l : List Pin) (before now : List ℕ) (at i : ℕ) (s : Storing job l before now at i) where
   module _ (h : i < length l) where
+    -- What the map has for pin i.
     abbrev own : List ℕ
     own = pinBytes job i (getD l i absent)
 
+    -- There is room for pin i,
     pub storing-room : at + length own ≤ length now
     storing-room =
         omega (arith, s .room, s .same, ap length (map-next job l i h), length-append own (mapFrom job (i + 1) (drop (i + 1) l)))
 
+    -- and once it is stored, those from the next pin on are left.
     pub storing-next : i < mostPins → {r : ℕ} {after : List ℕ} → r ≡ at + length own → after ≡ sets now at own → Storing job l before after r (i + 1)
     storing-next k {r} {after} er ea =
         record {
@@ -173,6 +190,7 @@ module _ (job : ℕ) (l : List Pin) (before now : List ℕ) (at i : ℕ) (s : St
               (sym (sets-append own (mapFrom job (i + 1) (drop (i + 1) l)) now at) ∙ ap (sets now at) (sym (map-next job l i h)) ∙ s .rest);
         }
 
+  -- After the last pin the buffer holds the map, and the bytes after it as they were.
   pub storing-end : length l ≤ i → length (mapOf job l) ≤ length before → now ≡ written (mapOf job l) before
   storing-end h k =
       ap (sets now at) (sym (map-end job l i h)) ∙ s .rest ∙ sets-front (mapOf job l) before k
@@ -180,26 +198,32 @@ module _ (job : ℕ) (l : List Pin) (before now : List ℕ) (at i : ℕ) (s : St
 -- ---- the answer, by the room
 
 module _ (l : List Pin) (job : ℕ) (buffer : List ℕ) {n : ℕ} (e : n ≡ length (mapOf job l)) where
+  -- Room for fewer bytes than the map has is too small,
   pub too-small : length buffer < n → noRoom l job buffer ≡ true
   unfolding noRoom
   too-small h = lt-ltb (length buffer) (length (mapOf job l)) (omega arith)
 
+  -- room for as many is enough.
   pub room-enough : n ≤ length buffer → noRoom l job buffer ≡ false
   unfolding noRoom
   room-enough h = le-ltb (length buffer) (length (mapOf job l)) (omega arith)
 
+  -- Where it is too small, writing is answered 19
   pub answer-small : length buffer < n → record { verdict = RoomTooSmall; bytes = 0 } ≡ writeMap l job buffer
   unfolding writeMap
   answer-small h = sym (choose-yes _ _ (too-small h))
 
+  -- and leaves the buffer as it was;
   pub buffer-small : length buffer < n → buffer ≡ bufferAfter l job buffer
   unfolding bufferAfter
   buffer-small h = sym (choose-yes _ _ (too-small h))
 
+  -- where it is enough, writing is accepted with the number of bytes
   pub answer-written : n ≤ length buffer → record { verdict = Accepted; bytes = n } ≡ writeMap l job buffer
   unfolding writeMap
   answer-written h = rw e (sym (choose-no _ _ (room-enough h)))
 
+  -- and leaves the map in the buffer.
   pub buffer-written : n ≤ length buffer → written (mapOf job l) buffer ≡ bufferAfter l job buffer
   unfolding bufferAfter
   buffer-written h = sym (choose-no _ _ (room-enough h))

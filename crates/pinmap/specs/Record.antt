@@ -7,13 +7,14 @@ use lib.ListN.{getD}
 use Rattle.refusal.specs.declared.Verdict.{Verdict}
 use Rattle.refusal.specs.declared.Verdict.the-variants.{Accepted, OtherJob, FaultyRecord}
 use Rattle.refusal.specs.Refusals.{turn}
-use Rattle.grid.specs.Number.{numberAt, first, second, third, fourth}
+use Rattle.grid.specs.Number.{numberAt, firstByte, secondByte, thirdByte, fourthByte}
 use Rattle.grid.specs.Place.{inside}
 use Rattle.drawing.specs.declared.Held.{Held}
 use Rattle.drawing.specs.declared.Stand.{Stand}
 use Rattle.drawing.specs.declared.Stand.the-variants.{Absent, There}
 use Rattle.drawing.specs.declared.Pin.{Pin}
-use Rattle.feed.specs.Feeds.{mostPins, crowded}
+use Rattle.feed.specs.declared.Spot.the-variants.{At}
+use Rattle.feed.specs.Feeds.{mostPins, tooNearAny}
 use Rattle.drawing.specs.Pins.{feedOf}
 use Rattle.pinmap.specs.declared.Record.{Record}
 
@@ -51,9 +52,9 @@ outside r = not (inside (r .place))
 abbrev pub notAbove : ℕ → Record → Bool
 notAbove next r = ltb (r .pin) next
 
--- Its place is that of an earlier record of another pin, or too near to it.
+-- Its place is that of an earlier record, or too near to it.
 abbrev pub placeTaken : List Pin → Record → Bool
-placeTaken earlier r = crowded (feedOf earlier) (r .pin) (r .place)
+placeTaken earlier r = tooNearAny (At (r .place)) (feedOf earlier)
 
 -- A record after those that were read: 14 before 15, with its number, counted from 0.
 unfoldable pub judged : ℕ → ℕ → ℕ → List Pin → Record → Verdict
@@ -69,8 +70,8 @@ judged job number next earlier r =
 unfoldable pub recordBytes : ℕ → ℕ → Held → List ℕ
 recordBytes job pin held =
     job / 256 ∷ job % 256 ∷ pin ∷ 0
-    ∷ first (held .place .x) ∷ second (held .place .x) ∷ third (held .place .x) ∷ fourth (held .place .x)
-    ∷ first (held .place .y) ∷ second (held .place .y) ∷ third (held .place .y) ∷ fourth (held .place .y) ∷ []
+    ∷ firstByte (held .place .x) ∷ secondByte (held .place .x) ∷ thirdByte (held .place .x) ∷ fourthByte (held .place .x)
+    ∷ firstByte (held .place .y) ∷ secondByte (held .place .y) ∷ thirdByte (held .place .y) ∷ fourthByte (held .place .y) ∷ []
 
 -- The record of a pin that stands there, and nothing for an absent one.
 abbrev pub bytesIn : ℕ → ℕ → Stand → List ℕ

@@ -3,6 +3,7 @@ use drawing::Held;
 use drawing::Pin;
 use drawing::Stand;
 use feed::PINS;
+use feed::Spot;
 use grid::Place;
 use refusal::Verdict;
 ghost use mathlib.Core.Path.{_≡_};
@@ -40,7 +41,7 @@ pub struct Writing {
 }
 
 // What the record in its own part of the map says.
-pub fn read_record(part: &[u8]) -> Record
+fn read_record(part: &[u8]) -> Record
     requires { ⌜ length (now part) ≡ recordSize ⌝ }
     ensures { λ r. ⌜ r ≡ recordOf (now (part .entry)) ⌝ }
 {
@@ -58,28 +59,28 @@ pub fn read_record(part: &[u8]) -> Record
 }
 
 // Whether a record has a job other than this one.
-pub fn has_other_job(given: Record, job: u16) -> bool
+fn has_other_job(given: Record, job: u16) -> bool
     ensures { λ r. ⌜ r ≡ otherJob job given ⌝ }
 {
     given.job != job
 }
 
 // Whether a record's pin number is above the last one of a drawing.
-pub fn has_pin_above(given: Record) -> bool
+fn has_pin_above(given: Record) -> bool
     ensures { λ r. ⌜ r ≡ pinAbove given ⌝ }
 {
     PINS <= given.pin
 }
 
 // Whether a record's byte 3 is not zero.
-pub fn is_not_blank(given: Record) -> bool
+fn is_not_blank(given: Record) -> bool
     ensures { λ r. ⌜ r ≡ notBlank given ⌝ }
 {
     given.blank != 0
 }
 
 // Whether a record's place is outside the board.
-pub fn is_outside(given: Record) -> bool
+fn is_outside(given: Record) -> bool
     ensures { λ r. ⌜ r ≡ outside given ⌝ }
 {
     let at = given.place;
@@ -87,19 +88,19 @@ pub fn is_outside(given: Record) -> bool
 }
 
 // Whether a record's pin number is not above the one before: `next` is one more than that.
-pub fn is_not_above(given: Record, next: usize) -> bool
+fn is_not_above(given: Record, next: usize) -> bool
     ensures { λ r. ⌜ r ≡ notAbove next given ⌝ }
 {
     given.pin < next
 }
 
-// Whether a record's place is too near to that of another pin among the earlier ones.
-pub fn has_place_taken(given: Record, earlier: [Pin; PINS]) -> bool
-    requires { ⌜ given .pin < mostPins ⌝ }
+// Whether a record's place is that of an earlier record, or too near to it.
+fn has_place_taken(given: Record, earlier: [Pin; PINS]) -> bool
     ensures { λ r. ⌜ r ≡ placeTaken earlier given ⌝ }
 {
     let at = given.place;
-    drawing::is_crowded(earlier, given.pin, at)
+    let spots = drawing::feed_of(earlier);
+    feed::too_near_any(Spot::At(at), spots, 0)
 }
 
 // What a record comes to, as the one of this number after those that were read.
@@ -220,7 +221,7 @@ fn bytes_needed(pins: [Pin; PINS]) -> usize
     let mut i: usize = 0;
     while i < PINS {
         let q = pins[i];
-        bytes = bytes + bytes_of(q);
+        bytes += bytes_of(q);
         i += 1;
     }
     bytes

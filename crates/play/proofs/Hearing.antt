@@ -13,7 +13,7 @@ use Rattle.bytes.specs.Bytes.{indexOf, indexAfter}
 use Rattle.refusal.specs.Tests.{choose}
 use Rattle.script.specs.Words.{newline, stopAt}
 use Rattle.script.specs.Orders.{mostKept}
-use Rattle.script.proofs.Steps.{order}
+use Rattle.grid.proofs.Flat.{order}
 use Rattle.play.specs.Log.{Log, nextLine, longer, stretched, heard, stopped, lastHeard}
 
 -- Cut and gone on with, then cut, is gone on with and cut.
@@ -44,22 +44,29 @@ short l a = omega (arith, length-take mostKept (l .line ++ a))
 abbrev toNewline : Log → List ℕ → Log
 toNewline l v = stretched l (take (indexOf newline v) v) (ltb (indexOf newline v) (length v))
 
+-- What comes after the next newline.
+abbrev pastNewline : List ℕ → List ℕ
+pastNewline v = drop (suc (indexOf newline v)) v
+
 -- Input taken in is the stretch up to the next newline taken in, and then what comes after it.
-stretch : (v : List ℕ) (l : Log) → length (l .line) ≤ mostKept → heard l v ≡ heard (toNewline l v) (drop (suc (indexOf newline v)) v)
+stretch : (v : List ℕ) (l : Log) → length (l .line) ≤ mostKept → heard l v ≡ heard (toNewline l v) (pastNewline v)
 unfolding indexOf indexAfter heard choose
 stretch [] l h = sym (longer-none l h)
 stretch (b ∷ v) l h = by (eqb b newline) (stretch v (longer l (b ∷ [])) (short l (b ∷ [])))
   where
-    by : (t : Bool) → heard (longer l (b ∷ [])) v ≡ heard (stretched (longer l (b ∷ [])) (take (indexOf newline v) v) (ltb (indexOf newline v) (length v))) (drop (suc (indexOf newline v)) v)
+    by : (t : Bool) → heard (longer l (b ∷ [])) v ≡ heard (toNewline (longer l (b ∷ [])) v) (pastNewline v)
         → heard (choose t (nextLine l) (longer l (b ∷ []))) v
-        ≡ heard (stretched l (take (indexAfter t (indexOf newline v)) (b ∷ v)) (ltb (indexAfter t (indexOf newline v)) (suc (length v)))) (drop (suc (indexAfter t (indexOf newline v))) (b ∷ v))
+        ≡ heard (stretched l (take (indexAfter t (indexOf newline v)) (b ∷ v)) (ltb (indexAfter t (indexOf newline v)) (suc (length v))))
+        (drop (suc (indexAfter t (indexOf newline v))) (b ∷ v))
     by true step =
         ap (λ (m : Log). heard (nextLine m) v) (sym (longer-none l h))
         ∙ ap (λ (t : Bool). heard (stretched l [] t) v) (sym (lt-ltb 0 (suc (length v)) (omega arith)))
     by false step =
+        let n : ℕ = indexOf newline v in
+        let line : List ℕ = take n v in
         step
-        ∙ ap (λ (m : Log). heard (choose (ltb (indexOf newline v) (length v)) (nextLine m) m) (drop (suc (indexOf newline v)) v)) (longer-more l (b ∷ []) (take (indexOf newline v) v))
-        ∙ ap (λ (t : Bool). heard (stretched l (b ∷ take (indexOf newline v) v) t) (drop (suc (indexOf newline v)) v)) (sym (leb·suc-suc (suc (indexOf newline v)) (length v)))
+        ∙ ap (λ (m : Log). heard (choose (ltb n (length v)) (nextLine m) m) (pastNewline v)) (longer-more l (b ∷ []) line)
+        ∙ ap (λ (t : Bool). heard (stretched l (b ∷ line) t) (pastNewline v)) (sym (leb·suc-suc (suc n) (length v)))
 
 -- The same of a window, from a position in it up to the next newline.
 pub stretch-at : (w : List ℕ) (at to : ℕ) (l : Log) → length (l .line) ≤ mostKept → at ≤ length w → to ≡ stopAt newline w at

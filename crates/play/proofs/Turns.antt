@@ -35,7 +35,7 @@ module _ (s : Session) (line out : List ℕ) where
       let m : length line ≡ mostKept = sym (length-sets line (s .kept) (take (mostKept - s .kept) bytes)) ∙ sym (ap length q) ∙ g in
       rw (p, q) (ap (λ (kept : List ℕ). record { desk = s .desk; line = kept; lines = s .lines; ended = s .ended; out = out }) (keeping line bytes (s .kept) h m))
 
-  -- A stretch of a window was taken in: what is to come of the whole stays the same. At the window's end nothing is to come.
+  -- A stretch of a window was taken in: what is to come of the whole stays the same.
   pub window-more : (w : List ℕ) (at : ℕ) {to : ℕ} {m n : Log} → s .kept ≤ mostKept → at ≤ length w → to ≡ stopAt newline w at
       → m ≡ stretched (logOf s line out) (take (to - at) (drop at w)) (ltb to (length w))
       → heard (logOf s line out) (drop at w) ≡ n → heard m (drop (to + 1) w) ≡ n
@@ -43,27 +43,30 @@ module _ (s : Session) (line out : List ℕ) where
       let short : length (take (s .kept) line) ≤ mostKept = omega (arith, length-take (s .kept) line) in
       ap (λ (l : Log). heard l (drop (to + 1) w)) p ∙ stretch-at w at to (logOf s line out) short k e ∙ q
 
+  -- At the window's end nothing is to come.
   pub window-done : (w : List ℕ) {at : ℕ} {n : Log} → length w ≤ at → heard (logOf s line out) (drop at w) ≡ n → logOf s line out ≡ n
   unfolding heard
   window-done w {at} h q = ap (heard (logOf s line out)) (sym (spent w at h)) ∙ q
 
-  -- The input ended after a newline, or in a line.
+  -- The input ended after a newline: no line more.
   pub ended-between : s .kept ≡ 0
       → logOf (record { desk = s .desk; kept = s .kept; lines = s .lines; ended = true }) line out ≡ lastHeard (logOf s line out)
   unfolding lastHeard choose
   ended-between h = rw h
 
+  -- It ended in a line: that line is played.
   pub ended-within : {l : Log} → (s .kept ≡ 0 → ⊥) → s .kept ≤ length line
       → l ≡ nextLine (logOf (record { desk = s .desk; kept = s .kept; lines = s .lines; ended = true }) line out)
       → l ≡ lastHeard (logOf s line out)
   unfolding lastHeard choose
   ended-within h g e = rw (ne-eqb (length (take (s .kept) line)) 0 (λ z. h (omega (arith, length-take-le (s .kept) line g)))) e
 
--- A stretch ended at a newline, or with the window.
+-- A stretch ended at a newline: its line ends.
 pub stretch-ended : (l : Log) (bytes : List ℕ) {to n : ℕ} {m : Log} → to < n → m ≡ nextLine (longer l bytes) → m ≡ stretched l bytes (ltb to n)
 unfolding choose
 stretch-ended l bytes {to} {n} h e = rw (lt-ltb to n h) e
 
+-- It ended with the window: its line goes on.
 pub stretch-open : (l : Log) (bytes : List ℕ) {to n : ℕ} {m : Log} → n ≤ to → m ≡ longer l bytes → m ≡ stretched l bytes (ltb to n)
 unfolding choose
 stretch-open l bytes {to} {n} h e = rw (le-ltb to n h) e

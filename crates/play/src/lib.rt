@@ -1,7 +1,7 @@
 // A log of calls played on one desk: the input taken in window by window, each line answered where it ends, and its answer sent.
 use answer::answer_line;
 use desk::Desk;
-use script::answers::ROOM;
+use script::answers::ANSWER_BYTES;
 use script::windows::MOST_KEPT;
 use script::windows::keep;
 use script::windows::newline;
@@ -10,7 +10,7 @@ ghost use mathlib.Core.Bool.{false};
 ghost use Prim.Native.Nat.{_-_, _≤_};
 ghost use lib.Dec.{ltb};
 ghost use lib.ListN.{length, take, drop};
-ghost use Rattle.script.specs.Text.{over, room};
+ghost use Rattle.script.specs.Text.{over, answerBytes};
 ghost use Rattle.script.specs.Orders.{mostKept};
 ghost use Rattle.answer.specs.Answered.{played, answered};
 ghost use Rattle.play.specs.Log.{logOf, nextLine, stretched, heard, lastHeard, ComesOf};
@@ -26,15 +26,15 @@ pub struct Session {
 }
 
 // Writes the first bytes of a buffer to standard output.
-fn send(out: &[u8; ROOM], bytes: usize)
-    requires { ⌜ bytes ≤ room ⌝ }
+fn send(out: &[u8; ANSWER_BYTES], bytes: usize)
+    requires { ⌜ bytes ≤ answerBytes ⌝ }
 {
     let all: &[u8] = out;
     io::write_all(1, &all[..bytes]);
 }
 
 // Answers the line of that number, without its newline, sends the answer, and hands on the desk that follows.
-fn play_line(desk: Desk, number: usize, line: &[u8], out: &mut [u8; ROOM]) -> Desk
+fn play_line(desk: Desk, number: usize, line: &[u8], out: &mut [u8; ANSWER_BYTES]) -> Desk
     ensures { λ r. ⌜ r ≡ played desk (now (line .entry)) ⌝ }
     ensures { λ _. ⌜ now (out .exit) ≡ over (answered desk number (now (line .entry))) (now (out .entry)) ⌝ }
 {
@@ -44,7 +44,7 @@ fn play_line(desk: Desk, number: usize, line: &[u8], out: &mut [u8; ROOM]) -> De
 }
 
 // Plays the line that is kept; the next one begins.
-fn end_line(session: Session, line: &[u8], out: &mut [u8; ROOM]) -> Session
+fn end_line(session: Session, line: &[u8], out: &mut [u8; ANSWER_BYTES]) -> Session
     requires { ⌜ session .kept ≤ length (now line) ⌝ }
     ensures { λ r. ⌜ logOf r (now (line .entry)) (now (out .exit)) ≡ nextLine (logOf session (now (line .entry)) (now (out .entry))) ⌝ }
     ensures { λ r. ⌜ r .kept ≡ 0 ⌝ }
@@ -65,7 +65,7 @@ fn end_line(session: Session, line: &[u8], out: &mut [u8; ROOM]) -> Session
 fn take_in(
     session: Session,
     line: &mut [u8; MOST_KEPT],
-    out: &mut [u8; ROOM],
+    out: &mut [u8; ANSWER_BYTES],
     window: &[u8],
     at: usize,
     to: usize,
@@ -87,7 +87,7 @@ fn take_in(
 fn play_window(
     session: Session,
     line: &mut [u8; MOST_KEPT],
-    out: &mut [u8; ROOM],
+    out: &mut [u8; ANSWER_BYTES],
     window: &[u8],
 ) -> Session
     requires { ⌜ session .kept ≤ mostKept ⌝ }
@@ -105,7 +105,7 @@ fn play_window(
 }
 
 // The input has ended. The last line may lack its newline.
-fn end_input(session: Session, line: &[u8], out: &mut [u8; ROOM]) -> Session
+fn end_input(session: Session, line: &[u8], out: &mut [u8; ANSWER_BYTES]) -> Session
     requires { ⌜ session .kept ≤ length (now line) ⌝ }
     ensures { λ r. ⌜ logOf r (now (line .entry)) (now (out .exit)) ≡ lastHeard (logOf session (now (line .entry)) (now (out .entry))) ⌝ }
     ensures { λ r. ⌜ r .kept ≤ session .kept ⌝ }
@@ -119,7 +119,12 @@ fn end_input(session: Session, line: &[u8], out: &mut [u8; ROOM]) -> Session
 }
 
 // Reads once, and takes in what came.
-fn play_some(fd: i32, session: Session, line: &mut [u8; MOST_KEPT], out: &mut [u8; ROOM]) -> Session
+fn play_some(
+    fd: i32,
+    session: Session,
+    line: &mut [u8; MOST_KEPT],
+    out: &mut [u8; ANSWER_BYTES],
+) -> Session
     requires { ⌜ (session .kept ≤ mostKept) × (session .ended ≡ false) ⌝ }
     ensures { λ r. ⌜ ComesOf (logOf session (now (line .entry)) (now (out .entry))) (logOf r (now (line .exit)) (now (out .exit))) ⌝ }
     ensures { λ r. ⌜ r .kept ≤ mostKept ⌝ }
@@ -135,7 +140,12 @@ fn play_some(fd: i32, session: Session, line: &mut [u8; MOST_KEPT], out: &mut [u
 
 // Reads to the end of the input, and takes in what comes. Nothing says that an input ends, so the turns are counted down from a
 // number that no run uses up.
-fn play_all(fd: i32, session: Session, line: &mut [u8; MOST_KEPT], out: &mut [u8; ROOM]) -> Session
+fn play_all(
+    fd: i32,
+    session: Session,
+    line: &mut [u8; MOST_KEPT],
+    out: &mut [u8; ANSWER_BYTES],
+) -> Session
     requires { ⌜ (session .kept ≤ mostKept) × (session .ended ≡ false) ⌝ }
     ensures { λ r. ⌜ ComesOf (logOf session (now (line .entry)) (now (out .entry))) (logOf r (now (line .exit)) (now (out .exit))) ⌝ }
 {
@@ -153,7 +163,7 @@ pub fn play_log(fd: i32) -> Session
     ensures { λ r. ⌜ Played r ⌝ }
 {
     let mut line = [0u8; MOST_KEPT];
-    let mut out = [0u8; ROOM];
+    let mut out = [0u8; ANSWER_BYTES];
     let desk = Desk::empty();
     let session = Session {
         desk,

@@ -20,6 +20,7 @@ pub record Row : Type 0 where
   pub condition : Bool
   pub refusal : Verdict
 
+-- A row by its condition and its refusal.
 abbrev pub given : Bool → Verdict → Row
 given b v = record { condition = b; refusal = v }
 
@@ -98,6 +99,7 @@ unfolding choose
 to-first true v next n e = refl
 to-first false v next n e = absurd (n (sym e))
 
+-- Another answer passes the row: its condition does not hold.
 pub to-later : (b : Bool) (v next w : Verdict) → (v ≡ w → ⊥) → choose b v next ≡ w → (b ≡ false) × (next ≡ w)
 unfolding choose
 to-later true v next w n e = absurd (n e)
@@ -143,6 +145,7 @@ unfolding firstOf NoneHolds turn choose
 none-is [] rest g = refl
 none-is (r ∷ rows) rest g = rw (g .0) (none-is rows rest (g .1))
 
+-- The answer is what is left to say only where no condition holds.
 pub only-none : (rows : List Row) (rest : Verdict) → unlike rest rows ≡ true → firstOf rows rest ≡ rest → NoneHolds rows
 unfolding firstOf NoneHolds turn
 only-none [] rest u e = tt
@@ -155,6 +158,7 @@ pub record Exactly (rows : List Row) (rest answer : Verdict) : Type 0 where
   pub refused : (i : ℕ) → i < length rows → (answer ≡ refusalAt rows i) ↔ Given rows i
   pub passes : (answer ≡ rest) ↔ NoneHolds rows
 
+-- So it is for the first of rows that have numbers of their own.
 pub exactly : (rows : List Row) (rest : Verdict) → distinct rows ≡ true → unlike rest rows ≡ true → Exactly rows rest (firstOf rows rest)
 exactly rows rest d u =
     record {
@@ -164,6 +168,7 @@ exactly rows rest d u =
 
 -- An answer that carries a verdict, behind rows that may turn it away: what it carries is the first row whose condition holds, or what the answer says.
 module _ {A : Type 0} (says : A → Verdict) (away : Verdict → A) (carries : (v : Verdict) → says (away v) ≡ v) (a : A) where
+  -- What such an answer carries, behind rows with numbers of their own.
   pub behind : (rows : List Row) → distinct rows ≡ true
       → says (choose (accepted (firstOf rows Accepted)) a (away (firstOf rows Accepted))) ≡ firstOf rows (says a)
   unfolding firstOf turn choose accepted

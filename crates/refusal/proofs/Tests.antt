@@ -1,9 +1,15 @@
--- What joined tests say of their parts. Assumes nothing.
+-- Tests: each holds or fails, and what joined tests say of their parts. Assumes nothing.
 use mathlib.Core.Path.{_≡_, refl, sym, _∙_}
 use mathlib.Core.Bool.{Bool, true, false, true≢false}
+use mathlib.Core.Logic.{_⊎_, inl, inr}
 use Rattle.refusal.specs.Tests.{both, either, choose}
 
--- No test holds and fails.
+-- A test holds or fails,
+pub decide : (t : Bool) → (t ≡ true) ⊎ (t ≡ false)
+decide true = inl refl
+decide false = inr refl
+
+-- and none does both.
 pub opposite : {t : Bool} → t ≡ true → t ≡ false → ⊥
 opposite e f = true≢false (sym e ∙ f)
 
@@ -12,54 +18,66 @@ pub fails-if : (t : Bool) → (t ≡ true → ⊥) → t ≡ false
 fails-if true h = absurd (h refl)
 fails-if false h = refl
 
--- Where both hold, each holds.
+-- Where both hold, the first holds,
 pub both-left : (a b : Bool) → both a b ≡ true → a ≡ true
 unfolding both
 both-left true b e = refl
 both-left false b e = e
 
+-- and so does the second;
 pub both-right : (a b : Bool) → both a b ≡ true → b ≡ true
 unfolding both
 both-right true b e = e
 both-right false b e = cc
 
+-- where each holds, both hold.
 pub both-of : {a b : Bool} → a ≡ true → b ≡ true → both a b ≡ true
 unfolding both
 both-of p q = rw (p, q)
 
--- Where the first fails, both fail; where it holds, the second decides.
+-- Where the first fails, they do not both hold;
 pub both-no : {a : Bool} (b : Bool) → a ≡ false → both a b ≡ false
 unfolding both
 both-no b p = rw p
 
+-- where it holds, the second decides.
 pub both-yes : {a : Bool} (b : Bool) → a ≡ true → both a b ≡ b
 unfolding both
 both-yes b p = rw p
 
--- Where one holds, the first or the second holds.
+-- Where not both hold, one of them fails.
+pub both-false : (a b : Bool) → both a b ≡ false → (a ≡ false) ⊎ (b ≡ false)
+unfolding both
+both-false true b e = inr e
+both-false false b e = inl refl
+
+-- Where the first holds, one of them does;
 pub either-left : {a : Bool} (b : Bool) → a ≡ true → either a b ≡ true
 unfolding either
 either-left b p = rw p
 
+-- where it fails, the second decides.
 pub either-right : {a : Bool} (b : Bool) → a ≡ false → either a b ≡ b
 unfolding either
 either-right b p = rw p
 
--- Where neither holds, each fails; and the other way round.
+-- Where neither holds, each fails,
 pub either-false : (a b : Bool) → either a b ≡ false → (a ≡ false) × (b ≡ false)
 unfolding either
 either-false true b e = absurd (opposite refl e)
 either-false false b e = (refl, e)
 
+-- and the other way round.
 pub either-no : {a b : Bool} → a ≡ false → b ≡ false → either a b ≡ false
 unfolding either
 either-no p q = rw (p, q)
 
--- A choice by a test that is known.
+-- A choice by a test that holds is the first;
 pub choose-yes : {A : Type 0} {t : Bool} (a b : A) → t ≡ true → choose t a b ≡ a
 unfolding choose
 choose-yes a b p = rw p
 
+-- by one that fails, the second.
 pub choose-no : {A : Type 0} {t : Bool} (a b : A) → t ≡ false → choose t a b ≡ b
 unfolding choose
 choose-no a b p = rw p
@@ -69,6 +87,7 @@ pub both-arm : {s t a b : Bool} → s ≡ a → t ≡ b → s ≡ true → t ≡
 unfolding both
 both-arm p q h = rw (← p, h) q
 
+-- Where the first fails, the second is not made.
 pub both-stop : {s a : Bool} (b : Bool) → s ≡ a → s ≡ false → false ≡ both a b
 unfolding both
 both-stop b p h = rw (← p, h)

@@ -1,7 +1,7 @@
 -- Rows of refusals read one after the other: a row that is met, a row that is passed, and rows that were read before. Assumes nothing.
 use mathlib.Core.Path.{_≡_, refl, ap, sym, _∙_}
 use mathlib.Core.Bool.{Bool, true, false, not, true≢false}
-use mathlib.Core.List.{List, [], _∷_}
+use mathlib.Core.List.{List, [], _∷_, _++_}
 use Prim.Native.Nat.{ℕ, _-_, _<_, _≤_}
 use native.Mathlib.Omega.{arith}
 use borrow.Author.Tests.{not-true, not-false, leb-false, eq-eqb, ne-eqb}
@@ -10,12 +10,12 @@ use Rattle.refusal.specs.Tests.{both, either, choose}
 use Rattle.refusal.specs.Refusals.{accepted, turn}
 use Rattle.refusal.specs.declared.Verdict.{Verdict}
 use Rattle.refusal.specs.declared.Verdict.the-variants.{Accepted, SeatAbove, NotOpen, OpenAlready, JobZero, JobElsewhere, NoSuchPin, JournalFull, DeskBroken}
-use Rattle.refusal.proofs.Tests.{both-left, both-right, choose-yes, choose-no}
-use Rattle.refusal.proofs.Rows.{Row, firstOf, NoneHolds}
+use Rattle.refusal.proofs.Tests.{both-left, both-right, either-false, choose-yes, choose-no}
+use Rattle.refusal.proofs.Rows.{Row, firstOf, NoneHolds, none-is}
 use Rattle.feed.specs.Feeds.{mostPins}
 use Rattle.pinmap.specs.Map.{wrongLength, readFrom, readMap}
 use Rattle.seats.specs.Seats.{jobAmong}
-use Rattle.rows.specs.Refusals.{Look, seatAbove, notThere, full, turnedClosing, turnedRemoving}
+use Rattle.rows.specs.Refusals.{Look, seatAbove, notThere, full, turnedNaming, turnedRemoving}
 
 -- A row is met.
 pub hit : {b : Bool} (v w : Verdict) → b ≡ true → v ≡ turn b v w
@@ -29,9 +29,11 @@ miss v e f = rw e f
 
 -- What the test of a verdict says.
 module _ {r : Bool} (v : Verdict) (e : r ≡ accepted v) where
+  -- It was refused,
   pub refused : not r ≡ true → accepted v ≡ false
   refused t = sym e ∙ not-true _ t
 
+  -- or accepted.
   pub went : not r ≡ false → accepted v ≡ true
   went t = sym e ∙ not-false _ t
 
@@ -65,11 +67,15 @@ passed (r ∷ rows) rest {v} n e y = by (r .condition) refl (passed rows rest (b
         absurd (true≢false (sym y ∙ ap accepted g ∙ not-true (accepted (r .refusal)) (both-left _ (refusing rows) n)))
     by false q later g = (q, later g y)
 
+-- Where no condition of some rows and of others after them holds, none of the first rows' does.
+pub none-before : (rows more : List Row) → NoneHolds (rows ++ more) → NoneHolds rows
+unfolding NoneHolds
+none-before [] more n = tt
+none-before (r ∷ rows) more n = (n .0, none-before rows more (n .1))
+
 -- Where none holds, what comes after them decides.
 pub go : (rows : List Row) {x rest : Verdict} → NoneHolds rows → x ≡ rest → x ≡ firstOf rows rest
-unfolding firstOf NoneHolds
-go [] n e = e
-go (r ∷ rows) n e = miss (r .refusal) (n .0) (go rows (n .1) e)
+go rows {x} {rest} n e = e ∙ sym (none-is rows rest n)
 
 -- Rows that end in an accepted verdict, and then others: the same as all of them one after the other.
 pub joined : (rows : List Row) (t rest : Verdict) → refusing rows ≡ true → accepted t ≡ true
@@ -83,9 +89,9 @@ joined (r ∷ rows) t rest n a = by (r .condition) (joined rows t rest (both-rig
     by true later = choose-no rest (r .refusal) (not-true (accepted (r .refusal)) (both-left _ (refusing rows) n))
     by false later = later
 
--- What every call but opening is turned away by first: 28, 1, 2.
-abbrev pub firstRows : Look → List Row
-firstRows l =
+-- Every call naming a seat, but opening: 28, 1, 2.
+abbrev pub namingRows : Look → List Row
+namingRows l =
     record { condition = l .broken; refusal = DeskBroken }
     ∷ record { condition = seatAbove l; refusal = SeatAbove }
     ∷ record { condition = not (l .opened); refusal = NotOpen }
@@ -93,12 +99,7 @@ firstRows l =
 
 -- Moving and removing then by 6.
 abbrev pub thereRows : Look → ℕ → List Row
-thereRows l p =
-    record { condition = l .broken; refusal = DeskBroken }
-    ∷ record { condition = seatAbove l; refusal = SeatAbove }
-    ∷ record { condition = not (l .opened); refusal = NotOpen }
-    ∷ record { condition = notThere l p; refusal = NoSuchPin }
-    ∷ []
+thereRows l p = namingRows l ++ (record { condition = notThere l p; refusal = NoSuchPin } ∷ [])
 
 -- Opening, up to the map, by 28, 1, 3, 4, 5.
 abbrev pub openingRows : Look → ℕ → List Row
@@ -110,30 +111,36 @@ openingRows l job =
     ∷ record { condition = jobAmong job (l .jobs); refusal = JobElsewhere }
     ∷ []
 
-pub first-refusing : (l : Look) → refusing (firstRows l) ≡ true
+-- Each of 28, 1 and 2 refuses,
+pub naming-refusing : (l : Look) → refusing (namingRows l) ≡ true
 unfolding refusing both accepted
-first-refusing l = refl
+naming-refusing l = refl
 
-pub there-refusing : (l : Look) (p : ℕ) → refusing (thereRows l p) ≡ true
+-- 6 too,
+there-refusing : (l : Look) (p : ℕ) → refusing (thereRows l p) ≡ true
 unfolding refusing both accepted
 there-refusing l p = refl
 
+-- and each of 28, 1, 3, 4 and 5.
 pub opening-refusing : (l : Look) (job : ℕ) → refusing (openingRows l job) ≡ true
 unfolding refusing both accepted
 opening-refusing l job = refl
 
--- Where closing was asked first: it is turned away, or none of 28, 1 and 2 applies.
-module _ (l : Look) {v : Verdict} (e : v ≡ turnedClosing l) where
-  pub closing-stops : (rest : Verdict) → accepted v ≡ false → v ≡ firstOf (firstRows l) rest
-  unfolding turnedClosing firstOf accepted
-  closing-stops rest n = stop Accepted refl (firstRows l) rest e n
+-- Where 28, 1 and 2 were asked first: one of them applies, or none does.
+module _ (l : Look) {v : Verdict} (e : v ≡ turnedNaming l) where
+  -- Refused by one of them, a call is so whatever comes after;
+  pub naming-stops : (rest : Verdict) → accepted v ≡ false → v ≡ firstOf (namingRows l) rest
+  unfolding firstOf accepted
+  naming-stops rest n = stop Accepted refl (namingRows l) rest e n
 
-  pub closing-passed : accepted v ≡ true → NoneHolds (firstRows l)
-  unfolding turnedClosing firstOf accepted
-  closing-passed y = passed (firstRows l) Accepted (first-refusing l) e y
+  -- accepted, none of them applies,
+  pub naming-passed : accepted v ≡ true → NoneHolds (namingRows l)
+  unfolding firstOf accepted
+  naming-passed y = passed (namingRows l) Accepted (naming-refusing l) e y
 
-  pub closing-goes : {x rest : Verdict} → accepted v ≡ true → x ≡ rest → x ≡ firstOf (firstRows l) rest
-  closing-goes y f = go (firstRows l) (closing-passed y) f
+  -- and what comes after them decides.
+  pub naming-goes : {x rest : Verdict} → accepted v ≡ true → x ≡ rest → x ≡ firstOf (namingRows l) rest
+  naming-goes y f = go (namingRows l) (naming-passed y) f
 
 -- An empty map is never turned away.
 pub empty-read : (job : ℕ) → Accepted ≡ readMap [] job .verdict
@@ -142,20 +149,17 @@ empty-read job = refl
 
 -- A verdict decides between two outcomes.
 module _ {A : Type 0} {v t : Verdict} (e : v ≡ t) {x : A} where
+  -- Accepted, it is the first;
   pub taken : {a : A} (b : A) → accepted v ≡ true → x ≡ a → x ≡ choose (accepted t) a b
   taken b y f = f ∙ sym (choose-yes _ b (ap accepted (sym e) ∙ y))
 
+  -- refused, the second.
   pub turned : {b : A} (a : A) → accepted v ≡ false → x ≡ b → x ≡ choose (accepted t) a b
   turned a n f = f ∙ sym (choose-no a _ (ap accepted (sym e) ∙ n))
 
-either-none : (a b : Bool) → either a b ≡ false → a ≡ false
-unfolding either
-either-none true b e = e
-either-none false b e = refl
-
 -- Where a pin is there, its number is at most 31.
 pub number-there : (l : Look) (p : ℕ) → notThere l p ≡ false → p < mostPins
-number-there l p e = leb-false mostPins p (either-none _ _ e)
+number-there l p e = leb-false mostPins p (either-false _ _ e .0)
 
 -- Where removing is turned away, the journal having room, so is moving.
 pub there-stops : (l : Look) (p : ℕ) {v : Verdict} (rest : Verdict) → full l ≡ false → v ≡ turnedRemoving l p → accepted v ≡ false
@@ -163,23 +167,28 @@ pub there-stops : (l : Look) (p : ℕ) {v : Verdict} (rest : Verdict) → full l
 unfolding turnedRemoving firstOf turn choose accepted
 there-stops l p rest room e n = stop (turn (full l) JournalFull Accepted) (rw room) (thereRows l p) rest e n
 
--- Where removing is accepted, the journal having room, none of its rows' conditions holds, and the pin is at most 31.
+-- Where removing is accepted, the journal having room:
 module _ (l : Look) (p : ℕ) {v : Verdict} (room : full l ≡ false) (e : v ≡ turnedRemoving l p) (y : accepted v ≡ true) where
+  -- none of 28, 1, 2 and 6 applies,
   pub there-passed : NoneHolds (thereRows l p)
   unfolding turnedRemoving firstOf turn choose accepted
   there-passed = passed (thereRows l p) (turn (full l) JournalFull Accepted) (there-refusing l p) e y
 
+  -- what comes after them decides,
   pub there-goes : {x rest : Verdict} → x ≡ rest → x ≡ firstOf (thereRows l p) rest
   there-goes f = go (thereRows l p) there-passed f
 
+  -- and the pin is at most 31.
   pub there-number : p < mostPins
   unfolding NoneHolds
   there-number = number-there l p (there-passed .1 .1 .1 .0)
 
--- Of the m edits that a seat owns none is taken back where all of them stand, else some are.
+-- Of the m edits that a seat owns,
 module _ {n : ℕ} (m standing : ℕ) (e : n ≡ m) where
+  -- none is taken back where all of them stand;
   pub none-back : n ≤ standing → eqb (m - standing) 0 ≡ true
   none-back h = eq-eqb (m - standing) 0 (omega (arith, e))
 
+  -- else some are.
   pub some-back : standing < n → eqb (m - standing) 0 ≡ false
   some-back h = ne-eqb (m - standing) 0 (λ (z : m - standing ≡ 0). omega (arith, e))

@@ -18,7 +18,7 @@ use Rattle.seats.specs.declared.Seat.{Seat}
 use Rattle.seats.specs.Seats.{closedSeat, noSeat}
 use Rattle.seats.specs.Sound.{soundAll}
 use Rattle.rows.specs.declared.Found.{Found}
-use Rattle.rows.specs.Refusals.{Look, turnedOpening, turnedClosing}
+use Rattle.rows.specs.Refusals.{Look, turnedOpening, turnedNaming}
 
 -- What a call finds on these seats and this journal: whether they are not sound, and the seat that it names, a closed one above 7.
 abbrev pub foundIn : List Seat → List Record → ℕ → ℕ → Found
@@ -45,17 +45,17 @@ unfoldable pub readingIn : Found → List ℕ → ℕ → List ℕ → Reading
 readingIn f jobs job map =
     choose (accepted (turnedOpening (lookAtFound f jobs 0) job [])) (readMap map job) (refusedBy (turnedOpening (lookAtFound f jobs 0) job []))
 
--- Writing: 28, 1 and 2 as for closing; then what writing the drawing's map comes to.
+-- Writing: 28, 1 and 2 as for every call naming a seat; then what writing the drawing's map comes to.
 unfoldable pub writingIn : Found → List ℕ → Writing
 writingIn f buffer =
-    choose (accepted (turnedClosing (lookAtFound f [] 0))) (writeMap (f .seat .pins) (f .seat .job) buffer)
-    (record { verdict = turnedClosing (lookAtFound f [] 0); bytes = 0 })
+    choose (accepted (turnedNaming (lookAtFound f [] 0))) (writeMap (f .seat .pins) (f .seat .job) buffer)
+    (record { verdict = turnedNaming (lookAtFound f [] 0); bytes = 0 })
 
 -- The lent buffer after writing: as it was where the call is turned away by 28, 1 or 2.
 unfoldable pub bufferIn : Found → List ℕ → List ℕ
-bufferIn f buffer = choose (accepted (turnedClosing (lookAtFound f [] 0))) (bufferAfter (f .seat .pins) (f .seat .job) buffer) buffer
+bufferIn f buffer = choose (accepted (turnedNaming (lookAtFound f [] 0))) (bufferAfter (f .seat .pins) (f .seat .job) buffer) buffer
 
--- Wiring a seat: 28, 1 and 2 as for closing; then the wiring of its drawing's feed, with room for so many legs.
+-- Wiring a seat: 28, 1 and 2 as for every call naming a seat; then the wiring of its drawing's feed, with room for so many legs.
 unfoldable pub laidIn : Found → ℕ → Laid
 laidIn f room =
-    choose (accepted (turnedClosing (lookAtFound f [] 0))) (wiringOf (feedOf (f .seat .pins)) room) (turnedAway (turnedClosing (lookAtFound f [] 0)))
+    choose (accepted (turnedNaming (lookAtFound f [] 0))) (wiringOf (feedOf (f .seat .pins)) room) (turnedAway (turnedNaming (lookAtFound f [] 0)))

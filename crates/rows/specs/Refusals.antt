@@ -58,12 +58,16 @@ turnedOpening l job map =
     (turn (jobAmong job (l .jobs)) JobElsewhere
     (readMap map job .verdict)))))
 
--- Closing: 28, 1, 2.
-unfoldable pub turnedClosing : Look → Verdict
-turnedClosing l =
+-- Every call naming a seat, but opening: 28, 1, 2.
+abbrev pub turnedNaming : Look → Verdict
+turnedNaming l =
     turn (l .broken) DeskBroken
     (turn (seatAbove l) SeatAbove
     (turn (not (l .opened)) NotOpen Accepted))
+
+-- Closing: 28, 1, 2, and no more.
+unfoldable pub turnedClosing : Look → Verdict
+turnedClosing l = turnedNaming l
 
 -- Placing: 28, 1, 2, 6, 7, 8, 9, 12.
 unfoldable pub turnedPlacing : Look → ℕ → Place → Verdict

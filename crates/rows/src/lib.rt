@@ -17,7 +17,7 @@ ghost use lib.ListN.{length, take};
 ghost use Rattle.drawing.specs.Pins.{lawful};
 ghost use Rattle.journal.specs.Journal.{mostRecords, own};
 ghost use Rattle.seats.specs.Seats.{jobsIn};
-ghost use Rattle.rows.specs.Refusals.{turnedOpening, turnedClosing, turnedPlacing, turnedMoving, turnedRemoving, turnedUndoing, turnedRedoing};
+ghost use Rattle.rows.specs.Refusals.{turnedOpening, turnedNaming, turnedPlacing, turnedMoving, turnedRemoving, turnedUndoing, turnedRedoing};
 ghost use Rattle.rows.specs.Found.{foundIn, lookAtFound, readingIn, writingIn, bufferIn, laidIn};
 
 // What a call finds: whether the desk is broken, the number of the seat that it names, and that seat, a closed one where none has that number.
@@ -48,9 +48,9 @@ pub fn find(seats: [Seat; SEATS], journal: [Record; RECORDS], used: usize, numbe
     }
 }
 
-// Closing, and what all calls but opening are turned away by first: 28, 1, 2.
-pub fn turned_closing(found: Found) -> Verdict
-    ensures { λ r. ⌜ r ≡ turnedClosing (lookAtFound found [] 0) ⌝ }
+// Every call naming a seat, but opening: 28, 1, 2. Closing no more than these.
+pub fn turned_naming(found: Found) -> Verdict
+    ensures { λ r. ⌜ r ≡ turnedNaming (lookAtFound found [] 0) ⌝ }
 {
     if found.broken {
         return Verdict::DeskBroken;
@@ -70,7 +70,7 @@ pub fn turned_closing(found: Found) -> Verdict
 pub fn turned_placing(found: Found, pin: usize, at: Place) -> Verdict
     ensures { λ r. ⌜ r ≡ turnedPlacing (lookAtFound found [] 0) pin at ⌝ }
 {
-    let verdict = turned_closing(found);
+    let verdict = turned_naming(found);
     if !refusal::is_accepted(verdict) {
         return verdict;
     }
@@ -97,7 +97,7 @@ pub fn turned_placing(found: Found, pin: usize, at: Place) -> Verdict
 pub fn turned_removing(found: Found, pin: usize) -> Verdict
     ensures { λ r. ⌜ r ≡ turnedRemoving (lookAtFound found [] 0) pin ⌝ }
 {
-    let verdict = turned_closing(found);
+    let verdict = turned_naming(found);
     if !refusal::is_accepted(verdict) {
         return verdict;
     }
@@ -142,7 +142,7 @@ pub fn turned_moving(found: Found, pin: usize, to: Place) -> Verdict
 pub fn turned_undoing(found: Found) -> Verdict
     ensures { λ r. ⌜ r ≡ turnedUndoing (lookAtFound found [] 0) ⌝ }
 {
-    let verdict = turned_closing(found);
+    let verdict = turned_naming(found);
     if !refusal::is_accepted(verdict) {
         return verdict;
     }
@@ -159,7 +159,7 @@ pub fn turned_redoing(found: Found, journal: [Record; RECORDS], used: usize) -> 
     requires { ⌜ (found .broken ≡ false → used ≤ mostRecords) ⌝ }
     ensures { λ r. ⌜ r ≡ turnedRedoing (lookAtFound found [] (length (own (found .number) (take used journal)) - found .seat .standing)) ⌝ }
 {
-    let verdict = turned_closing(found);
+    let verdict = turned_naming(found);
     if !refusal::is_accepted(verdict) {
         return verdict;
     }
@@ -215,7 +215,7 @@ pub fn map_written(found: Found, buffer: &mut [u8]) -> Writing
     ensures { λ r. ⌜ r ≡ writingIn found (now (buffer .entry)) ⌝ }
     ensures { λ _. ⌜ now (buffer .exit) ≡ bufferIn found (now (buffer .entry)) ⌝ }
 {
-    let verdict = turned_closing(found);
+    let verdict = turned_naming(found);
     if refusal::is_accepted(verdict) {
         let seat = found.seat;
         let pins = seat.pins;
@@ -230,7 +230,7 @@ pub fn feed_wired(found: Found, room: usize) -> Laid
     requires { ⌜ (found .broken ≡ false → found .seat .opened ≡ true → lawful (found .seat .pins) ≡ true) ⌝ }
     ensures { λ r. ⌜ r ≡ laidIn found room ⌝ }
 {
-    let verdict = turned_closing(found);
+    let verdict = turned_naming(found);
     if refusal::is_accepted(verdict) {
         let seat = found.seat;
         let pins = seat.pins;

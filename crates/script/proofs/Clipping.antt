@@ -1,30 +1,18 @@
 -- A line kept only as far as the room goes is read as the whole line. Assumes nothing.
 use mathlib.Core.Path.{_≡_, refl, sym, _∙_, ap}
-use mathlib.Core.Bool.{Bool, true, false}
 use mathlib.Core.List.{List, [], _++_}
 use mathlib.Core.Logic.{_⊎_, inl, inr}
 use Prim.Native.Nat.{ℕ, _+_, _-_, _≤_, _<_, min}
 use native.Mathlib.Omega.{arith}
-use lib.Dec.{eqb}
-use lib.ListN.{length, take, drop, getD, length-append, length-take}
+use lib.ListN.{length, take, drop, length-append, length-take}
 use lib.Seq.{take-all, length-take-le, take-at, take-append-add, sets, sets-eq}
-use Rattle.refusal.specs.Tests.{choose}
 use Rattle.script.specs.Words.{endOf}
-use Rattle.script.specs.Orders.{mostKept, orderOf, mapGiven, xsGiven, ysGiven}
-use Rattle.script.proofs.Steps.{order}
-use Rattle.script.proofs.Asking.{long-order, long-map, long-across, long-up}
+use Rattle.script.specs.Orders.{mostLine, mostKept, orderOf, mapGiven, xsGiven, ysGiven}
+use Rattle.grid.proofs.Flat.{order}
+use Rattle.script.proofs.Asking.{end-from, long-order, long-map, long-across, long-up}
 
--- A line ends at most one byte before its last.
-end-from : (l : List ℕ) → length l - 1 ≤ endOf l
-unfolding endOf choose
-end-from l = by (eqb (getD l (length l - 1) 0) 13)
-  where
-    by : (t : Bool) → length l - 1 ≤ choose t (length l - 1) (length l)
-    by true = omega arith
-    by false = omega arith
-
--- Whatever long lines share, a line and what is kept of it share.
-clipped : {A : Type 0} (f : List ℕ → A) (z : A) → ((l : List ℕ) → 16384 < endOf l → z ≡ f l) → (l : List ℕ) → f (take mostKept l) ≡ f l
+-- What is the same for all long lines is the same for a line and for what is kept of it:
+clipped : {A : Type 0} (f : List ℕ → A) (z : A) → ((l : List ℕ) → mostLine < endOf l → z ≡ f l) → (l : List ℕ) → f (take mostKept l) ≡ f l
 clipped f z same l = by (order (length l) mostKept)
   where
     by : (length l ≤ mostKept) ⊎ (mostKept < length l) → f (take mostKept l) ≡ f l
@@ -33,15 +21,19 @@ clipped f z same l = by (order (length l) mostKept)
         sym (same (take mostKept l) (omega (arith, end-from (take mostKept l), length-take-le mostKept l (omega arith))))
         ∙ same l (omega (arith, end-from l))
 
+-- what it asks for,
 pub clipped-order : (l : List ℕ) → orderOf (take mostKept l) ≡ orderOf l
 clipped-order l = clipped orderOf _ (λ l h. long-order l refl h) l
 
+-- the bytes of its map,
 pub clipped-map : (l : List ℕ) → mapGiven (take mostKept l) ≡ mapGiven l
 clipped-map l = clipped mapGiven [] (λ l h. long-map l refl h) l
 
+-- its x
 pub clipped-across : (l : List ℕ) → xsGiven (take mostKept l) ≡ xsGiven l
 clipped-across l = clipped xsGiven [] (λ l h. long-across l refl h) l
 
+-- and its y.
 pub clipped-up : (l : List ℕ) → ysGiven (take mostKept l) ≡ ysGiven l
 clipped-up l = clipped ysGiven [] (λ l h. long-up l refl h) l
 

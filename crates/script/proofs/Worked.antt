@@ -9,7 +9,7 @@ use Rattle.script.specs.Text.{text, same}
 use Rattle.script.specs.Words.{endOf, beforeFirst, pieces, nonEmpty, wordsOf}
 use Rattle.script.specs.Numbers.{between, allDigits, valueFrom, isNumber, hasMinus, isCoordinate, signed, allCoordinates, listed, isRow, isList, isHex, hexValue, allPairs, bytesOf, isMap}
 use Rattle.script.specs.Orders.{only, seatCall, pairCall, isOpenCall, isBareCall, openCall, bareCall, lentCall, isPlacing, placeCall, callOf, isSkipped, asked, isLong, orderOf}
-use Rattle.script.specs.Answers.{shown, integer, placeText, hexDigit, hex, carriedText, toldLine, verdictLine, hexPart, writtenLine, wiredLine, jobLine, runLine, legLine, closedLine, drawingLine, pinLine, notACallLine}
+use Rattle.script.specs.Answers.{digits, integer, placeText, hexDigit, hex, carriedText, toldLine, verdictLine, hexPart, writtenLine, wiredLine, jobLine, runLine, legLine, closedLine, drawingLine, pinLine, notACallLine}
 use Rattle.script.specs.declared.Order.{Order}
 use Rattle.refusal.specs.declared.Verdict.{Verdict}
 
@@ -18,6 +18,7 @@ unfoldable pub orders : List String → List Order
 orders [] = []
 orders (line ∷ rest) = orderOf (text line) ∷ orders rest
 
+-- One line of each kind of call, numbers and words spaced and written in several ways.
 pub each-call :
     orders
     ("open 00 0007 -" ∷ "open 1 9 0009fF" ∷ "close 7" ∷ "  place   0 0 -0 007  " ∷ "move 3 31 -5 12" ∷ "remove 0 4294967295"
@@ -42,7 +43,11 @@ each-call = refl
 -- What is no call: signs where none may stand, numbers out of range, words missing or over, odd hex digits, lists with a gap.
 pub no-calls :
     orders
-    ("place 0 1 +5 0" ∷ "place 0 1 - 0" ∷ "place 0 1 --5 0" ∷ "place -0 1 5 0" ∷ "place 0 2 99999999999999999999999999999999 0" ∷ "place 0 2 2147483648 0" ∷ "place 0 2 0 -2147483649" ∷ "place 4294967296 2 0 0" ∷ "open 2 65536 -" ∷ "undo 0 # x" ∷ "undo" ∷ "Undo 0" ∷ "\t" ∷ "place\t0 3 0 1" ∷ "open 1 9 0009Ff0" ∷ "open 1 9 0g" ∷ "open 1 9 --" ∷ "write 2 1025" ∷ "wire 1 65" ∷ "bare 64 1,,2 1,2,3" ∷ "bare 64 1, 2" ∷ "bare 64 , ," ∷ "bare 64 -,1 1,2" ∷ "bare 65 - -" ∷ [])
+    ("place 0 1 +5 0" ∷ "place 0 1 - 0" ∷ "place 0 1 --5 0" ∷ "place -0 1 5 0"
+    ∷ "place 0 2 99999999999999999999999999999999 0" ∷ "place 0 2 2147483648 0" ∷ "place 0 2 0 -2147483649"
+    ∷ "place 4294967296 2 0 0" ∷ "open 2 65536 -" ∷ "undo 0 # x" ∷ "undo" ∷ "Undo 0" ∷ "\t" ∷ "place\t0 3 0 1"
+    ∷ "open 1 9 0009Ff0" ∷ "open 1 9 0g" ∷ "open 1 9 --" ∷ "write 2 1025" ∷ "wire 1 65" ∷ "bare 64 1,,2 1,2,3"
+    ∷ "bare 64 1, 2" ∷ "bare 64 , ," ∷ "bare 64 -,1 1,2" ∷ "bare 65 - -" ∷ [])
     ≡ replicate 24 Order.NotACall
 unfolding orders both either choose same endOf beforeFirst pieces nonEmpty wordsOf between allDigits valueFrom isNumber hasMinus isCoordinate signed allCoordinates listed isRow isList isHex hexValue allPairs bytesOf isMap only seatCall pairCall isOpenCall isBareCall openCall bareCall lentCall isPlacing placeCall callOf isSkipped asked isLong orderOf
 no-calls = refl
@@ -52,7 +57,7 @@ pub skipped :
     orders
     ("" ∷ "   " ∷ "\r" ∷ "# undo 0" ∷ "  #undo 0" ∷ [])
     ≡ replicate 5 Order.Skip
-unfolding orders both either choose same endOf beforeFirst pieces nonEmpty wordsOf between allDigits valueFrom isNumber hasMinus isCoordinate signed allCoordinates listed isRow isList isHex hexValue allPairs bytesOf isMap only seatCall pairCall isOpenCall isBareCall openCall bareCall lentCall isPlacing placeCall callOf isSkipped asked isLong orderOf
+unfolding orders either choose endOf beforeFirst pieces nonEmpty wordsOf isSkipped asked isLong orderOf
 skipped = refl
 
 -- The ends of the ranges, and leading zeros.
@@ -63,16 +68,17 @@ pub edges :
     ∷ Order.Place 0 2 (record { x = negsuc 2147483647; y = pos 2147483647 })
     ∷ Order.Place 4294967295 2 (record { x = pos 0; y = pos 0 })
     ∷ []
-unfolding orders both either choose same endOf beforeFirst pieces nonEmpty wordsOf between allDigits valueFrom isNumber hasMinus isCoordinate signed allCoordinates listed isRow isList isHex hexValue allPairs bytesOf isMap only seatCall pairCall isOpenCall isBareCall openCall bareCall lentCall isPlacing placeCall callOf isSkipped asked isLong orderOf
+unfolding orders both either choose same endOf beforeFirst pieces nonEmpty wordsOf between allDigits valueFrom isNumber hasMinus isCoordinate signed only isPlacing placeCall callOf isSkipped asked isLong orderOf
 edges = refl
 
--- The longest line that is a call, and one byte more.
+-- A call on a line of 16,384 bytes,
 pub longest : orderOf (text "undo 0" ++ replicate 16378 32) ≡ Order.Undo 0
-unfolding orders both either choose same endOf beforeFirst pieces nonEmpty wordsOf between allDigits valueFrom isNumber hasMinus isCoordinate signed allCoordinates listed isRow isList isHex hexValue allPairs bytesOf isMap only seatCall pairCall isOpenCall isBareCall openCall bareCall lentCall isPlacing placeCall callOf isSkipped asked isLong orderOf
+unfolding both either choose same endOf beforeFirst pieces nonEmpty wordsOf between allDigits valueFrom isNumber only seatCall callOf isSkipped asked isLong orderOf
 longest = refl
 
+-- and one byte more, which is not a call.
 pub too-long : orderOf (text "undo 0" ++ replicate 16379 32) ≡ Order.NotACall
-unfolding orders both either choose same endOf beforeFirst pieces nonEmpty wordsOf between allDigits valueFrom isNumber hasMinus isCoordinate signed allCoordinates listed isRow isList isHex hexValue allPairs bytesOf isMap only seatCall pairCall isOpenCall isBareCall openCall bareCall lentCall isPlacing placeCall callOf isSkipped asked isLong orderOf
+unfolding choose endOf isLong orderOf
 too-long = refl
 
 -- Answers of each kind.
@@ -83,5 +89,5 @@ pub printed :
     ++ drawingLine 65535 32 0 256 ++ pinLine 31 (record { x = pos 10; y = negsuc 0 })
     ≡ text
     "line 5: not a call\n0\nrefused 13\nrefused 14 record 2\n0 0\n0 12 0009ffee\n0 length 80000 runs 1 legs 2 weighed 4\njob 7 length 8 runs 2 weighed 5\n0 31 lower\nleg -20000 0 2147483647 -2147483648\nclosed\njob 65535 pins 32 standing 0 taken 256\npin 31 10 -1\n"
-unfolding choose shown integer placeText hexDigit hex carriedText toldLine hexPart writtenLine wiredLine jobLine runLine legLine drawingLine pinLine notACallLine
+unfolding choose digits integer placeText hexDigit hex carriedText toldLine hexPart writtenLine wiredLine jobLine runLine legLine drawingLine pinLine notACallLine
 printed = refl

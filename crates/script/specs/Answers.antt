@@ -17,13 +17,13 @@ use Rattle.script.specs.Text.{text}
 use Rattle.script.specs.Orders.{mostRoom}
 
 -- The decimal digits of a number of at most so many digits.
-unfoldable pub shown : ℕ → ℕ → List ℕ
-shown zero n = []
-shown (suc k) n = choose (ltb n 10) ((48 + n) ∷ []) (shown k (n / 10) ++ ((48 + n % 10) ∷ []))
+unfoldable pub digits : ℕ → ℕ → List ℕ
+digits zero n = []
+digits (suc k) n = choose (ltb n 10) ((48 + n) ∷ []) (digits k (n / 10) ++ ((48 + n % 10) ∷ []))
 
 -- The decimal digits of a number of 64 bits: at most twenty.
 abbrev pub decimal : ℕ → List ℕ
-decimal n = shown 20 n
+decimal n = digits 20 n
 
 -- A number with its sign.
 unfoldable pub integer : ℤ → List ℕ
@@ -67,6 +67,15 @@ hexPart (b ∷ rest) = text " " ++ hex (b ∷ rest)
 -- An accepted writing: `0 BYTES HEX`, HEX the lent buffer (a call lends at most 1,024 bytes, and no more are printed); with room 0 the line ends after BYTES.
 unfoldable pub writtenLine : ℕ → List ℕ → List ℕ
 writtenLine bytes buffer = field "0 " bytes ++ hexPart (take mostRoom buffer) ++ text "\n"
+
+-- A line of four labels, each with a number after it.
+abbrev pub fieldsLine : List ℕ → ℕ → List ℕ → ℕ → List ℕ → ℕ → List ℕ → ℕ → List ℕ
+fieldsLine label1 number1 label2 number2 label3 number3 label4 number4 =
+    (label1 ++ decimal number1)
+    ++ (label2 ++ decimal number2)
+    ++ (label3 ++ decimal number3)
+    ++ (label4 ++ decimal number4)
+    ++ text "\n"
 
 -- An accepted wiring: `0 length L runs R legs G weighed W`.
 unfoldable pub wiredLine : ℕ → ℕ → ℕ → ℕ → List ℕ

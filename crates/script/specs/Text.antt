@@ -26,5 +26,5 @@ abbrev pub over : {A : Type 0} → List A → List A → List A
 over new old = sets old 0 new
 
 -- An answer has room for so many bytes.
-abbrev pub room : ℕ
-room = 8192
+abbrev pub answerBytes : ℕ
+answerBytes = 8192

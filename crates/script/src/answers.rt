@@ -11,16 +11,16 @@ ghost use Prim.Native.Nat.{_+_, _*_, _≤_, _<_};
 ghost use lib.IntN.{natAbs};
 ghost use lib.ListN.{length, take};
 ghost use lib.Seq.{sets};
-ghost use Rattle.script.specs.Text.{text, over, room};
+ghost use Rattle.script.specs.Text.{over, answerBytes};
 ghost use Rattle.script.specs.Orders.{mostRoom};
-ghost use Rattle.script.specs.Answers.{decimal, integer, placeText, hexDigit, hex, hexPart, carriedText, toldLine, verdictLine, writtenLine, wiredLine, jobLine, runLine, legLine, closedLine, drawingLine, pinLine, notACallLine};
+ghost use Rattle.script.specs.Answers.{decimal, integer, fieldsLine, placeText, hexDigit, hex, hexPart, carriedText, toldLine, verdictLine, writtenLine, wiredLine, jobLine, runLine, legLine, closedLine, drawingLine, pinLine, notACallLine};
 
 // An answer has room for so many bytes.
-pub const ROOM: usize = 8192;
+pub const ANSWER_BYTES: usize = 8192;
 
 // Puts bytes at a position, and answers the position after them.
-fn put(out: &mut [u8; ROOM], at: usize, bytes: &[u8]) -> usize
-    requires { ⌜ at + length (now bytes) ≤ room ⌝ }
+fn put(out: &mut [u8; ANSWER_BYTES], at: usize, bytes: &[u8]) -> usize
+    requires { ⌜ at + length (now bytes) ≤ answerBytes ⌝ }
     ensures { λ r. ⌜ r ≡ at + length (now (bytes .entry)) ⌝ }
     ensures { λ _. ⌜ now (out .exit) ≡ sets (now (out .entry)) at (now (bytes .entry)) ⌝ }
 {
@@ -33,8 +33,8 @@ fn put(out: &mut [u8; ROOM], at: usize, bytes: &[u8]) -> usize
 }
 
 // Puts the decimal digits of a number at a position.
-fn put_decimal(out: &mut [u8; ROOM], at: usize, n: usize) -> usize
-    requires { ⌜ at + 20 ≤ room ⌝ }
+fn put_decimal(out: &mut [u8; ANSWER_BYTES], at: usize, n: usize) -> usize
+    requires { ⌜ at + 20 ≤ answerBytes ⌝ }
     ensures { λ r. ⌜ (r ≡ at + length (decimal n)) × (r ≤ at + 20) ⌝ }
     ensures { λ _. ⌜ now (out .exit) ≡ sets (now (out .entry)) at (decimal n) ⌝ }
 {
@@ -48,8 +48,8 @@ fn put_decimal(out: &mut [u8; ROOM], at: usize, n: usize) -> usize
 }
 
 // Puts a label and a number after it.
-fn put_field(out: &mut [u8; ROOM], at: usize, label: &[u8], n: usize) -> usize
-    requires { ⌜ at + length (now label) + 20 ≤ room ⌝ }
+fn put_field(out: &mut [u8; ANSWER_BYTES], at: usize, label: &[u8], n: usize) -> usize
+    requires { ⌜ at + length (now label) + 20 ≤ answerBytes ⌝ }
     ensures { λ r. ⌜ (r ≡ at + length (now (label .entry) ++ decimal n)) × (r ≤ at + length (now (label .entry)) + 20) ⌝ }
     ensures { λ _. ⌜ now (out .exit) ≡ sets (now (out .entry)) at (now (label .entry) ++ decimal n) ⌝ }
 {
@@ -68,8 +68,8 @@ fn magnitude(z: i32) -> usize
 }
 
 // Puts a label and a number with its sign after it.
-fn put_integer(out: &mut [u8; ROOM], at: usize, label: &[u8], z: i32) -> usize
-    requires { ⌜ at + length (now label) + 21 ≤ room ⌝ }
+fn put_integer(out: &mut [u8; ANSWER_BYTES], at: usize, label: &[u8], z: i32) -> usize
+    requires { ⌜ at + length (now label) + 21 ≤ answerBytes ⌝ }
     ensures { λ r. ⌜ (r ≡ at + length (now (label .entry) ++ integer z)) × (r ≤ at + length (now (label .entry)) + 21) ⌝ }
     ensures { λ _. ⌜ now (out .exit) ≡ sets (now (out .entry)) at (now (label .entry) ++ integer z) ⌝ }
 {
@@ -92,8 +92,8 @@ fn hex_digit(d: u8) -> u8
 }
 
 // Puts two hex digits for each byte at a position.
-fn put_hex(out: &mut [u8; ROOM], at: usize, bytes: &[u8]) -> usize
-    requires { ⌜ at + length (now bytes) * 2 ≤ room ⌝ }
+fn put_hex(out: &mut [u8; ANSWER_BYTES], at: usize, bytes: &[u8]) -> usize
+    requires { ⌜ at + length (now bytes) * 2 ≤ answerBytes ⌝ }
     ensures { λ r. ⌜ (r ≡ at + length (hex (now (bytes .entry)))) × (r ≡ at + length (now (bytes .entry)) * 2) ⌝ }
     ensures { λ _. ⌜ now (out .exit) ≡ sets (now (out .entry)) at (hex (now (bytes .entry))) ⌝ }
 {
@@ -108,8 +108,8 @@ fn put_hex(out: &mut [u8; ROOM], at: usize, bytes: &[u8]) -> usize
 }
 
 // Puts a label, x, a space and y.
-fn put_place(out: &mut [u8; ROOM], at: usize, label: &[u8], place: Place) -> usize
-    requires { ⌜ at + length (now label) + 43 ≤ room ⌝ }
+fn put_place(out: &mut [u8; ANSWER_BYTES], at: usize, label: &[u8], place: Place) -> usize
+    requires { ⌜ at + length (now label) + 43 ≤ answerBytes ⌝ }
     ensures { λ r. ⌜ (r ≡ at + length (placeText (now (label .entry)) place)) × (r ≤ at + length (now (label .entry)) + 43) ⌝ }
     ensures { λ _. ⌜ now (out .exit) ≡ sets (now (out .entry)) at (placeText (now (label .entry)) place) ⌝ }
 {
@@ -119,29 +119,29 @@ fn put_place(out: &mut [u8; ROOM], at: usize, label: &[u8], place: Place) -> usi
 
 // Prints four labels with a number after each, and ends the line.
 fn print_fields(
-    a: &[u8],
-    k: usize,
-    b: &[u8],
-    l: usize,
-    c: &[u8],
-    m: usize,
-    d: &[u8],
-    n: usize,
-    out: &mut [u8; ROOM],
+    label1: &[u8],
+    number1: usize,
+    label2: &[u8],
+    number2: usize,
+    label3: &[u8],
+    number3: usize,
+    label4: &[u8],
+    number4: usize,
+    out: &mut [u8; ANSWER_BYTES],
 ) -> usize
-    requires { ⌜ length (now a) + length (now b) + length (now c) + length (now d) ≤ 100 ⌝ }
-    ensures { λ r. ⌜ (r ≡ length ((now (a .entry) ++ decimal k) ++ (now (b .entry) ++ decimal l) ++ (now (c .entry) ++ decimal m) ++ (now (d .entry) ++ decimal n) ++ text "\n")) × (r ≤ 200) ⌝ }
-    ensures { λ _. ⌜ now (out .exit) ≡ over ((now (a .entry) ++ decimal k) ++ (now (b .entry) ++ decimal l) ++ (now (c .entry) ++ decimal m) ++ (now (d .entry) ++ decimal n) ++ text "\n") (now (out .entry)) ⌝ }
+    requires { ⌜ length (now label1) + length (now label2) + length (now label3) + length (now label4) ≤ 100 ⌝ }
+    ensures { λ r. ⌜ (r ≡ length (fieldsLine (now (label1 .entry)) number1 (now (label2 .entry)) number2 (now (label3 .entry)) number3 (now (label4 .entry)) number4)) × (r ≤ 200) ⌝ }
+    ensures { λ _. ⌜ now (out .exit) ≡ over (fieldsLine (now (label1 .entry)) number1 (now (label2 .entry)) number2 (now (label3 .entry)) number3 (now (label4 .entry)) number4) (now (out .entry)) ⌝ }
 {
-    let one = put_field(out, 0, a, k);
-    let two = put_field(out, one, b, l);
-    let three = put_field(out, two, c, m);
-    let four = put_field(out, three, d, n);
+    let one = put_field(out, 0, label1, number1);
+    let two = put_field(out, one, label2, number2);
+    let three = put_field(out, two, label3, number3);
+    let four = put_field(out, three, label4, number4);
     put(out, four, b"\n")
 }
 
 // What is not a call: its line, counted from 1.
-pub fn print_not_a_call(line: usize, out: &mut [u8; ROOM]) -> usize
+pub fn print_not_a_call(line: usize, out: &mut [u8; ANSWER_BYTES]) -> usize
     ensures { λ r. ⌜ (r ≡ length (notACallLine line)) × (r ≤ 200) ⌝ }
     ensures { λ _. ⌜ now (out .exit) ≡ over (notACallLine line) (now (out .entry)) ⌝ }
 {
@@ -155,7 +155,7 @@ pub fn print_wired(
     runs: usize,
     legs: usize,
     weighed: usize,
-    out: &mut [u8; ROOM],
+    out: &mut [u8; ANSWER_BYTES],
 ) -> usize
     ensures { λ r. ⌜ (r ≡ lib.ListN.length (wiredLine length runs legs weighed)) × (r ≤ 200) ⌝ }
     ensures { λ _. ⌜ now (out .exit) ≡ over (wiredLine length runs legs weighed) (now (out .entry)) ⌝ }
@@ -179,7 +179,7 @@ pub fn print_job(
     length: usize,
     runs: usize,
     weighed: usize,
-    out: &mut [u8; ROOM],
+    out: &mut [u8; ANSWER_BYTES],
 ) -> usize
     ensures { λ r. ⌜ (r ≡ lib.ListN.length (jobLine job length runs weighed)) × (r ≤ 200) ⌝ }
     ensures { λ _. ⌜ now (out .exit) ≡ over (jobLine job length runs weighed) (now (out .entry)) ⌝ }
@@ -198,8 +198,14 @@ pub fn print_job(
 }
 
 // A run, from a position on: its ends, and the word of its shape.
-pub fn print_run(near: usize, far: usize, shape: &[u8], out: &mut [u8; ROOM], at: usize) -> usize
-    requires { ⌜ (length (now shape) ≤ 8) × (at + 51 ≤ room) ⌝ }
+pub fn print_run(
+    near: usize,
+    far: usize,
+    shape: &[u8],
+    out: &mut [u8; ANSWER_BYTES],
+    at: usize,
+) -> usize
+    requires { ⌜ (length (now shape) ≤ 8) × (at + 51 ≤ answerBytes) ⌝ }
     ensures { λ r. ⌜ (r ≡ at + length (runLine near far (now (shape .entry)))) × (r ≤ at + 51) ⌝ }
     ensures { λ _. ⌜ now (out .exit) ≡ sets (now (out .entry)) at (runLine near far (now (shape .entry))) ⌝ }
 {
@@ -211,8 +217,8 @@ pub fn print_run(near: usize, far: usize, shape: &[u8], out: &mut [u8; ROOM], at
 }
 
 // A leg, from a position on: its two ends.
-pub fn print_leg(a: Place, b: Place, out: &mut [u8; ROOM], at: usize) -> usize
-    requires { ⌜ at + 92 ≤ room ⌝ }
+pub fn print_leg(a: Place, b: Place, out: &mut [u8; ANSWER_BYTES], at: usize) -> usize
+    requires { ⌜ at + 92 ≤ answerBytes ⌝ }
     ensures { λ r. ⌜ (r ≡ at + length (legLine a b)) × (r ≤ at + 92) ⌝ }
     ensures { λ _. ⌜ now (out .exit) ≡ sets (now (out .entry)) at (legLine a b) ⌝ }
 {
@@ -222,7 +228,7 @@ pub fn print_leg(a: Place, b: Place, out: &mut [u8; ROOM], at: usize) -> usize
 }
 
 // A seat that is not open.
-pub fn print_closed(out: &mut [u8; ROOM]) -> usize
+pub fn print_closed(out: &mut [u8; ANSWER_BYTES]) -> usize
     ensures { λ r. ⌜ (r ≡ length closedLine) × (r ≤ 200) ⌝ }
     ensures { λ _. ⌜ now (out .exit) ≡ over closedLine (now (out .entry)) ⌝ }
 {
@@ -235,7 +241,7 @@ pub fn print_drawing(
     pins: usize,
     standing: usize,
     taken: usize,
-    out: &mut [u8; ROOM],
+    out: &mut [u8; ANSWER_BYTES],
 ) -> usize
     ensures { λ r. ⌜ (r ≡ length (drawingLine job pins standing taken)) × (r ≤ 200) ⌝ }
     ensures { λ _. ⌜ now (out .exit) ≡ over (drawingLine job pins standing taken) (now (out .entry)) ⌝ }
@@ -254,8 +260,8 @@ pub fn print_drawing(
 }
 
 // A pin of a drawing and its place, from a position on.
-pub fn print_pin(pin: usize, place: Place, out: &mut [u8; ROOM], at: usize) -> usize
-    requires { ⌜ at + 69 ≤ room ⌝ }
+pub fn print_pin(pin: usize, place: Place, out: &mut [u8; ANSWER_BYTES], at: usize) -> usize
+    requires { ⌜ at + 69 ≤ answerBytes ⌝ }
     ensures { λ r. ⌜ (r ≡ at + length (pinLine pin place)) × (r ≤ at + 69) ⌝ }
     ensures { λ _. ⌜ now (out .exit) ≡ sets (now (out .entry)) at (pinLine pin place) ⌝ }
 {
@@ -265,8 +271,8 @@ pub fn print_pin(pin: usize, place: Place, out: &mut [u8; ROOM], at: usize) -> u
 }
 
 // What a refusal carries.
-fn put_carried(out: &mut [u8; ROOM], at: usize, carried: Carried) -> usize
-    requires { ⌜ at + 30 ≤ room ⌝ }
+fn put_carried(out: &mut [u8; ANSWER_BYTES], at: usize, carried: Carried) -> usize
+    requires { ⌜ at + 30 ≤ answerBytes ⌝ }
     ensures { λ r. ⌜ (r ≡ at + length (carriedText carried)) × (r ≤ at + 30) ⌝ }
     ensures { λ _. ⌜ now (out .exit) ≡ sets (now (out .entry)) at (carriedText carried) ⌝ }
 {
@@ -277,7 +283,7 @@ fn put_carried(out: &mut [u8; ROOM], at: usize, carried: Carried) -> usize
 }
 
 // What a host is told of a call: accepted, or the number of its refusal and what it carries.
-fn print_told(told: Told, out: &mut [u8; ROOM]) -> usize
+fn print_told(told: Told, out: &mut [u8; ANSWER_BYTES]) -> usize
     ensures { λ r. ⌜ (r ≡ length (toldLine told)) × (r ≤ 200) ⌝ }
     ensures { λ _. ⌜ now (out .exit) ≡ over (toldLine told) (now (out .entry)) ⌝ }
 {
@@ -291,7 +297,7 @@ fn print_told(told: Told, out: &mut [u8; ROOM]) -> usize
 }
 
 // The verdict of a call.
-pub fn print_verdict(verdict: Verdict, out: &mut [u8; ROOM]) -> usize
+pub fn print_verdict(verdict: Verdict, out: &mut [u8; ANSWER_BYTES]) -> usize
     ensures { λ r. ⌜ (r ≡ length (verdictLine verdict)) × (r ≤ 200) ⌝ }
     ensures { λ _. ⌜ now (out .exit) ≡ over (verdictLine verdict) (now (out .entry)) ⌝ }
 {
@@ -299,7 +305,7 @@ pub fn print_verdict(verdict: Verdict, out: &mut [u8; ROOM]) -> usize
 }
 
 // Puts a space and the bytes in hex, or nothing where there are none.
-fn put_lent(out: &mut [u8; ROOM], at: usize, bytes: &[u8]) -> usize
+fn put_lent(out: &mut [u8; ANSWER_BYTES], at: usize, bytes: &[u8]) -> usize
     requires { ⌜ (at ≤ 30) × (length (now bytes) ≤ mostRoom) ⌝ }
     ensures { λ r. ⌜ (r ≡ at + length (hexPart (now (bytes .entry)))) × (r ≤ at + 2049) ⌝ }
     ensures { λ _. ⌜ now (out .exit) ≡ sets (now (out .entry)) at (hexPart (now (bytes .entry))) ⌝ }
@@ -312,8 +318,8 @@ fn put_lent(out: &mut [u8; ROOM], at: usize, bytes: &[u8]) -> usize
 }
 
 // An accepted writing: the bytes written, and the lent buffer after the call, of which at most 1,024 bytes are printed.
-pub fn print_written(bytes: usize, buffer: &[u8], out: &mut [u8; ROOM]) -> usize
-    ensures { λ r. ⌜ (r ≡ length (writtenLine bytes (now (buffer .entry)))) × (r ≤ room) ⌝ }
+pub fn print_written(bytes: usize, buffer: &[u8], out: &mut [u8; ANSWER_BYTES]) -> usize
+    ensures { λ r. ⌜ (r ≡ length (writtenLine bytes (now (buffer .entry)))) × (r ≤ answerBytes) ⌝ }
     ensures { λ _. ⌜ now (out .exit) ≡ over (writtenLine bytes (now (buffer .entry))) (now (out .entry)) ⌝ }
 {
     let shown = smaller(buffer.len(), MOST_ROOM);

@@ -34,10 +34,7 @@ const MOST_DIGITS: usize = MOST_PAIRS * 2;
 fn between(low: u8, high: u8, b: u8) -> bool
     ensures { λ r. ⌜ r ≡ isBetween low high b ⌝ }
 {
-    if b < low {
-        return false;
-    }
-    b <= high
+    low <= b && b <= high
 }
 
 // Whether every byte of a word is a digit.
@@ -105,10 +102,7 @@ pub(crate) fn number(word: &[u8], top: usize) -> Number
 fn has_minus(word: &[u8]) -> bool
     ensures { λ r. ⌜ r ≡ hasMinus (now (word .entry)) ⌝ }
 {
-    if word.len() == 0 {
-        return false;
-    }
-    word[0] == 45
+    word.len() != 0 && word[0] == 45
 }
 
 // A number below zero.
@@ -180,10 +174,7 @@ fn is_row(word: &[u8]) -> bool
 pub(crate) fn is_list(word: &[u8]) -> bool
     ensures { λ r. ⌜ r ≡ isList (now (word .entry)) ⌝ }
 {
-    if same(word, b"-") {
-        return true;
-    }
-    is_row(word)
+    same(word, b"-") || is_row(word)
 }
 
 // Writes the numbers of a row from the start on, and answers how many there are.

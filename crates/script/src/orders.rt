@@ -187,10 +187,7 @@ fn place_call(name: &[u8], a: &[u8], b: &[u8], c: &[u8], d: &[u8]) -> Order
 pub(crate) fn is_skipped(name: &[u8]) -> bool
     ensures { λ r. ⌜ r ≡ skipped (now (name .entry)) ⌝ }
 {
-    if name.len() == 0 {
-        return true;
-    }
-    name[0] == 35
+    name.len() == 0 || name[0] == 35
 }
 
 // Four words: open SEAT JOB MAP, bare ROOM XS YS.

@@ -49,7 +49,7 @@ jobOf t = choose (t .opened) (t .job) 0
 abbrev pub jobsIn : List Seat → List ℕ
 jobsIn l = map jobOf l
 
--- Two seats are open for one job.
+-- Two jobs are the same, and not 0, which stands for a closed seat.
 unfoldable pub sameJob : ℕ → ℕ → Bool
 sameJob i j = both (not (eqb i 0)) (eqb i j)
 

@@ -8,7 +8,7 @@ use Rattle.refusal.specs.Tests.{both, choose}
 use Rattle.drawing.specs.declared.Edit.{Edit}
 use Rattle.drawing.specs.Pins.{lawful}
 use Rattle.journal.specs.declared.Record.{Record}
-use Rattle.journal.specs.Journal.{mostSeats, mostRecords, own, seated, replayable, takeableAll}
+use Rattle.journal.specs.Journal.{mostSeats, mostRecords, own, seated, makeableAll, takeableAll}
 use Rattle.seats.specs.declared.Seat.{Seat}
 use Rattle.seats.specs.Seats.{noSeat, jobsIn, jobsApart}
 
@@ -27,7 +27,7 @@ soundOpen t edits =
     both (not (eqb (t .job) 0))
     (both (leb (t .standing) (length edits))
     (both (lawful (t .pins))
-    (both (takeableAll (t .pins) (standingAmong t edits)) (replayable (t .pins) (takenBackAmong t edits)))))
+    (both (takeableAll (t .pins) (standingAmong t edits)) (makeableAll (t .pins) (takenBackAmong t edits)))))
 
 -- A closed seat is sound where it owns no records.
 unfoldable pub soundClosed : List Edit → Bool

@@ -12,9 +12,9 @@ ghost use lib.ListN.{length, take, drop, getD};
 ghost use Rattle.refusal.specs.Tests.{both};
 ghost use Rattle.feed.specs.Feeds.{mostPins};
 ghost use Rattle.drawing.specs.Edits.{pinOf};
-ghost use Rattle.journal.specs.Journal.{mostRecords, mostSeats, noEdit, own, seated};
+ghost use Rattle.journal.specs.Journal.{mostRecords, mostSeats, noEdit, own, countsOf, seated};
 ghost use Rattle.seats.specs.Seats.{closedSeat, openSeat, editedSeat, undoneSeat, redoneSeat, jobOf, jobsIn, sameJob, jobAmong, jobsApart};
-ghost use Rattle.seats.specs.Sound.{soundOpen, soundSeat, soundTo, soundAll};
+ghost use Rattle.seats.specs.Sound.{soundOpen, soundTo, soundAll};
 
 // A seat: whether it is open, and if so its drawing's job and pins, and how many of its edits stand.
 pub struct Seat {
@@ -62,11 +62,11 @@ pub fn jobs_of(seats: [Seat; SEATS]) -> [u16; SEATS]
     ensures { λ r. ⌜ r ≡ jobsIn seats ⌝ }
 {
     let mut jobs = [0u16; SEATS];
-    let mut i: usize = 0;
+    let mut i = 0;
     while i < SEATS {
         let s = seats[i];
         jobs[i] = job_of(s);
-        i = i + 1;
+        i += 1;
     }
     jobs
 }
@@ -75,7 +75,7 @@ pub fn jobs_of(seats: [Seat; SEATS]) -> [u16; SEATS]
 fn same_job(a: u16, b: u16) -> bool
     ensures { λ r. ⌜ r ≡ sameJob a b ⌝ }
 {
-    if a == 0 { false } else { a == b }
+    a != 0 && a == b
 }
 
 // Whether a job is open at one of the seats numbered `from` and above.
@@ -83,12 +83,12 @@ pub fn job_among(job: u16, jobs: [u16; SEATS], from: usize) -> bool
     requires { ⌜ from ≤ mostSeats ⌝ }
     ensures { λ r. ⌜ r ≡ jobAmong job (drop from jobs) ⌝ }
 {
-    let mut i: usize = from;
+    let mut i = from;
     while i < SEATS {
         if same_job(job, jobs[i]) {
             return true;
         }
-        i = i + 1;
+        i += 1;
     }
     false
 }
@@ -97,10 +97,10 @@ pub fn job_among(job: u16, jobs: [u16; SEATS], from: usize) -> bool
 fn jobs_apart(jobs: [u16; SEATS]) -> bool
     ensures { λ r. ⌜ r ≡ jobsApart jobs ⌝ }
 {
-    let mut i: usize = 0;
+    let mut i = 0;
     while i < SEATS {
         let job = jobs[i];
-        i = i + 1;
+        i += 1;
         if job_among(job, jobs, i) {
             return false;
         }
@@ -112,62 +112,57 @@ fn jobs_apart(jobs: [u16; SEATS]) -> bool
 fn journal_is_sound(journal: [Record; RECORDS], used: usize) -> bool
     ensures { λ r. ⌜ r ≡ both (leb used mostRecords) (seated (take used journal)) ⌝ }
 {
-    if RECORDS < used {
-        return false;
-    }
-    journal::all_seated(journal, used)
+    used <= RECORDS && journal::all_seated(journal, used)
 }
 
-// Whether an open seat, of that number, is sound.
-fn open_is_sound(s: Seat, journal: [Record; RECORDS], used: usize, seat: usize) -> bool
-    requires { ⌜ used ≤ mostRecords ⌝ }
+// Whether an open seat, of that number and with `owned` records, is sound.
+fn open_is_sound(
+    s: Seat,
+    journal: [Record; RECORDS],
+    used: usize,
+    seat: usize,
+    owned: usize,
+) -> bool
+    requires { ⌜ (used ≤ mostRecords) × (owned ≡ length (own seat (take used journal))) ⌝ }
     ensures { λ r. ⌜ r ≡ soundOpen s (own seat (take used journal)) ⌝ }
 {
     if s.job == 0 {
         return false;
     }
     let standing = s.standing;
-    let owned = journal::count_of(journal, used, seat);
     if owned < standing {
         return false;
     }
     let pins = s.pins;
-    if drawing::keep_rules(pins) {
-        if journal::can_take_back_all(pins, journal, used, seat, owned, standing) {
-            journal::can_redo_all(pins, journal, used, seat, standing)
-        } else {
-            false
-        }
-    } else {
-        false
+    if !drawing::keep_rules(pins) {
+        return false;
     }
+    journal::can_take_back_all(pins, journal, used, seat, owned, standing)
+        && journal::can_redo_all(pins, journal, used, seat, standing)
 }
 
-// Whether a seat, of that number, is sound: as an open one, or as a closed one, which owns no records.
-fn seat_is_sound(s: Seat, journal: [Record; RECORDS], used: usize, seat: usize) -> bool
-    requires { ⌜ used ≤ mostRecords ⌝ }
-    ensures { λ r. ⌜ r ≡ soundSeat s (own seat (take used journal)) ⌝ }
-{
-    if s.opened {
-        open_is_sound(s, journal, used, seat)
-    } else {
-        journal::count_of(journal, used, seat) == 0
-    }
-}
-
-// Whether every seat is sound.
-fn each_is_sound(seats: [Seat; SEATS], journal: [Record; RECORDS], used: usize) -> bool
-    requires { ⌜ used ≤ mostRecords ⌝ }
+// Whether every seat is sound, with so many records owned by each: as an open one, or as a closed one, which owns none.
+fn each_is_sound(
+    seats: [Seat; SEATS],
+    journal: [Record; RECORDS],
+    used: usize,
+    counts: [usize; SEATS],
+) -> bool
+    requires { ⌜ (used ≤ mostRecords) × (counts ≡ countsOf (take used journal)) ⌝ }
     ensures { λ r. ⌜ r ≡ soundTo mostSeats seats (take used journal) ⌝ }
 {
-    let mut i: usize = 0;
+    let mut i = 0;
     while i < SEATS {
         let s = seats[i];
-        if seat_is_sound(s, journal, used, i) {
-            i = i + 1;
-        } else {
+        let owned = counts[i];
+        if s.opened {
+            if !open_is_sound(s, journal, used, i, owned) {
+                return false;
+            }
+        } else if owned != 0 {
             return false;
         }
+        i += 1;
     }
     true
 }
@@ -176,16 +171,15 @@ fn each_is_sound(seats: [Seat; SEATS], journal: [Record; RECORDS], used: usize) 
 pub fn are_sound(seats: [Seat; SEATS], journal: [Record; RECORDS], used: usize) -> bool
     ensures { λ r. ⌜ r ≡ soundAll seats journal used ⌝ }
 {
-    if journal_is_sound(journal, used) {
-        let jobs = jobs_of(seats);
-        if jobs_apart(jobs) {
-            each_is_sound(seats, journal, used)
-        } else {
-            false
-        }
-    } else {
-        false
+    if !journal_is_sound(journal, used) {
+        return false;
     }
+    let jobs = jobs_of(seats);
+    if !jobs_apart(jobs) {
+        return false;
+    }
+    let counts = journal::counts_of(journal, used);
+    each_is_sound(seats, journal, used, counts)
 }
 
 // A seat after a new edit, which stands: its pins with the edit made.

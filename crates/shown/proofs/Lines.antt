@@ -4,10 +4,9 @@ use mathlib.Core.Bool.{true, false}
 use mathlib.Core.List.{List, [], _∷_, _++_, append-assoc, append-nil}
 use Prim.Native.Nat.{ℕ, suc, _+_, _<_, min}
 use native.Mathlib.Nat.{add-zero}
-use native.Mathlib.Numerals.{add-one}
 use native.Mathlib.Omega.{arith}
 use lib.ListN.{length, take, drop, getD}
-use lib.Seq.{take-suc, length-take-le}
+use lib.Seq.{length-take-le}
 use Rattle.feed.specs.declared.Spot.{Spot}
 use Rattle.feed.specs.declared.Spot.the-variants.{Absent}
 use Rattle.refusal.specs.Refusals.{accepted}
@@ -17,20 +16,18 @@ use Rattle.wiring.specs.declared.Laid.{Laid}
 use Rattle.script.specs.Text.{over}
 use Rattle.script.specs.Answers.{verdictLine, wiredLine, jobLine}
 use Rattle.script.proofs.Printing.{Put, take-smaller}
-use Rattle.script.proofs.Steps.{front}
+use Rattle.script.proofs.Steps.{front, first-more}
 use Rattle.shown.specs.Shown.{lineForEach, runsText, legsText, spotText, pinsText, counted, pinsThere, wiredText, laidText, jobText, mapText}
 
 module _ {A : Type 0} where
+  -- The text of a list with one element more is one line longer;
   lines-snoc : (line : A → List ℕ) (l : List A) (a : A) → lineForEach line l ++ line a ≡ lineForEach line (l ++ (a ∷ []))
   unfolding lineForEach
   lines-snoc line [] a = sym (append-nil (line a))
   lines-snoc line (b ∷ rest) a =
       append-assoc (line b) (lineForEach line rest) (line a) ∙ ap (λ (t : List ℕ). line b ++ t) (lines-snoc line rest a)
 
-  first-more : (d : A) (l : List A) (i : ℕ) → i < length l → take i l ++ (getD l i d ∷ []) ≡ take (i + 1) l
-  first-more d l i h = rw (add-one i, take-suc l i d h)
-
-  -- One line more.
+  -- so the text of the first elements grows line by line.
   pub lines-more : (line : A → List ℕ) (d : A) (l : List A) (i : ℕ) → i < length l
       → lineForEach line (take i l) ++ line (getD l i d) ≡ lineForEach line (take (i + 1) l)
   lines-more line d l i h = lines-snoc line (take i l) (getD l i d) ∙ ap (lineForEach line) (first-more d l i h)
@@ -41,7 +38,7 @@ module _ {A : Type 0} where
       let m : i ≡ min (length l) count = omega arith in
       ap (λ (k : ℕ). take k l) m ∙ take-smaller l count
 
--- One pin more.
+-- The text of pins with one more is longer by that pin;
 pins-snoc : (k : ℕ) (l : List Spot) (s : Spot) → pinsText k l ++ spotText (k + length l) s ≡ pinsText k (l ++ (s ∷ []))
 unfolding pinsText
 pins-snoc k [] s = ap (λ (n : ℕ). spotText n s) (add-zero k) ∙ sym (append-nil (spotText k s))
@@ -50,6 +47,7 @@ pins-snoc k (b ∷ rest) s =
     append-assoc (spotText k b) (pinsText (suc k) rest) (spotText (k + suc (length rest)) s)
     ∙ ap (λ (t : List ℕ). spotText k b ++ t) (ap (λ (n : ℕ). pinsText (suc k) rest ++ spotText n s) e ∙ pins-snoc (suc k) rest s)
 
+-- so the text of the first pins grows pin by pin.
 pub pins-more : (feed : List Spot) (pin : ℕ) → pin < length feed
     → pinsText 0 (take pin feed) ++ spotText pin (getD feed pin Absent) ≡ pinsText 0 (take (pin + 1) feed)
 pins-more feed pin h =
@@ -68,11 +66,12 @@ count-more feed pin h = ap pinsThere (front Absent feed pin h)
 pub begun : (o p : List ℕ) {n : ℕ} {v : List ℕ} → n ≡ length p → v ≡ over p o → Put o 0 p n v
 begun o p e f = (omega (arith, e), f)
 
--- The answer of a wiring with its legs, refused and accepted.
+-- The answer of a wiring with its legs, where it is refused,
 pub laid-refused : (laid : Laid) → accepted (laid .wiring .verdict) ≡ false → verdictLine (laid .wiring .verdict) ≡ laidText laid
 unfolding laidText
 laid-refused laid h = sym (choose-no (wiredText (laid .wiring) (laid .legs)) (verdictLine (laid .wiring .verdict)) h)
 
+-- and where it is accepted.
 pub laid-accepted : (laid : Laid) → accepted (laid .wiring .verdict) ≡ true
     → wiredLine (laid .wiring .length) (laid .wiring .count) (laid .wiring .legs) (laid .wiring .weighed)
     ++ runsText (take (laid .wiring .count) (laid .wiring .runs))
@@ -81,11 +80,12 @@ pub laid-accepted : (laid : Laid) → accepted (laid .wiring .verdict) ≡ true
 unfolding laidText wiredText
 laid-accepted laid h = sym (choose-yes (wiredText (laid .wiring) (laid .legs)) (verdictLine (laid .wiring .verdict)) h)
 
--- The answer of the wiring of a map, refused and accepted.
+-- The answer of the wiring of a map, where it is refused,
 pub map-refused : (job : ℕ) (wiring : Wiring) → accepted (wiring .verdict) ≡ false → verdictLine (wiring .verdict) ≡ mapText job wiring
 unfolding mapText
 map-refused job wiring h = sym (choose-no (jobText job wiring) (verdictLine (wiring .verdict)) h)
 
+-- and where it is accepted.
 pub map-accepted : (job : ℕ) (wiring : Wiring) → accepted (wiring .verdict) ≡ true
     → jobLine job (wiring .length) (wiring .count) (wiring .weighed) ++ runsText (take (wiring .count) (wiring .runs)) ≡ mapText job wiring
 unfolding mapText jobText

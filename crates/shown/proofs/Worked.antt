@@ -18,7 +18,7 @@ use Rattle.wiring.specs.declared.Laid.{Laid}
 use Rattle.wiring.specs.Choices.{bentShapes, shapesOf, withShape, withShapes, choicesOf, legsOfChoice, lengthOfChoice, shortest, shortestOf, bestChoice, weighedAt, weighedOf}
 use Rattle.wiring.specs.Answer.{shapedRuns, runEntries, legEntries, laidWith, turnedAway, answerWith, wiringVerdict, wiringWith, wiringFavouring, wiringOf}
 use Rattle.script.specs.Text.{text}
-use Rattle.script.specs.Answers.{shown, integer, placeText, carriedText, toldLine, wiredLine, jobLine, runLine, legLine, drawingLine, pinLine}
+use Rattle.script.specs.Answers.{digits, integer, placeText, carriedText, toldLine, wiredLine, jobLine, runLine, legLine, drawingLine, pinLine}
 use Rattle.shown.specs.Shown.{shapedLine, lineForEach, legText, spotText, pinsText, pinsThere, wiredText, laidText, jobText, mapText, drawnText}
 
 -- W3: (0,0), (4,2), (4,-2).
@@ -27,23 +27,24 @@ w3 = wiringOf (At (record { x = pos 0; y = pos 0 }) ∷ At (record { x = pos 4; 
 
 -- W3 as a map of job 7.
 pub map-of-w3 : mapText 7 (w3 .wiring) ≡ text "job 7 length 8 runs 2 weighed 5\n0 1 lower\n1 2 straight\n"
-unfolding wiringOf wiringFavouring wiringWith wiringVerdict answerWith turnedAway laidWith legEntries runEntries shapedRuns weighedOf weighedAt howMany bent bestChoice shortestOf shortest lengthOfChoice legsOfChoice choicesOf withShapes withShape shapesOf bentShapes lengthOf different among stepsOfAll stepsOf smaller stepsUp stepsAcross sameStep legsOf lowerCorner upperCorner isStraight boxesMeet clashAny clash common isEnd boxesShare overlap under belowBoth runsOf pinsOf runsAmong grown nextRun earliestOf earliest runsBetween runsFrom without pinsFrom keptIf sooner pairAt comesBefore byPart byNumber pairOf weightOf distanceOf difference larger sameNumber accepted turn both either choose shown jobLine runLine shapedLine lineForEach jobText mapText
+unfolding wiringOf wiringFavouring wiringWith wiringVerdict answerWith turnedAway laidWith legEntries runEntries shapedRuns weighedOf weighedAt howMany bent bestChoice shortestOf shortest lengthOfChoice legsOfChoice choicesOf withShapes withShape shapesOf bentShapes lengthOf different among stepsOfAll stepsOf smaller stepsUp stepsAcross sameStep legsOf lowerCorner upperCorner isStraight boxesMeet clashAny clash common isEnd boxesShare overlap under belowBoth runsOf pinsOf runsAmong grown nextRun earliestOf earliest runsBetween runsFrom without pinsFrom keptIf sooner pairAt comesBefore byPart byNumber pairOf weightOf distanceOf difference larger sameNumber accepted turn both either choose digits jobLine runLine shapedLine lineForEach jobText mapText
 map-of-w3 = refl
 
 -- W3 with its legs.
 pub laid-w3 : laidText w3 ≡ text "0 length 8 runs 2 legs 3 weighed 5\n0 1 lower\n1 2 straight\nleg 0 0 4 0\nleg 4 0 4 2\nleg 4 2 4 -2\n"
-unfolding wiringOf wiringFavouring wiringWith wiringVerdict answerWith turnedAway laidWith legEntries runEntries shapedRuns weighedOf weighedAt howMany bent bestChoice shortestOf shortest lengthOfChoice legsOfChoice choicesOf withShapes withShape shapesOf bentShapes lengthOf different among stepsOfAll stepsOf smaller stepsUp stepsAcross sameStep legsOf lowerCorner upperCorner isStraight boxesMeet clashAny clash common isEnd boxesShare overlap under belowBoth runsOf pinsOf runsAmong grown nextRun earliestOf earliest runsBetween runsFrom without pinsFrom keptIf sooner pairAt comesBefore byPart byNumber pairOf weightOf distanceOf difference larger sameNumber accepted turn both either choose shown integer placeText wiredLine runLine legLine shapedLine lineForEach legText wiredText laidText
+unfolding wiringOf wiringFavouring wiringWith wiringVerdict answerWith turnedAway laidWith legEntries runEntries shapedRuns weighedOf weighedAt howMany bent bestChoice shortestOf shortest lengthOfChoice legsOfChoice choicesOf withShapes withShape shapesOf bentShapes lengthOf different among stepsOfAll stepsOf smaller stepsUp stepsAcross sameStep legsOf lowerCorner upperCorner isStraight boxesMeet clashAny clash common isEnd boxesShare overlap under belowBoth runsOf pinsOf runsAmong grown nextRun earliestOf earliest runsBetween runsFrom without pinsFrom keptIf sooner pairAt comesBefore byPart byNumber pairOf weightOf distanceOf difference larger sameNumber accepted turn both either choose digits integer placeText wiredLine runLine legLine shapedLine lineForEach legText wiredText laidText
 laid-w3 = refl
 
 -- Refused maps: of a wrong length, and with a record of another job.
 pub refused-maps : mapText 7 (turnedAway MapLength .wiring) ++ mapText 7 (turnedAway (OtherJob 2) .wiring) ≡ text "refused 13\nrefused 14 record 2\n"
-unfolding turnedAway runEntries accepted choose shown carriedText toldLine mapText
+unfolding turnedAway runEntries accepted choose digits carriedText toldLine mapText
 refused-maps = refl
 
 -- A drawing whose pins 1 and 2 are there: (1,-1) and (20000,-20000).
 abbrev two : List Spot
 two = Absent ∷ At (record { x = pos 1; y = negsuc 0 }) ∷ At (record { x = pos 20000; y = negsuc 19999 }) ∷ Absent ∷ []
 
+-- It is printed with its two pins counted and a line for each.
 pub drawn-two : drawnText 7 two 2 1 ≡ text "job 7 pins 2 standing 2 taken 1\npin 1 1 -1\npin 2 20000 -20000\n"
-unfolding choose shown integer placeText drawingLine pinLine spotText pinsText pinsThere drawnText
+unfolding choose digits integer placeText drawingLine pinLine spotText pinsText pinsThere drawnText
 drawn-two = refl

@@ -1,8 +1,9 @@
 // Answers of several lines printed into a lent buffer: a wiring, the wiring of a map, a drawing.
 use copper::Leg;
 use copper::Shape;
+use feed::PINS;
 use feed::Spot;
-use script::answers::ROOM;
+use script::answers::ANSWER_BYTES;
 use script::answers::print_drawing;
 use script::answers::print_job;
 use script::answers::print_leg;
@@ -11,6 +12,8 @@ use script::answers::print_run;
 use script::answers::print_verdict;
 use script::answers::print_wired;
 use script::windows::smaller;
+use tree::RUNS;
+use wiring::LEGS;
 use wiring::Laid;
 use wiring::Shaped;
 use wiring::Wiring;
@@ -18,12 +21,12 @@ ghost use mathlib.Core.Path.{_≡_};
 ghost use Prim.Native.Nat.{_+_, _≤_};
 ghost use lib.ListN.{length, take};
 ghost use lib.Seq.{sets};
-ghost use Rattle.script.specs.Text.{over, room};
+ghost use Rattle.script.specs.Text.{over, answerBytes};
 ghost use Rattle.shown.specs.Shown.{shapedLine, runsText, legText, legsText, spotText, pinsText, counted, pinsThere, laidText, mapText, drawnText};
 
 // A run, from a position on.
-fn put_shaped(run: Shaped, out: &mut [u8; ROOM], at: usize) -> usize
-    requires { ⌜ at + 51 ≤ room ⌝ }
+fn put_shaped(run: Shaped, out: &mut [u8; ANSWER_BYTES], at: usize) -> usize
+    requires { ⌜ at + 51 ≤ answerBytes ⌝ }
     ensures { λ r. ⌜ (r ≡ at + length (shapedLine run)) × (r ≤ at + 51) ⌝ }
     ensures { λ _. ⌜ now (out .exit) ≡ sets (now (out .entry)) at (shapedLine run) ⌝ }
 {
@@ -36,12 +39,12 @@ fn put_shaped(run: Shaped, out: &mut [u8; ROOM], at: usize) -> usize
 }
 
 // The first runs of a list, from a position on.
-fn put_runs(runs: [Shaped; 31], count: usize, out: &mut [u8; ROOM], at: usize) -> usize
-    requires { ⌜ at + 1581 ≤ room ⌝ }
+fn put_runs(runs: [Shaped; RUNS], count: usize, out: &mut [u8; ANSWER_BYTES], at: usize) -> usize
+    requires { ⌜ at + 1581 ≤ answerBytes ⌝ }
     ensures { λ r. ⌜ (r ≡ at + length (runsText (take count runs))) × (r ≤ at + 1581) ⌝ }
     ensures { λ _. ⌜ now (out .exit) ≡ sets (now (out .entry)) at (runsText (take count runs)) ⌝ }
 {
-    let most = smaller(count, 31);
+    let most = smaller(count, RUNS);
     let mut next = at;
     let mut i = 0;
     while i < most {
@@ -53,8 +56,8 @@ fn put_runs(runs: [Shaped; 31], count: usize, out: &mut [u8; ROOM], at: usize) -
 }
 
 // A leg, from a position on.
-fn put_leg(leg: Leg, out: &mut [u8; ROOM], at: usize) -> usize
-    requires { ⌜ at + 92 ≤ room ⌝ }
+fn put_leg(leg: Leg, out: &mut [u8; ANSWER_BYTES], at: usize) -> usize
+    requires { ⌜ at + 92 ≤ answerBytes ⌝ }
     ensures { λ r. ⌜ (r ≡ at + length (legText leg)) × (r ≤ at + 92) ⌝ }
     ensures { λ _. ⌜ now (out .exit) ≡ sets (now (out .entry)) at (legText leg) ⌝ }
 {
@@ -64,12 +67,12 @@ fn put_leg(leg: Leg, out: &mut [u8; ROOM], at: usize) -> usize
 }
 
 // The first legs of a list, from a position on.
-fn put_legs(legs: [Leg; 62], count: usize, out: &mut [u8; ROOM], at: usize) -> usize
-    requires { ⌜ at + 5704 ≤ room ⌝ }
+fn put_legs(legs: [Leg; LEGS], count: usize, out: &mut [u8; ANSWER_BYTES], at: usize) -> usize
+    requires { ⌜ at + 5704 ≤ answerBytes ⌝ }
     ensures { λ r. ⌜ (r ≡ at + length (legsText (take count legs))) × (r ≤ at + 5704) ⌝ }
     ensures { λ _. ⌜ now (out .exit) ≡ sets (now (out .entry)) at (legsText (take count legs)) ⌝ }
 {
-    let most = smaller(count, 62);
+    let most = smaller(count, LEGS);
     let mut next = at;
     let mut i = 0;
     while i < most {
@@ -81,8 +84,8 @@ fn put_legs(legs: [Leg; 62], count: usize, out: &mut [u8; ROOM], at: usize) -> u
 }
 
 // A pin that is there, from a position on.
-fn put_spot(pin: usize, spot: Spot, out: &mut [u8; ROOM], at: usize) -> usize
-    requires { ⌜ at + 69 ≤ room ⌝ }
+fn put_spot(pin: usize, spot: Spot, out: &mut [u8; ANSWER_BYTES], at: usize) -> usize
+    requires { ⌜ at + 69 ≤ answerBytes ⌝ }
     ensures { λ r. ⌜ (r ≡ at + length (spotText pin spot)) × (r ≤ at + 69) ⌝ }
     ensures { λ _. ⌜ now (out .exit) ≡ sets (now (out .entry)) at (spotText pin spot) ⌝ }
 {
@@ -93,14 +96,14 @@ fn put_spot(pin: usize, spot: Spot, out: &mut [u8; ROOM], at: usize) -> usize
 }
 
 // The pins of a feed that are there, from a position on.
-fn put_pins(feed: [Spot; 32], out: &mut [u8; ROOM], at: usize) -> usize
-    requires { ⌜ at + 2208 ≤ room ⌝ }
+fn put_pins(feed: [Spot; PINS], out: &mut [u8; ANSWER_BYTES], at: usize) -> usize
+    requires { ⌜ at + 2208 ≤ answerBytes ⌝ }
     ensures { λ r. ⌜ (r ≡ at + length (pinsText 0 feed)) × (r ≤ at + 2208) ⌝ }
     ensures { λ _. ⌜ now (out .exit) ≡ sets (now (out .entry)) at (pinsText 0 feed) ⌝ }
 {
     let mut next = at;
     let mut pin = 0;
-    while pin < 32 {
+    while pin < PINS {
         let spot = feed[pin];
         next = put_spot(pin, spot, out, next);
         pin += 1;
@@ -119,12 +122,12 @@ fn count_of(spot: Spot) -> usize
 }
 
 // How many pins of a feed are there.
-fn pins_there(feed: [Spot; 32]) -> usize
+fn pins_there(feed: [Spot; PINS]) -> usize
     ensures { λ r. ⌜ r ≡ pinsThere feed ⌝ }
 {
     let mut count = 0;
     let mut pin = 0;
-    while pin < 32 {
+    while pin < PINS {
         let spot = feed[pin];
         count += count_of(spot);
         pin += 1;
@@ -133,8 +136,8 @@ fn pins_there(feed: [Spot; 32]) -> usize
 }
 
 // Prints the answer of a wiring with its legs, and answers how many bytes that is.
-pub fn print_laid(laid: Laid, out: &mut [u8; ROOM]) -> usize
-    ensures { λ r. ⌜ (r ≡ length (laidText laid)) × (r ≤ room) ⌝ }
+pub fn print_laid(laid: Laid, out: &mut [u8; ANSWER_BYTES]) -> usize
+    ensures { λ r. ⌜ (r ≡ length (laidText laid)) × (r ≤ answerBytes) ⌝ }
     ensures { λ _. ⌜ now (out .exit) ≡ over (laidText laid) (now (out .entry)) ⌝ }
 {
     let wiring = laid.wiring;
@@ -152,8 +155,8 @@ pub fn print_laid(laid: Laid, out: &mut [u8; ROOM]) -> usize
 }
 
 // Prints the answer of the wiring of a map, and answers how many bytes that is.
-pub fn print_map(job: u16, wiring: Wiring, out: &mut [u8; ROOM]) -> usize
-    ensures { λ r. ⌜ (r ≡ length (mapText job wiring)) × (r ≤ room) ⌝ }
+pub fn print_map(job: u16, wiring: Wiring, out: &mut [u8; ANSWER_BYTES]) -> usize
+    ensures { λ r. ⌜ (r ≡ length (mapText job wiring)) × (r ≤ answerBytes) ⌝ }
     ensures { λ _. ⌜ now (out .exit) ≡ over (mapText job wiring) (now (out .entry)) ⌝ }
 {
     let outcome = wiring.verdict;
@@ -170,12 +173,12 @@ pub fn print_map(job: u16, wiring: Wiring, out: &mut [u8; ROOM]) -> usize
 // Prints a drawing, and answers how many bytes that is.
 pub fn print_drawn(
     job: u16,
-    feed: [Spot; 32],
+    feed: [Spot; PINS],
     standing: usize,
     taken: usize,
-    out: &mut [u8; ROOM],
+    out: &mut [u8; ANSWER_BYTES],
 ) -> usize
-    ensures { λ r. ⌜ (r ≡ length (drawnText job feed standing taken)) × (r ≤ room) ⌝ }
+    ensures { λ r. ⌜ (r ≡ length (drawnText job feed standing taken)) × (r ≤ answerBytes) ⌝ }
     ensures { λ _. ⌜ now (out .exit) ≡ over (drawnText job feed standing taken) (now (out .entry)) ⌝ }
 {
     let pins = pins_there(feed);

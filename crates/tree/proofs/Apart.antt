@@ -12,15 +12,14 @@ use lib.ListN.{length}
 use borrow.Author.Tests.{eqb-false}
 use Rattle.refusal.specs.Tests.{both, either}
 use Rattle.refusal.specs.declared.Verdict.the-variants.{Accepted}
-use Rattle.refusal.proofs.Tests.{fails-if, both-no, both-yes, either-right, choose-no}
+use Rattle.refusal.proofs.Tests.{decide, either-false, fails-if, both-no, both-yes, either-right, choose-no}
 use Rattle.feed.specs.declared.Spot.{Spot}
 use Rattle.grid.proofs.Flat.{Site}
 use Rattle.tree.specs.declared.Run.{Run}
-use Rattle.feed.specs.Feeds.{placeOf, spotAt, allWithin}
+use Rattle.feed.specs.Feeds.{mostPins, placeOf, spotAt, allWithin}
 use Rattle.tree.specs.Growth.{pinsOf, runsOf}
 use Rattle.tree.specs.Boxes.{boxesShare, isEnd, common, clash, clashAny, boxesMeet}
 use Rattle.tree.specs.Trees.{treeWith, none, treeOf}
-use Rattle.tree.proofs.Deciding.{decide, either-false}
 use Rattle.tree.proofs.Membership.{Among, first, later}
 use Rattle.tree.proofs.Numbering.{siteAt, keyAt, keyed, stands, fits}
 use Rattle.tree.proofs.Branches.{
@@ -73,12 +72,12 @@ box-turn {a} {b} h =
       top = rw (max-comm (b .y) (a .y)) (h .top);
     }
 
-module _ (feed : List Spot) (full : length feed ≡ 32) (ok : allWithin feed ≡ true) (f : ℕ) (left : List ℕ) (e : pinsOf feed ≡ f ∷ left)
+module _ (feed : List Spot) (full : length feed ≡ mostPins) (ok : allWithin feed ≡ true) (f : ℕ) (left : List ℕ) (e : pinsOf feed ≡ f ∷ left)
     {rs : List Run} (g : Grown (keyAt feed) (λ (a : ℕ). Among a (f ∷ left)) f rs) where
   w : Branching (λ (a : ℕ). Among a (f ∷ left)) f rs
   w = branching g
 
-  low : (a : ℕ) → Reached f a rs → a < 32
+  low : (a : ℕ) → Reached f a rs → a < mostPins
   low a h = pins-low feed full ok f left e a (reached-there (first refl) w a h)
 
   -- A run comes before any other pair across it.
@@ -172,7 +171,7 @@ four-ends r s e =
       far-far = eqb-false (r .far) (s .far) (t .1);
     }
 
-module _ (feed : List Spot) (full : length feed ≡ 32) (ok : allWithin feed ≡ true) where
+module _ (feed : List Spot) (full : length feed ≡ mostPins) (ok : allWithin feed ≡ true) where
   -- THE BOXES OF TWO RUNS WITHOUT A COMMON PIN SHARE NO POINT.
   pub boxes-apart : (r s : Run) → Among r (runsOf feed) → Among s (runsOf feed) → common r s ≡ false
       → boxesShare (placeOf (spotAt feed (r .near))) (placeOf (spotAt feed (r .far))) (placeOf (spotAt feed (s .near))) (placeOf (spotAt feed (s .far))) ≡ false
@@ -196,7 +195,8 @@ module _ (feed : List Spot) (full : length feed ≡ 32) (ok : allWithin feed ≡
   clash-none r s hr hs = go (decide (common r s))
     where
       go : (common r s ≡ true) ⊎ (common r s ≡ false)
-          → both (not (common r s)) (boxesShare (placeOf (spotAt feed (r .near))) (placeOf (spotAt feed (r .far))) (placeOf (spotAt feed (s .near))) (placeOf (spotAt feed (s .far)))) ≡ false
+          → both (not (common r s)) (boxesShare (placeOf (spotAt feed (r .near))) (placeOf (spotAt feed (r .far)))
+          (placeOf (spotAt feed (s .near))) (placeOf (spotAt feed (s .far)))) ≡ false
       go (inl c) = both-no _ (ap not c)
       go (inr c) = both-yes _ (ap not c) ∙ boxes-apart r s hr hs c
 
@@ -215,6 +215,7 @@ module _ (feed : List Spot) (full : length feed ≡ 32) (ok : allWithin feed ≡
   pub never-meet : boxesMeet feed (runsOf feed) ≡ false
   never-meet = meet-none (runsOf feed) (λ s m. m)
 
+  -- So where there are pins, the answer is their runs.
   pub always-runs : (f : ℕ) (left : List ℕ) → pinsOf feed ≡ f ∷ left → treeOf feed ≡ treeWith Accepted (runsOf feed)
   unfolding treeOf
   always-runs f left e = choose-no _ _ (ap none e) ∙ choose-no _ _ never-meet

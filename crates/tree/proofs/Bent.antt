@@ -1,6 +1,6 @@
 -- AT MOST SIX BENT RUNS end at a pin. From pins that stand on the board.
 use mathlib.Core.Path.{_≡_, refl, sym, ap, _∙_, subst}
-use mathlib.Core.Bool.{Bool, true, false}
+use mathlib.Core.Bool.{Bool, true, false, cond}
 use mathlib.Core.List.{List, [], _∷_, reverseAux}
 use Prim.Native.Nat.{ℕ, _+_, _≤_}
 use native.Mathlib.Omega.{arith}
@@ -9,24 +9,24 @@ use lib.IntN.{ℤ}
 use lib.ListN.{length}
 use borrow.Author.Tests.{eqb-true, eqb-false, not-true}
 use Rattle.refusal.specs.Tests.{both, either, choose}
+use Rattle.refusal.proofs.Tests.{either-false}
 use Rattle.feed.specs.declared.Spot.{Spot}
 use Rattle.grid.specs.Place.{difference, sameNumber, isStraight}
 use Rattle.grid.proofs.Signed.{off, I32}
 use Rattle.grid.proofs.Flat.{gap, gap-self, difference-gap}
 use Rattle.tree.specs.declared.Run.{Run}
-use Rattle.feed.specs.Feeds.{placeOf, spotAt, allWithin}
+use Rattle.feed.specs.Feeds.{mostPins, placeOf, spotAt, allWithin}
 use Rattle.tree.specs.Growth.{pinsOf, runsAmong, runsOf}
 use Rattle.tree.specs.Boxes.{isEnd}
 use Rattle.tree.specs.Bends.{bent, howMany, bentAt, bentFrom, bentInto}
-use Rattle.tree.proofs.Deciding.{either-false}
 use Rattle.tree.proofs.Membership.{Among, first, later}
 use Rattle.tree.proofs.Numbering.{siteAt, keyAt, keyed, stands, fits}
-use Rattle.tree.proofs.Branches.{pick, Grown, branching, reached-there}
+use Rattle.tree.proofs.Branches.{Grown, branching, reached-there}
 use Rattle.tree.proofs.Listing.{runs-grown, pins-low}
 use Rattle.tree.proofs.Spanning.{runs-join}
 use Rattle.tree.proofs.FourPins.{key-span}
 use Rattle.tree.proofs.Neighbours.{Joined, joined-reached, neighbours, around, All, All.none, All.also, Pairwise, around-joined, around-once}
-use Rattle.tree.proofs.Zones.{bit, tally, skew, skew-of, Spread, six}
+use Rattle.tree.proofs.Zones.{oneIf, tally, skew, skew-of, Spread, six}
 
 -- Numbers that are not the same are not the same in ℕ.
 number-apart : (a b : ℤ) → I32 a → I32 b → sameNumber a b ≡ false → off a ≡ off b → ⊥
@@ -67,10 +67,10 @@ module _ (feed : List Spot) (ok : allWithin feed ≡ true) where
       go : (p q b : Bool) → eqb n (r .near) ≡ p → eqb n (r .far) ≡ q → bent feed r ≡ b
           → bentAt feed rs n ≤ tally (λ a. skew (siteAt feed n) (siteAt feed a)) (around n rs)
           → choose (both (either p q) b) 1 0 + bentAt feed rs n
-          ≤ tally (λ a. skew (siteAt feed n) (siteAt feed a)) (pick p (r .far ∷ around n rs) (pick q (r .near ∷ around n rs) (around n rs)))
-      go true q true e f h l = omega (arith, ap bit (toward (r .far) (eqb-true n (r .near) e) h refl))
+          ≤ tally (λ a. skew (siteAt feed n) (siteAt feed a)) (cond p (r .far ∷ around n rs) (cond q (r .near ∷ around n rs) (around n rs)))
+      go true q true e f h l = omega (arith, ap oneIf (toward (r .far) (eqb-true n (r .near) e) h refl))
       go true q false e f h l = omega arith
-      go false true true e f h l = omega (arith, ap bit (away (r .near) (eqb-true n (r .far) f) h refl))
+      go false true true e f h l = omega (arith, ap oneIf (away (r .near) (eqb-true n (r .far) f) h refl))
       go false true false e f h l = omega arith
       go false false b e f h l = omega arith
 
@@ -80,7 +80,7 @@ unfolding howMany
 bent-turned feed [] m n = omega arith
 bent-turned feed (r ∷ l) m n = bent-turned feed l (r ∷ m) n ∙ omega arith
 
-module _ (feed : List Spot) (full : length feed ≡ 32) (ok : allWithin feed ≡ true) (f : ℕ) (left : List ℕ) (e : pinsOf feed ≡ f ∷ left) where
+module _ (feed : List Spot) (full : length feed ≡ mostPins) (ok : allWithin feed ≡ true) (f : ℕ) (left : List ℕ) (e : pinsOf feed ≡ f ∷ left) where
   -- Two pins that runs join to one are no nearer to each other than either is to it.
   spread : {rs : List Run} → Grown (keyAt feed) (λ (a : ℕ). Among a (f ∷ left)) f rs → (i a b : ℕ) → Joined i a rs → Joined i b rs → (a ≡ b → ⊥)
       → Spread (siteAt feed) (siteAt feed i) a b
@@ -120,7 +120,7 @@ module _ (feed : List Spot) (full : length feed ≡ 32) (ok : allWithin feed ≡
   six-some n = omega (arith, six-newest n, bent-turned feed (runsOf feed) [] n)
 
 -- AT MOST SIX BENT RUNS end at any pin of a feed.
-pub six-bent : (feed : List Spot) → length feed ≡ 32 → allWithin feed ≡ true → (n : ℕ) → bentAt feed (runsOf feed) n ≤ 6
+pub six-bent : (feed : List Spot) → length feed ≡ mostPins → allWithin feed ≡ true → (n : ℕ) → bentAt feed (runsOf feed) n ≤ 6
 unfolding howMany runsOf runsAmong
 six-bent feed full ok n = go (pinsOf feed) refl
   where
@@ -152,5 +152,5 @@ bent-split feed (r ∷ runs) n h =
     )
 
 -- OF THE BENT RUNS LEADING ON FROM A PIN AND THE ONE THAT REACHED IT there are at most six.
-pub six-leading : (feed : List Spot) → length feed ≡ 32 → allWithin feed ≡ true → (n : ℕ) → bentFrom feed (runsOf feed) n + bentInto feed (runsOf feed) n ≤ 6
+pub six-leading : (feed : List Spot) → length feed ≡ mostPins → allWithin feed ≡ true → (n : ℕ) → bentFrom feed (runsOf feed) n + bentInto feed (runsOf feed) n ≤ 6
 six-leading feed full ok n = omega (arith, six-bent feed full ok n, bent-split feed (runsOf feed) n (runs-join feed full ok .ends-differ))

@@ -6,12 +6,13 @@ use mathlib.Core.List.{List, [], _∷_}
 use mathlib.Core.Logic.{_⊎_, inl, inr}
 use Prim.Native.Nat.{ℕ, zero, suc, _<_, _≤_, min, max}
 use native.Mathlib.Omega.{arith}
+use native.Mathlib.Nat.{max-le}
 use lib.IntN.{ℤ}
 use lib.Signed.{ltZ}
 use lib.ListN.{length, getD}
 use borrow.Author.Tests.{ltb-true, ltb-false, not-false, not-true}
 use Rattle.refusal.specs.Tests.{both}
-use Rattle.refusal.proofs.Tests.{both-left, both-right, both-of}
+use Rattle.refusal.proofs.Tests.{decide, both-false, either-false, both-left, both-right, both-of}
 use Rattle.grid.specs.declared.Place.{Place}
 use Rattle.feed.specs.declared.Spot.{Spot}
 use Rattle.grid.proofs.Signed.{off, I32, ltZ-off}
@@ -20,7 +21,6 @@ use Rattle.tree.specs.declared.Run.{Run}
 use Rattle.feed.specs.Feeds.{placeOf, spotAt}
 use Rattle.tree.specs.Growth.{run}
 use Rattle.tree.specs.Boxes.{belowBoth, under, overlap, boxesShare, common, clash, clashAny, boxesMeet}
-use Rattle.tree.proofs.Deciding.{decide, both-false, either-false}
 use Rattle.tree.proofs.FourPins.{InBox}
 
 -- ---- boxes share a point just where the test says so
@@ -62,20 +62,13 @@ record Common (a b c d n : ℕ) : Type 0 where
   low' : min c d ≤ n
   high' : n ≤ max c d
 
--- The larger of two is at most what both are.
-most : (x y z : ℕ) → x ≤ z → y ≤ z → max x y ≤ z
-most x y z u v = omega arith
-
-least-most : (a b : ℕ) → min a b ≤ max a b
-least-most a b = omega arith
-
 larger-low : (a b c d : ℕ) → min c d ≤ max a b → min a b ≤ max c d → Common a b c d (max (min a b) (min c d))
 larger-low a b c d h k =
     record {
       low = omega arith;
-      high = most (min a b) (min c d) (max a b) (least-most a b) h;
+      high = max-le (omega arith) h;
       low' = omega arith;
-      high' = most (min a b) (min c d) (max c d) k (least-most c d);
+      high' = max-le k (omega arith);
     }
 
 module _ (a b c d : ℤ) (ha : I32 a) (hb : I32 b) (hc : I32 c) (hd : I32 d) where

@@ -2,7 +2,7 @@
 -- and that growing by the earliest run leaves every run the earliest across the two groups that it joins.
 -- For any key of pairs, and any pins that are there.
 use mathlib.Core.Path.{_≡_, refl, sym, ap, _∙_, subst}
-use mathlib.Core.Bool.{Bool, true, false}
+use mathlib.Core.Bool.{Bool, true, false, cond}
 use mathlib.Core.List.{List, [], _∷_}
 use Prim.Native.Nat.{ℕ, _<_, _≤_, max}
 use native.Mathlib.Omega.{arith}
@@ -12,11 +12,6 @@ use lib.Dec.{eqb}
 use borrow.Author.Tests.{eq-eqb, ne-eqb}
 use Rattle.grid.proofs.Flat.{order}
 use Rattle.tree.specs.declared.Run.{Run}
-
--- The first where the test holds, else the second.
-abbrev pub pick : {A : Type 0} → Bool → A → A → A
-pick true a b = a
-pick false a b = b
 
 -- ---- the pins that the runs reach from a first pin
 pub data Reached (o a : ℕ) : List Run → Type 0 where
@@ -42,71 +37,81 @@ pub data HasRun (s t : ℕ) : List Run → Type 0 where
 unfoldable pub widest : (ℕ → ℕ → ℕ) → List Run → ℕ → ℕ → ℕ
 widest key [] a b = 0
 widest key (r ∷ rs) a b =
-    pick (eqb a (r .far))
-    (pick (eqb b (r .far)) 0 (max (key (r .near) (r .far)) (widest key rs (r .near) b)))
-    (pick (eqb b (r .far)) (max (key (r .near) (r .far)) (widest key rs a (r .near))) (widest key rs a b))
+    cond (eqb a (r .far))
+    (cond (eqb b (r .far)) 0 (max (key (r .near) (r .far)) (widest key rs (r .near) b)))
+    (cond (eqb b (r .far)) (max (key (r .near) (r .far)) (widest key rs a (r .near))) (widest key rs a b))
 
 module _ (key : ℕ → ℕ → ℕ) (r : Run) (rs : List Run) (a b : ℕ) where
+  -- From the pin that the newest run reaches to itself there is no way to go.
   pub widest-both : a ≡ r .far → b ≡ r .far → widest key (r ∷ rs) a b ≡ 0
   unfolding widest
   widest-both e f = rw (eq-eqb a (r .far) e, eq-eqb b (r .far) f)
 
+  -- From that pin the way goes over the newest run,
   pub widest-left : a ≡ r .far → (b ≡ r .far → ⊥) → widest key (r ∷ rs) a b ≡ max (key (r .near) (r .far)) (widest key rs (r .near) b)
   unfolding widest
   widest-left e f = rw (eq-eqb a (r .far) e, ne-eqb b (r .far) f)
 
+  -- and to that pin too.
   pub widest-right : (a ≡ r .far → ⊥) → b ≡ r .far → widest key (r ∷ rs) a b ≡ max (key (r .near) (r .far)) (widest key rs a (r .near))
   unfolding widest
   widest-right e f = rw (ne-eqb a (r .far) e, eq-eqb b (r .far) f)
 
+  -- Between two other pins the newest run plays no part.
   pub widest-old : (a ≡ r .far → ⊥) → (b ≡ r .far → ⊥) → widest key (r ∷ rs) a b ≡ widest key rs a b
   unfolding widest
   widest-old e f = rw (ne-eqb a (r .far) e, ne-eqb b (r .far) f)
 
-pick-self : (t : Bool) (x y z : ℕ) → z ≡ 0 → pick t (pick t 0 x) (pick t y z) ≡ 0
-pick-self true x y z e = refl
-pick-self false x y z e = e
+cond-self : (t : Bool) (x y z : ℕ) → z ≡ 0 → cond t (cond t 0 x) (cond t y z) ≡ 0
+cond-self true x y z e = refl
+cond-self false x y z e = e
 
+-- There is no way to go from a pin to itself.
 pub widest-self : (key : ℕ → ℕ → ℕ) (rs : List Run) (a : ℕ) → widest key rs a a ≡ 0
 unfolding widest
 widest-self key [] a = refl
 widest-self key (r ∷ rs) a =
-    pick-self (eqb a (r .far)) (max (key (r .near) (r .far)) (widest key rs (r .near) a)) (max (key (r .near) (r .far)) (widest key rs a (r .near)))
+    cond-self (eqb a (r .far)) (max (key (r .near) (r .far)) (widest key rs (r .near) a)) (max (key (r .near) (r .far)) (widest key rs a (r .near)))
     (widest key rs a a) (widest-self key rs a)
 
-pick-swap : (p q : Bool) (k x y z x' y' z' : ℕ) → x ≡ y' → y ≡ x' → z ≡ z'
-    → pick p (pick q 0 (max k x)) (pick q (max k y) z) ≡ pick q (pick p 0 (max k x')) (pick p (max k y') z')
-pick-swap true true k x y z x' y' z' a b c = refl
-pick-swap true false k x y z x' y' z' a b c = ap (max k) a
-pick-swap false true k x y z x' y' z' a b c = ap (max k) b
-pick-swap false false k x y z x' y' z' a b c = c
+cond-swap : (p q : Bool) (k x y z x' y' z' : ℕ) → x ≡ y' → y ≡ x' → z ≡ z'
+    → cond p (cond q 0 (max k x)) (cond q (max k y) z) ≡ cond q (cond p 0 (max k x')) (cond p (max k y') z')
+cond-swap true true k x y z x' y' z' a b c = refl
+cond-swap true false k x y z x' y' z' a b c = ap (max k) a
+cond-swap false true k x y z x' y' z' a b c = ap (max k) b
+cond-swap false false k x y z x' y' z' a b c = c
 
+-- The way back is the same way.
 pub widest-swap : (key : ℕ → ℕ → ℕ) (rs : List Run) (a b : ℕ) → widest key rs a b ≡ widest key rs b a
 unfolding widest
 widest-swap key [] a b = refl
 widest-swap key (r ∷ rs) a b =
-    pick-swap (eqb a (r .far)) (eqb b (r .far)) (key (r .near) (r .far)) _ _ _ _ _ _
+    cond-swap (eqb a (r .far)) (eqb b (r .far)) (key (r .near) (r .far)) _ _ _ _ _ _
     (widest-swap key rs (r .near) b) (widest-swap key rs a (r .near)) (widest-swap key rs a b)
 
 -- ---- a hangs from the run whose far end is t
 unfoldable pub hangs : List Run → ℕ → ℕ → Bool
 hangs [] t a = false
 hangs (r ∷ rs) t a =
-    pick (eqb a (r .far)) (pick (eqb t (r .far)) true (hangs rs t (r .near))) (pick (eqb t (r .far)) false (hangs rs t a))
+    cond (eqb a (r .far)) (cond (eqb t (r .far)) true (hangs rs t (r .near))) (cond (eqb t (r .far)) false (hangs rs t a))
 
 module _ (r : Run) (rs : List Run) (t a : ℕ) where
+  -- The far end of the newest run hangs from it.
   pub hangs-self : a ≡ r .far → t ≡ r .far → hangs (r ∷ rs) t a ≡ true
   unfolding hangs
   hangs-self e f = rw (eq-eqb a (r .far) e, eq-eqb t (r .far) f)
 
+  -- From an older run it hangs where its near end does.
   pub hangs-new : a ≡ r .far → (t ≡ r .far → ⊥) → hangs (r ∷ rs) t a ≡ hangs rs t (r .near)
   unfolding hangs
   hangs-new e f = rw (eq-eqb a (r .far) e, ne-eqb t (r .far) f)
 
+  -- No older pin hangs from the newest run.
   pub hangs-none : (a ≡ r .far → ⊥) → t ≡ r .far → hangs (r ∷ rs) t a ≡ false
   unfolding hangs
   hangs-none e f = rw (ne-eqb a (r .far) e, eq-eqb t (r .far) f)
 
+  -- From an older run the others hang as before.
   pub hangs-old : (a ≡ r .far → ⊥) → (t ≡ r .far → ⊥) → hangs (r ∷ rs) t a ≡ hangs rs t a
   unfolding hangs
   hangs-old e f = rw (ne-eqb a (r .far) e, ne-eqb t (r .far) f)
@@ -118,6 +123,7 @@ pub record Joins (There : ℕ → Type 0) (o : ℕ) (r : Run) (rs : List Run) : 
   pub unmet : ¬ Reached o (r .far) rs
   pub there : There (r .far)
 
+-- Runs that join one pin more each, the newest first.
 pub data Branching (There : ℕ → Type 0) (o : ℕ) : List Run → Type 0 where
   trunk : Branching There o []
   branch : {r : Run} {rs : List Run} → Joins There o r rs → Branching There o rs → Branching There o (r ∷ rs)
@@ -127,19 +133,23 @@ pub record Next (key : ℕ → ℕ → ℕ) (There : ℕ → Type 0) (o : ℕ) (
   pub joins : Joins There o r rs
   pub least : (a b : ℕ) → Reached o a rs → ¬ Reached o b rs → There b → key (r .near) (r .far) ≤ key a b
 
+-- Runs that join it by the earliest pair each.
 pub data Grown (key : ℕ → ℕ → ℕ) (There : ℕ → Type 0) (o : ℕ) : List Run → Type 0 where
   seed : Grown key There o []
   grow : {r : Run} {rs : List Run} → Next key There o r rs → Grown key There o rs → Grown key There o (r ∷ rs)
 
+-- The far end of a run is reached,
 pub far-reached : (o s t : ℕ) {rs : List Run} → HasRun s t rs → Reached o t rs
 far-reached o s t (here e f) = new f
 far-reached o s t (further h) = old (far-reached o s t h)
 
 module _ {There : ℕ → Type 0} {o : ℕ} where
+  -- Runs grown by the earliest pair join one pin more each.
   pub branching : {key : ℕ → ℕ → ℕ} {rs : List Run} → Grown key There o rs → Branching There o rs
   branching seed = trunk
   branching (grow l g) = branch (l .joins) (branching g)
 
+  -- and so is its near end.
   pub near-reached : (s t : ℕ) {rs : List Run} → Branching There o rs → HasRun s t rs → Reached o s rs
   near-reached s t (branch {rs = rs} j w) (here e f) = old (subst (λ (z : ℕ). Reached o z rs) (sym e) (j .from))
   near-reached s t (branch j w) (further h) = old (near-reached s t w h)
@@ -293,6 +303,7 @@ module _ (key : ℕ → ℕ → ℕ) {There : ℕ → Type 0} {o : ℕ} where
             apart = λ e. w .apart (sym (hangs-new r rs (w .t) a p ft) ∙ e ∙ hangs-old r rs (w .t) b fb ft);
           }
 
+  -- There is such a run for any two reached pins.
   pub widest-run : {rs : List Run} → Branching There o rs → (a b : ℕ) → Reached o a rs → Reached o b rs → (a ≡ b → ⊥) → Widest key rs a b
   widest-run trunk a b (start e) (start f) ne = absurd (ne (e ∙ sym f))
   widest-run (branch {r = r} {rs = rs} j w) a b (new p) (new q) ne = absurd (ne (p ∙ sym q))
@@ -332,6 +343,7 @@ module _ {There : ℕ → Type 0} {o : ℕ} where
       let ft = fresh o t (r .far) (far-reached o s t h) (j .unmet) in
       hangs-old r rs t t ft ft ∙ far-hangs w s t h
 
+  -- The near end of a run does not hang from it.
   pub near-stays : {rs : List Run} → Branching There o rs → (s t : ℕ) → HasRun s t rs → hangs rs t s ≡ false
   near-stays (branch {r = r} {rs = rs} j w) s t (here e f) =
       hangs-none r rs t s (λ z. fresh o (r .near) (r .far) (j .from) (j .unmet) (sym e ∙ z)) f

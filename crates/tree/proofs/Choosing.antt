@@ -10,16 +10,15 @@ use lib.Dec.{ltb}
 use lib.ListN.{length, getD}
 use borrow.Author.Tests.{ltb-true, ltb-false}
 use Rattle.refusal.specs.Tests.{choose}
-use Rattle.refusal.proofs.Tests.{choose-yes, choose-no}
+use Rattle.refusal.proofs.Tests.{opposite, decide, choose-yes, choose-no}
 use Rattle.grid.specs.declared.Place.{Place}
 use Rattle.feed.specs.declared.Spot.{Spot}
 use Rattle.grid.specs.Weight.{comesBefore}
 use Rattle.tree.specs.declared.Offer.{Offer}
 use Rattle.tree.specs.declared.Choice.{Choice}
-use Rattle.feed.specs.Feeds.{spotAt}
+use Rattle.feed.specs.Feeds.{mostPins, spotAt}
 use Rattle.tree.specs.Growth.{pairAt}
 use Rattle.tree.specs.Offers.{noOffer, firstOffer, nextOffer, firstOffers, nextOffers, betterChoice, choiceFrom, choiceOf}
-use Rattle.tree.proofs.Deciding.{opposite, decide}
 use Rattle.tree.proofs.Earliest.{Keyed}
 
 -- What pin k keeps.
@@ -27,6 +26,7 @@ abbrev pub offerAt : List Offer → ℕ → Offer
 offerAt offers k = getD offers k noOffer
 
 -- ---- the offers by their pin number
+-- What pin k keeps when the first pin is reached.
 pub first-at : (first : ℕ) (from : Place) (i : ℕ) (feed : List Spot) (k : ℕ) → k < length feed
     → offerAt (firstOffers first from i feed) k ≡ firstOffer first from (i + k) (spotAt feed k)
 unfolding firstOffers
@@ -35,11 +35,13 @@ first-at f p i (s ∷ feed) zero l = ap (λ (z : ℕ). firstOffer f p z s) (omeg
 first-at f p i (s ∷ feed) (suc k) l =
     first-at f p (suc i) feed k (omega arith) ∙ ap (λ (z : ℕ). firstOffer f p z (spotAt feed k)) (omega arith)
 
+-- There are as many of those as spots.
 pub first-many : (first : ℕ) (from : Place) (i : ℕ) (feed : List Spot) → length (firstOffers first from i feed) ≡ length feed
 unfolding firstOffers
 first-many f p i [] = refl
 first-many f p i (s ∷ feed) = ap suc (first-many f p (suc i) feed)
 
+-- What pin k keeps when one more pin is reached.
 pub next-at : (near : ℕ) (from : Place) (i : ℕ) (feed : List Spot) (offers : List Offer) (k : ℕ) → length offers ≡ length feed → k < length feed
     → offerAt (nextOffers near from i feed offers) k ≡ nextOffer near from (i + k) (spotAt feed k) (offerAt offers k)
 unfolding nextOffers
@@ -50,6 +52,7 @@ next-at n p i (s ∷ feed) (o ∷ offers) (suc k) e l =
     next-at n p (suc i) feed offers k (omega arith) (omega arith)
     ∙ ap (λ (z : ℕ). nextOffer n p z (spotAt feed k) (offerAt offers k)) (omega arith)
 
+-- There are as many of those as spots, too.
 pub next-many : (near : ℕ) (from : Place) (i : ℕ) (feed : List Spot) (offers : List Offer) → length offers ≡ length feed
     → length (nextOffers near from i feed offers) ≡ length feed
 unfolding nextOffers
@@ -60,8 +63,8 @@ next-many n p i (s ∷ feed) (o ∷ offers) e = ap suc (next-many n p (suc i) fe
 -- ---- the choice
 -- Pin k waits, with the pair of the pin that offers and itself.
 pub record Open (feed : List Spot) (o : Offer) (k : ℕ) : Type 0 where
-  pub pin : k < 32
-  pub near : o .near < 32
+  pub pin : k < mostPins
+  pub near : o .near < mostPins
   pub pair : o .pair ≡ pairAt feed (o .near) k
 
 -- The choice is the earliest of the offers at the pins below i; it waits if one of them does.

@@ -9,20 +9,20 @@ use native.Mathlib.Omega.{arith}
 use lib.Dec.{ltb}
 use borrow.Author.Tests.{ltb-true, ltb-false}
 use Rattle.refusal.specs.Tests.{choose}
-use Rattle.refusal.proofs.Tests.{choose-yes, choose-no}
+use Rattle.refusal.proofs.Tests.{decide, choose-yes, choose-no}
 use Rattle.feed.specs.declared.Spot.{Spot}
+use Rattle.feed.specs.Feeds.{mostPins}
 use Rattle.grid.specs.Weight.{comesBefore}
 use Rattle.tree.specs.declared.Run.{Run}
 use Rattle.tree.specs.Growth.{run, pairAt, sooner, runsBetween, earliest, earliestOf, nextRun}
-use Rattle.tree.proofs.Deciding.{decide}
 use Rattle.tree.proofs.Membership.{Among, first, later, between-in, in-between}
 
 -- A number for each pair of pins below 32: pairs are in the order of their keys, and equal keys are of one pair.
 pub record Keyed (feed : List Spot) (key : ℕ → ℕ → ℕ) : Type 0 where
   pub swap : (a b : ℕ) → key a b ≡ key b a
-  pub order : (a b c d : ℕ) → a < 32 → b < 32 → c < 32 → d < 32
+  pub order : (a b c d : ℕ) → a < mostPins → b < mostPins → c < mostPins → d < mostPins
       → comesBefore (pairAt feed a b) (pairAt feed c d) ≡ ltb (key a b) (key c d)
-  pub told : (a b c d : ℕ) → a < 32 → b < 32 → c < 32 → d < 32 → key a b ≡ key c d
+  pub told : (a b c d : ℕ) → a < mostPins → b < mostPins → c < mostPins → d < mostPins → key a b ≡ key c d
       → ((a ≡ c) × (b ≡ d)) ⊎ ((a ≡ d) × (b ≡ c))
 
 -- The key of a run.
@@ -31,8 +31,8 @@ keyOf key r = key (r .near) (r .far)
 
 -- Both ends are pin numbers.
 pub record Ends (r : Run) : Type 0 where
-  pub near : r .near < 32
-  pub far : r .far < 32
+  pub near : r .near < mostPins
+  pub far : r .far < mostPins
 
 -- The run joins a reached pin to one that is left, and none that does has a smaller key.
 pub record Earliest (key : ℕ → ℕ → ℕ) (reached left : List ℕ) (r : Run) : Type 0 where
@@ -42,7 +42,7 @@ pub record Earliest (key : ℕ → ℕ → ℕ) (reached left : List ℕ) (r : R
 
 -- Only one run is the earliest, where no reached pin is left.
 pub one-earliest : {feed : List Spot} {key : ℕ → ℕ → ℕ} {reached left : List ℕ} → Keyed feed key
-    → ((a : ℕ) → Among a reached → a < 32) → ((a : ℕ) → Among a left → a < 32) → ((a : ℕ) → Among a reached → Among a left → ⊥)
+    → ((a : ℕ) → Among a reached → a < mostPins) → ((a : ℕ) → Among a left → a < mostPins) → ((a : ℕ) → Among a reached → Among a left → ⊥)
     → (r s : Run) → Earliest key reached left r → Earliest key reached left s → r ≡ s
 one-earliest {key = key} {left = left} k low low' apart r s h g =
     go (k .told (r .near) (r .far) (s .near) (s .far) (low (r .near) (h .from)) (low' (r .far) (h .to)) (low (s .near) (g .from)) (low' (s .far) (g .to))
@@ -66,16 +66,22 @@ module _ {feed : List Spot} {key : ℕ → ℕ → ℕ} (k : Keyed feed key) whe
       same : comesBefore (pairAt feed (s .near) (s .far)) (pairAt feed (r .near) (r .far)) ≡ ltb (keyOf key s) (keyOf key r)
       same = k .order (s .near) (s .far) (r .near) (r .far) (hs .near) (hs .far) (hr .near) (hr .far)
 
-      go : (comesBefore (pairAt feed (s .near) (s .far)) (pairAt feed (r .near) (r .far)) ≡ true) ⊎ (comesBefore (pairAt feed (s .near) (s .far)) (pairAt feed (r .near) (r .far)) ≡ false)
+      go : (comesBefore (pairAt feed (s .near) (s .far)) (pairAt feed (r .near) (r .far)) ≡ true)
+          ⊎ (comesBefore (pairAt feed (s .near) (s .far)) (pairAt feed (r .near) (r .far)) ≡ false)
           → Kept r s (choose (comesBefore (pairAt feed (s .near) (s .far)) (pairAt feed (r .near) (r .far))) s r)
-      go (inl e) = let l = ltb-true (keyOf key s) (keyOf key r) (sym same ∙ e) in rw (choose-yes s r e) (record { one = inr refl; left = omega arith; right = omega arith })
-      go (inr e) = let l = ltb-false (keyOf key s) (keyOf key r) (sym same ∙ e) in rw (choose-no s r e) (record { one = inl refl; left = omega arith; right = omega arith })
+      go (inl e) =
+          let l = ltb-true (keyOf key s) (keyOf key r) (sym same ∙ e) in
+          rw (choose-yes s r e) (record { one = inr refl; left = omega arith; right = omega arith })
+      go (inr e) =
+          let l = ltb-false (keyOf key s) (keyOf key r) (sym same ∙ e) in
+          rw (choose-no s r e) (record { one = inl refl; left = omega arith; right = omega arith })
 
   -- The earliest of a run and some others is one of them, with the least key.
   pub record Least (r : Run) (others : List Run) (e : Run) : Type 0 where
     pub one : Among e (r ∷ others)
     pub least : (s : Run) → Among s (r ∷ others) → keyOf key e ≤ keyOf key s
 
+  -- What the definition takes is such a run.
   pub earliest-least : (r : Run) (others : List Run) → ((s : Run) → Among s (r ∷ others) → Ends s) → Least r others (earliest feed r others)
   unfolding earliest
   earliest-least r [] h = record { one = first refl; least = λ s m. only s m }
@@ -106,7 +112,7 @@ module _ {feed : List Spot} {key : ℕ → ℕ → ℕ} (k : Keyed feed key) whe
           least t (later (later m)) = l .least t (later m)
 
   -- The earliest of a list of runs that holds every run between the reached pins and those left, and no other.
-  pub earliest-of : (reached left : List ℕ) → ((a : ℕ) → Among a reached → a < 32) → ((a : ℕ) → Among a left → a < 32)
+  pub earliest-of : (reached left : List ℕ) → ((a : ℕ) → Among a reached → a < mostPins) → ((a : ℕ) → Among a left → a < mostPins)
       → (r : Run) (l : List Run) → Among r l → ((s : Run) → Among s l → Among (s .near) reached × Among (s .far) left)
       → ((c d : ℕ) → Among c reached → Among d left → Among (run c d) l) → Earliest key reached left (earliestOf feed l)
   unfolding earliestOf
@@ -119,7 +125,7 @@ module _ {feed : List Spot} {key : ℕ → ℕ → ℕ} (k : Keyed feed key) whe
       }
 
   -- The run that is taken next is the earliest.
-  pub next-earliest : (reached left : List ℕ) → ((a : ℕ) → Among a reached → a < 32) → ((a : ℕ) → Among a left → a < 32)
+  pub next-earliest : (reached left : List ℕ) → ((a : ℕ) → Among a reached → a < mostPins) → ((a : ℕ) → Among a left → a < mostPins)
       → (a b : ℕ) → Among a reached → Among b left → Earliest key reached left (nextRun feed reached left)
   unfolding nextRun
   next-earliest reached left low low' a b ha hb =

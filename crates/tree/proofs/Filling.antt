@@ -14,6 +14,7 @@ use Rattle.tree.proofs.Choosing.{first-at, first-many, next-at, next-ma
 
 module _ (f : ℕ) (from : Place) (feed : List Spot) (l o : List Offer) (i : ℕ) (full : length l ≡ length feed)
     (so-far : o ≡ filled (firstOffers f from 0 feed) l i) where
+  -- One more pin gets its first offer.
   pub first-fill : (n : Offer) → i < length feed → n ≡ firstOffer f from i (spotAt feed i) → set o i n ≡ filled (firstOffers f from 0 feed) l (i + 1)
   first-fill n h e =
       let m = first-many f from 0 feed in
@@ -21,11 +22,13 @@ module _ (f : ℕ) (from : Place) (feed : List Spot) (l o : List Offer) (i : ℕ
       e ∙ ap (λ (z : ℕ). firstOffer f from z (spotAt feed i)) (omega arith) ∙ sym (first-at f from 0 feed i h) in
       rw (so-far, q) (filled-turn (firstOffers f from 0 feed) l i noOffer (omega arith) (omega arith))
 
+  -- Where all have, these are the first offers.
   pub first-full : length feed ≤ i → o ≡ firstOffers f from 0 feed
   first-full h = let m = first-many f from 0 feed in so-far ∙ filled-end (firstOffers f from 0 feed) l i (omega arith) (omega arith)
 
 module _ (near : ℕ) (from : Place) (feed : List Spot) (l o : List Offer) (i : ℕ) (full : length l ≡ length feed)
     (so-far : o ≡ filled (nextOffers near from 0 feed l) l i) where
+  -- One more pin gets its next offer.
   pub next-fill : (n : Offer) → i < length feed → n ≡ nextOffer near from i (spotAt feed i) (getD o i noOffer)
       → set o i n ≡ filled (nextOffers near from 0 feed l) l (i + 1)
   next-fill n h e =
@@ -37,6 +40,7 @@ module _ (near : ℕ) (from : Place) (feed : List Spot) (l o : List Offer) (i : 
       ∙ sym (next-at near from 0 feed l i full h) in
       rw (so-far, q) (filled-turn (nextOffers near from 0 feed l) l i noOffer (omega arith) (omega arith))
 
+  -- Where all have, these are the next offers.
   pub next-full : length feed ≤ i → o ≡ nextOffers near from 0 feed l
   next-full h =
       let m = next-many near from 0 feed l full in

@@ -13,7 +13,7 @@ use Rattle.tree.specs.declared.Offer.{Offer}
 use Rattle.tree.specs.declared.Choice.{Choice}
 use Rattle.feed.specs.Feeds.{placeOf, spotAt}
 use Rattle.tree.specs.Growth.{run}
-use Rattle.tree.specs.Trees.{entries}
+use Rattle.tree.specs.Trees.{mostRuns, entries}
 use Rattle.tree.specs.Offers.{nextOffers, choiceOf, takenRuns, takenOf}
 
 -- What the pins keep when pin t is reached.
@@ -34,53 +34,57 @@ unfolding takenRuns
 something feed turns offers e = choose-yes _ [] e
 
 -- One entry more.
-pub entries-more : (l : List Run) (r : Run) → length l < 31 → set (entries l) (length l) r ≡ entries (l ++ (r ∷ []))
+pub entries-more : (l : List Run) (r : Run) → length l < mostRuns → set (entries l) (length l) r ≡ entries (l ++ (r ∷ []))
 unfolding entries
 entries-more l r h =
-    let e : 31 - length l ≡ suc (31 - suc (length l)) = omega arith in
+    let e : mostRuns - length l ≡ suc (mostRuns - suc (length l)) = omega arith in
     let n : length (l ++ (r ∷ [])) ≡ suc (length l) = length-append l (r ∷ []) ∙ omega arith in
     rw (e, n)
-    (set-at l (run 0 0) (replicate (31 - suc (length l)) (run 0 0)) r (length l) refl
-    ∙ sym (append-snoc l r (replicate (31 - suc (length l)) (run 0 0))))
+    (set-at l (run 0 0) (replicate (mostRuns - suc (length l)) (run 0 0)) r (length l) refl
+    ∙ sym (append-snoc l r (replicate (mostRuns - suc (length l)) (run 0 0))))
 
 -- The runs taken so far, in their entries; with those still to be taken they are all.
 pub record Going (feed : List Spot) (opening offers : List Offer) (runs : List Run) (count : ℕ) : Type 0 where
   pub taken : List Run
   pub many : count ≡ length taken
-  pub few : count ≤ 31
+  pub few : count ≤ mostRuns
   pub kept : runs ≡ entries taken
-  pub left : taken ++ takenRuns feed (31 - count) offers ≡ takenRuns feed 31 opening
+  pub left : taken ++ takenRuns feed (mostRuns - count) offers ≡ takenRuns feed mostRuns opening
 
-pub going-start : (feed : List Spot) (opening : List Offer) → Going feed opening opening (replicate 31 (run 0 0)) 0
+-- At the start nothing is taken.
+pub going-start : (feed : List Spot) (opening : List Offer) → Going feed opening opening (replicate mostRuns (run 0 0)) 0
 unfolding entries
 going-start feed opening = record { taken = []; many = refl; few = omega arith; kept = refl; left = refl }
 
 module _ {feed : List Spot} {opening offers : List Offer} {runs : List Run} {count : ℕ} (g : Going feed opening offers runs count) where
-  pub going-turn : (c : Choice) (next : List Offer) → c ≡ choiceOf offers → c .offer .waits ≡ true → count < 31 → next ≡ after feed (c .pin) offers
+  -- At a turn the earliest offer is taken.
+  pub going-turn : (c : Choice) (next : List Offer) → c ≡ choiceOf offers → c .offer .waits ≡ true → count < mostRuns → next ≡ after feed (c .pin) offers
       → Going feed opening next (set runs count (run (c .offer .near) (c .pin))) (count + 1)
   going-turn c next ec w h en =
-      let e : 31 - count ≡ suc (31 - (count + 1)) = omega arith in
+      let e : mostRuns - count ≡ suc (mostRuns - (count + 1)) = omega arith in
       let r : Run = run (c .offer .near) (c .pin) in
-      let one : takenRuns feed (31 - count) offers ≡ r ∷ takenRuns feed (31 - (count + 1)) next =
-      rw (e, en, ec) (something feed (31 - (count + 1)) offers (rw ec at w)) in
+      let one : takenRuns feed (mostRuns - count) offers ≡ r ∷ takenRuns feed (mostRuns - (count + 1)) next =
+      rw (e, en, ec) (something feed (mostRuns - (count + 1)) offers (rw ec at w)) in
       record {
         taken = g .taken ++ (r ∷ []);
         many = omega (arith, length-append (g .taken) (r ∷ []), g .many);
         few = omega arith;
         kept = rw (g .kept, g .many) (entries-more (g .taken) r (omega (arith, g .many)));
-        left = append-snoc (g .taken) r (takenRuns feed (31 - (count + 1)) next) ∙ ap (λ (l : List Run). g .taken ++ l) (sym one) ∙ g .left;
+        left = append-snoc (g .taken) r (takenRuns feed (mostRuns - (count + 1)) next) ∙ ap (λ (l : List Run). g .taken ++ l) (sym one) ∙ g .left;
       }
 
-  pub going-all : takenRuns feed (31 - count) offers ≡ [] → record { count = count; runs = runs } ≡ takenOf (takenRuns feed 31 opening)
+  -- Where nothing is left to take, all is taken.
+  pub going-all : takenRuns feed (mostRuns - count) offers ≡ [] → record { count = count; runs = runs } ≡ takenOf (takenRuns feed mostRuns opening)
   unfolding takenOf
   going-all e =
-      let l : g .taken ≡ takenRuns feed 31 opening = sym (append-nil (g .taken)) ∙ ap (λ (m : List Run). g .taken ++ m) (sym e) ∙ g .left in
+      let l : g .taken ≡ takenRuns feed mostRuns opening = sym (append-nil (g .taken)) ∙ ap (λ (m : List Run). g .taken ++ m) (sym e) ∙ g .left in
       λ i. record { count = (g .many ∙ ap length l) i; runs = (g .kept ∙ ap entries l) i }
 
-  -- It stops where no pin waits, and after 31 turns.
-  pub going-stop : (c : Choice) → c ≡ choiceOf offers → c .offer .waits ≡ false → record { count = count; runs = runs } ≡ takenOf (takenRuns feed 31 opening)
-  going-stop c ec w = going-all (nothing feed (31 - count) offers (rw ec at w))
+  -- So it is where no pin waits,
+  pub going-stop : (c : Choice) → c ≡ choiceOf offers → c .offer .waits ≡ false → record { count = count; runs = runs } ≡ takenOf (takenRuns feed mostRuns opening)
+  going-stop c ec w = going-all (nothing feed (mostRuns - count) offers (rw ec at w))
 
-  pub going-end : 31 ≤ count → record { count = count; runs = runs } ≡ takenOf (takenRuns feed 31 opening)
+  -- and after the last turn.
+  pub going-end : mostRuns ≤ count → record { count = count; runs = runs } ≡ takenOf (takenRuns feed mostRuns opening)
   unfolding takenRuns
-  going-end h = let e : 31 - count ≡ 0 = omega arith in going-all (rw e refl)
+  going-end h = let e : mostRuns - count ≡ 0 = omega arith in going-all (rw e refl)

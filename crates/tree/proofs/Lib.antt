@@ -1,6 +1,5 @@
 -- What is proved of the tree beside the functions' contracts.
 pub mod Worked
-pub mod Deciding
 pub mod Arms
 pub mod Loops
 pub mod Membership

@@ -10,7 +10,7 @@ use lib.ListN.{length, getD}
 use Rattle.feed.specs.declared.Spot.{Spot}
 use Rattle.grid.proofs.Flat.{same-or-not}
 use Rattle.tree.specs.declared.Run.{Run}
-use Rattle.feed.specs.Feeds.{allWithin}
+use Rattle.feed.specs.Feeds.{mostPins, allWithin}
 use Rattle.tree.specs.Growth.{run, pinsOf, without, nextRun, grown, runsAmong, runsOf}
 use Rattle.tree.proofs.Membership.{Among, first, later, Distinct, also, without-in, in-without, length-without, distinct-without, pins-there, pins-distinct}
 use Rattle.tree.proofs.Earliest.{Keyed, Earliest, next-earliest}
@@ -25,7 +25,7 @@ pub data Listed (key : ℕ → ℕ → ℕ) : List ℕ → List ℕ → List Run
 
 -- The growth lists them so.
 pub grown-listed : {feed : List Spot} {key : ℕ → ℕ → ℕ} → Keyed feed key → (turns : ℕ) (reached left : List ℕ) (a : ℕ) → Among a reached
-    → ((b : ℕ) → Among b reached → b < 32) → ((b : ℕ) → Among b left → b < 32) → Distinct left → length left ≡ turns
+    → ((b : ℕ) → Among b reached → b < mostPins) → ((b : ℕ) → Among b left → b < mostPins) → Distinct left → length left ≡ turns
     → Listed key reached left (grown feed turns reached left)
 unfolding grown
 grown-listed k zero reached [] a ha low low' d e = done
@@ -39,14 +39,15 @@ grown-listed {feed} k (suc turns) reached (b ∷ left) a ha low low' d e =
     (grown-listed k turns (t ∷ reached) (without t (b ∷ left)) t (first refl) (lows t (h .to))
     (λ c m. low' c (without-in t (b ∷ left) m .0)) (distinct-without t d) (omega arith))
   where
-    lows : (t : ℕ) → Among t (b ∷ left) → (c : ℕ) → Among c (t ∷ reached) → c < 32
+    lows : (t : ℕ) → Among t (b ∷ left) → (c : ℕ) → Among c (t ∷ reached) → c < mostPins
     lows t m c (first q) = omega (arith, low' t m)
     lows t m c (later n) = low c n
 
--- The near and the far pin of the run at a position.
+-- The near pin of the run at a position,
 abbrev pub nearAt : List Run → ℕ → ℕ
 nearAt runs r = getD runs r (run 0 0) .near
 
+-- and its far pin.
 abbrev pub farAt : List Run → ℕ → ℕ
 farAt runs r = getD runs r (run 0 0) .far
 
@@ -103,6 +104,7 @@ pub record Rooted (first : ℕ) (left : List ℕ) (runs : List Run) : Type 0 whe
   -- Every pin but the first is the far pin of a run.
   pub all-reached : (p : ℕ) → Among p left → (r : ℕ) × (r < length runs) × (p ≡ farAt runs r)
 
+-- Runs listed so, from the first pin on, are such runs.
 pub listed-rooted : {key : ℕ → ℕ → ℕ} {f : ℕ} {left : List ℕ} {runs : List Run} → Distinct (f ∷ left) → Listed key (f ∷ []) left runs → Rooted f left runs
 listed-rooted {f = f} {left = left} {runs = runs} (also out d) l =
     record {
@@ -168,21 +170,23 @@ listed-grown {key = key} {There = There} {o = o} (taking {reached = reached} {le
     into' a t n = in-without (r .far) (into a t (λ h. n (old h))) (λ q. n (new q))
 
 -- ---- the runs of a feed
-module _ (feed : List Spot) (full : length feed ≡ 32) (ok : allWithin feed ≡ true) (f : ℕ) (left : List ℕ) (e : pinsOf feed ≡ f ∷ left) where
+module _ (feed : List Spot) (full : length feed ≡ mostPins) (ok : allWithin feed ≡ true) (f : ℕ) (left : List ℕ) (e : pinsOf feed ≡ f ∷ left) where
   distinct : Distinct (f ∷ left)
   unfolding pinsOf
   distinct = rw e at (pins-distinct 0 feed)
 
-  pub pins-low : (a : ℕ) → Among a (f ∷ left) → a < 32
+  -- The pins of a feed have numbers below 32.
+  pub pins-low : (a : ℕ) → Among a (f ∷ left) → a < mostPins
   unfolding pinsOf
   pins-low a m = let z = pins-there 0 feed (rw (sym e) at m) in omega (arith, z .1, z .2)
 
+  -- The runs of a feed are listed so.
   pub runs-listed : Listed (keyAt feed) (f ∷ []) left (runsOf feed)
   unfolding runsOf runsAmong
   runs-listed =
       rw e (grown-listed (keyed feed ok) (length left) (f ∷ []) left f (first refl) low (λ b m. pins-low b (later m)) (rest distinct) refl)
     where
-      low : (b : ℕ) → Among b (f ∷ []) → b < 32
+      low : (b : ℕ) → Among b (f ∷ []) → b < mostPins
       low b (first q) = omega (arith, pins-low f (first refl))
 
       rest : Distinct (f ∷ left) → Distinct left

@@ -9,14 +9,13 @@ use lib.Dec.{eqb}
 use lib.ListN.{length, getD}
 use borrow.Author.Tests.{eq-eqb, ne-eqb}
 use Rattle.refusal.specs.Tests.{choose}
-use Rattle.refusal.proofs.Tests.{choose-yes, choose-no}
+use Rattle.refusal.proofs.Tests.{opposite, choose-yes, choose-no}
 use Rattle.feed.specs.declared.Spot.{Spot}
 use Rattle.feed.specs.declared.Spot.the-variants.{Absent}
 use Rattle.grid.proofs.Flat.{same-or-not}
 use Rattle.tree.specs.declared.Run.{Run}
 use Rattle.feed.specs.Feeds.{present}
 use Rattle.tree.specs.Growth.{run, keptIf, pinsFrom, without, runsFrom, runsBetween}
-use Rattle.tree.proofs.Deciding.{opposite}
 
 -- a stands in the list.
 pub data Among {A : Type 0} (a : A) : List A → Type 0 where
@@ -28,37 +27,45 @@ pub data Distinct : List ℕ → Type 0 where
   none : Distinct []
   also : {a : ℕ} {l : List ℕ} → (Among a l → ⊥) → Distinct l → Distinct (a ∷ l)
 
+-- What stands in a list stands in it with others after it,
 pub in-front : {A : Type 0} {a : A} {l : List A} (m : List A) → Among a l → Among a (l ++ m)
 in-front m (first e) = first e
 in-front m (later h) = later (in-front m h)
 
+-- and with others before it;
 pub in-back : {A : Type 0} {a : A} (l : List A) {m : List A} → Among a m → Among a (l ++ m)
 in-back [] h = h
 in-back (b ∷ l) h = later (in-back l h)
 
+-- and what stands in two lists joined stands in one of them.
 pub in-either : {A : Type 0} {a : A} (l : List A) {m : List A} → Among a (l ++ m) → Among a l ⊎ Among a m
 in-either [] h = inr h
 in-either (b ∷ l) (first e) = inl (first e)
 in-either (b ∷ l) (later h) = ⊎-elim (λ k. inl (later k)) (λ k. inr k) (in-either l h)
 
 -- ---- a number before others, where a test holds
+-- Where the test holds, the number comes first;
 pub kept-yes : {t : Bool} (n : ℕ) (l : List ℕ) → t ≡ true → keptIf t n l ≡ n ∷ l
 unfolding keptIf
 kept-yes n l e = rw e
 
+-- where it fails, it is left out.
 pub kept-no : {t : Bool} (n : ℕ) (l : List ℕ) → t ≡ false → keptIf t n l ≡ l
 unfolding keptIf
 kept-no n l e = rw e
 
+-- What stands there is that number, or stood there before.
 pub in-kept : {a n : ℕ} (t : Bool) {l : List ℕ} → Among a (keptIf t n l) → ((t ≡ true) × (a ≡ n)) ⊎ Among a l
 unfolding keptIf
 in-kept true (first e) = inl (refl, e)
 in-kept true (later h) = inr h
 in-kept false h = inr h
 
+-- That number stands there where the test holds,
 pub kept-new : {a n : ℕ} {t : Bool} (l : List ℕ) → t ≡ true → a ≡ n → Among a (keptIf t n l)
 kept-new {n = n} l e f = rw (kept-yes n l e) (first f)
 
+-- and what stood there before still does.
 pub kept-old : {a : ℕ} (n : ℕ) (t : Bool) {l : List ℕ} → Among a l → Among a (keptIf t n l)
 unfolding keptIf
 kept-old n true h = later h
@@ -75,6 +82,7 @@ differs-no m n e q = opposite e (choose-yes false true (eq-eqb m n q))
 differs-yes : (m n : ℕ) → (m ≡ n → ⊥) → differs m n ≡ true
 differs-yes m n q = choose-no false true (ne-eqb m n q)
 
+-- What is left without a pin stood there before, and is another.
 pub without-in : {a : ℕ} (n : ℕ) (l : List ℕ) → Among a (without n l) → Among a l × (a ≡ n → ⊥)
 unfolding without
 without-in {a} n (m ∷ l) h = go (in-kept (differs m n) h) (without-in n l)
@@ -83,17 +91,20 @@ without-in {a} n (m ∷ l) h = go (in-kept (differs m n) h) (without-in n l)
     go (inl e) ih = (first (e .1), λ q. differs-no m n (e .0) (sym (e .1) ∙ q))
     go (inr k) ih = (later (ih k .0), ih k .1)
 
+-- Any other pin is left.
 pub in-without : {a : ℕ} (n : ℕ) {l : List ℕ} → Among a l → (a ≡ n → ⊥) → Among a (without n l)
 unfolding without
 in-without n (first {b = m} {l = l} e) ne = kept-new (without n l) (differs-yes m n (λ q. ne (e ∙ q))) e
 in-without n (later {b = m} h) ne = kept-old m (differs m n) (in-without n h ne)
 
+-- Without a pin that is not there all are left.
 pub without-none : (n : ℕ) (l : List ℕ) → (Among n l → ⊥) → without n l ≡ l
 unfolding without
 without-none n [] h = refl
 without-none n (m ∷ l) h =
     kept-yes m (without n l) (differs-yes m n (λ q. h (first (sym q)))) ∙ ap (_∷_ m) (without-none n l (λ k. h (later k)))
 
+-- Without a pin that is there one fewer is left.
 pub length-without : (n : ℕ) {l : List ℕ} → Distinct l → Among n l → length l ≡ suc (length (without n l))
 unfolding without
 length-without n (also {a = m} {l = l} d ds) h = go (same-or-not m n) h (length-without n ds)
@@ -109,12 +120,14 @@ unfolding keptIf
 distinct-kept m true d k = also d k
 distinct-kept m false d k = k
 
+-- What is left stands there once.
 pub distinct-without : (n : ℕ) {l : List ℕ} → Distinct l → Distinct (without n l)
 unfolding without
 distinct-without n none = none
 distinct-without n (also {a = m} {l = l} d ds) = distinct-kept m (differs m n) (λ w. d (without-in n l w .0)) (distinct-without n ds)
 
 -- ---- the pins that are there: pin i + k stands among them where the k-th spot has a pin
+-- What stands among the pins is the number of a spot that has a pin,
 pub pins-there : {a : ℕ} (i : ℕ) (feed : List Spot) → Among a (pinsFrom i feed)
     → (k : ℕ) × (a ≡ i + k) × (k < length feed) × (present (getD feed k Absent) ≡ true)
 unfolding pinsFrom
@@ -126,6 +139,7 @@ pins-there {a} i (s ∷ feed) h = go (in-kept (present s) h) (pins-there (suc i)
     go (inl e) ih = (0, omega (arith, e .1), omega arith, e .0)
     go (inr m) ih = let z = ih m in (suc (z .0), omega (arith, z .1), omega (arith, z .2), z .3)
 
+-- and the number of every such spot stands there.
 pub there-pins : (i : ℕ) (feed : List Spot) (k : ℕ) → k < length feed → present (getD feed k Absent) ≡ true → Among (i + k) (pinsFrom i feed)
 unfolding pinsFrom
 there-pins i [] k l e = absurd (omega arith)
@@ -134,6 +148,7 @@ there-pins i (s ∷ feed) (suc k) l e =
     let q : i + suc k ≡ suc i + k = omega arith in
     rw q (kept-old i (present s) (there-pins (suc i) feed k (omega arith) e))
 
+-- Each pin stands there once.
 pub pins-distinct : (i : ℕ) (feed : List Spot) → Distinct (pinsFrom i feed)
 unfolding pinsFrom
 pins-distinct i [] = none
@@ -150,6 +165,7 @@ above-kept i true l f left up ih e a m =
     rw (sym p) (up a (rw (sym q) at m))
 above-kept i false l f left up ih e a m = ih e a m
 
+-- Every other pin has a higher number than the first.
 pub first-lowest : (i : ℕ) (feed : List Spot) (f : ℕ) (left : List ℕ) → pinsFrom i feed ≡ f ∷ left → (a : ℕ) → Among a left → f < a
 unfolding pinsFrom
 first-lowest i [] f left e a m = let z : _≡_ {A = ℕ} 0 1 = cc in absurd (omega arith)
@@ -162,6 +178,7 @@ unfolding keptIf
 few-kept n true l m h = omega arith
 few-kept n false l m h = omega arith
 
+-- There are no more pins than spots.
 pub pins-few : (i : ℕ) (feed : List Spot) → length (pinsFrom i feed) ≤ length feed
 unfolding pinsFrom
 pins-few i [] = omega arith
@@ -178,6 +195,7 @@ unfolding runsFrom
 in-from near (first e) = first (ap (run near) e)
 in-from near (later h) = later (in-from near h)
 
+-- A run between goes from one of the near pins to one of the far ones,
 pub between-in : {r : Run} (nears fars : List ℕ) → Among r (runsBetween nears fars) → Among (r .near) nears × Among (r .far) fars
 unfolding runsBetween
 between-in {r} (n ∷ nears) fars h = go (in-either (runsFrom n fars) h) (between-in nears fars)
@@ -190,6 +208,7 @@ between-in {r} (n ∷ nears) fars h = go (in-either (runsFrom n fars) h) (betwee
 as-near : {a n b : ℕ} {l : List Run} → a ≡ n → Among (run n b) l → Among (run a b) l
 as-near e h = rw e h
 
+-- and every such run stands there.
 pub in-between : {a b : ℕ} {nears : List ℕ} (fars : List ℕ) → Among a nears → Among b fars → Among (run a b) (runsBetween nears fars)
 unfolding runsBetween
 in-between fars (first {b = n} {l = nears} e) k = in-front (runsBetween nears fars) (as-near e (in-from n k))

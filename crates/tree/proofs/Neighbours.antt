@@ -1,7 +1,7 @@
 -- The pins that runs join to one pin: each of them once, and no pair of them comes before either of their runs to it.
 -- For any key of pairs, and any pins that are there.
 use mathlib.Core.Path.{_≡_, refl, sym, _∙_, subst}
-use mathlib.Core.Bool.{Bool, true, false}
+use mathlib.Core.Bool.{Bool, true, false, cond}
 use mathlib.Core.List.{List, [], _∷_}
 use mathlib.Core.Logic.{_⊎_, inl, inr}
 use Prim.Native.Nat.{ℕ, _≤_, max}
@@ -9,7 +9,7 @@ use native.Mathlib.Omega.{arith}
 use lib.Dec.{eqb}
 use borrow.Author.Tests.{eqb-true}
 use Rattle.tree.specs.declared.Run.{Run}
-use Rattle.tree.proofs.Branches.{pick, Reached, new, old, fresh, HasRun, here, further, widest, widest-self, widest-swap, widest-left, widest-right, widest-old, Branching, trunk, branch, Grown, branching, far-reached, near-reached, way-least}
+use Rattle.tree.proofs.Branches.{Reached, new, old, fresh, HasRun, here, further, widest, widest-self, widest-swap, widest-left, widest-right, widest-old, Branching, trunk, branch, Grown, branching, far-reached, near-reached, way-least}
 
 -- i and j are the ends of a run.
 pub data Joined (i j : ℕ) : List Run → Type 0 where
@@ -18,6 +18,7 @@ pub data Joined (i j : ℕ) : List Run → Type 0 where
   beyond : {r : Run} {rs : List Run} → Joined i j rs → Joined i j (r ∷ rs)
 
 module _ {There : ℕ → Type 0} {o : ℕ} where
+  -- Both ends of a run are reached.
   pub joined-reached : {rs : List Run} → Branching There o rs → (i j : ℕ) → Joined i j rs → Reached o i rs × Reached o j rs
   joined-reached (branch {rs = rs} z w) i j (onward e f) = (old (subst (λ (y : ℕ). Reached o y rs) (sym e) (z .from)), new f)
   joined-reached (branch {rs = rs} z w) i j (backward e f) = (new e, old (subst (λ (y : ℕ). Reached o y rs) (sym f) (z .from)))
@@ -84,7 +85,7 @@ module _ (key : ℕ → ℕ → ℕ) (swap : (a b : ℕ) → key a b ≡ key b a
 -- ---- all pins that runs join to one
 unfoldable pub around : ℕ → List Run → List ℕ
 around i [] = []
-around i (r ∷ rs) = pick (eqb i (r .near)) (r .far ∷ around i rs) (pick (eqb i (r .far)) (r .near ∷ around i rs) (around i rs))
+around i (r ∷ rs) = cond (eqb i (r .near)) (r .far ∷ around i rs) (cond (eqb i (r .far)) (r .near ∷ around i rs) (around i rs))
 
 -- Each member is so.
 pub data All (P : ℕ → Type 0) : List ℕ → Type 0 where
@@ -96,29 +97,32 @@ pub data Pairwise (R : ℕ → ℕ → Type 0) : List ℕ → Type 0 where
   none : Pairwise R []
   also : {a : ℕ} {l : List ℕ} → All (R a) l → Pairwise R l → Pairwise R (a ∷ l)
 
+-- What holds of each member, told in other words.
 pub all-map : {P Q : ℕ → Type 0} → ((b : ℕ) → P b → Q b) → {l : List ℕ} → All P l → All Q l
 all-map g none = none
 all-map g (also h k) = also (g _ h) (all-map g k)
 
+-- Runs join each of them to the pin.
 pub around-joined : (i : ℕ) (rs : List Run) → All (λ (b : ℕ). Joined i b rs) (around i rs)
 unfolding around
 around-joined i [] = none
 around-joined i (r ∷ rs) = go (eqb i (r .near)) (eqb i (r .far)) refl refl (all-map (λ b h. beyond h) (around-joined i rs))
   where
     go : (p q : Bool) → eqb i (r .near) ≡ p → eqb i (r .far) ≡ q → All (λ (b : ℕ). Joined i b (r ∷ rs)) (around i rs)
-        → All (λ (b : ℕ). Joined i b (r ∷ rs)) (pick p (r .far ∷ around i rs) (pick q (r .near ∷ around i rs) (around i rs)))
+        → All (λ (b : ℕ). Joined i b (r ∷ rs)) (cond p (r .far ∷ around i rs) (cond q (r .near ∷ around i rs) (around i rs)))
     go true q e f h = also (onward (eqb-true i (r .near) e) refl) h
     go false true e f h = also (backward (eqb-true i (r .far) f) refl) h
     go false false e f h = h
 
 module _ {There : ℕ → Type 0} {o : ℕ} where
+  -- Each of them stands there once.
   pub around-once : (i : ℕ) {rs : List Run} → Branching There o rs → Pairwise (λ (a b : ℕ). a ≡ b → ⊥) (around i rs)
   unfolding around
   around-once i trunk = Pairwise.none
   around-once i (branch {r = r} {rs = rs} j w) = go (eqb i (r .near)) (eqb i (r .far)) refl (around-once i w)
     where
       go : (p q : Bool) → eqb i (r .far) ≡ q → Pairwise (λ (a b : ℕ). a ≡ b → ⊥) (around i rs)
-          → Pairwise (λ (a b : ℕ). a ≡ b → ⊥) (pick p (r .far ∷ around i rs) (pick q (r .near ∷ around i rs) (around i rs)))
+          → Pairwise (λ (a b : ℕ). a ≡ b → ⊥) (cond p (r .far ∷ around i rs) (cond q (r .near ∷ around i rs) (around i rs)))
       go true q f h = Pairwise.also (all-map (λ b k z. fresh o b (r .far) (joined-reached w i b k .1) (j .unmet) (sym z)) (around-joined i rs)) h
       go false true f h = Pairwise.also (all-map (λ b k z. fresh o i (r .far) (joined-reached w i b k .0) (j .unmet) (eqb-true i (r .far) f)) (around-joined i rs)) h
       go false false f h = h

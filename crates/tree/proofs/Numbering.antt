@@ -8,7 +8,7 @@ use Rattle.feed.specs.declared.Spot.{Spot}
 use Rattle.grid.proofs.Flat.{Site, site, place-held}
 use Rattle.grid.proofs.Keys.{OnBoard, on-board, Fits, key, key-swap, key-one, before-key}
 use Rattle.grid.proofs.Order.{Pin, pin-fits}
-use Rattle.feed.specs.Feeds.{placeOf, spotAt, allWithin}
+use Rattle.feed.specs.Feeds.{mostPins, placeOf, spotAt, allWithin}
 use Rattle.tree.specs.Growth.{pairAt}
 use Rattle.feed.proofs.Rules.{inside-at}
 use Rattle.tree.proofs.Earliest.{Keyed}
@@ -26,13 +26,15 @@ module _ (feed : List Spot) (ok : allWithin feed ≡ true) where
   pub stands : (a : ℕ) → OnBoard (placeOf (spotAt feed a))
   stands a = on-board (place-held (placeOf (spotAt feed a)) (inside-at feed ok a)) (inside-at feed ok a)
 
-  pin : (a : ℕ) → a < 32 → Pin
+  pin : (a : ℕ) → a < mostPins → Pin
   pin a h = record { number = a; place = placeOf (spotAt feed a); few = h; on = stands a }
 
-  pub fits : (a : ℕ) → a < 32 → Fits (siteAt feed a) a
+  -- The site and the number of a pin fit the digits of a key.
+  pub fits : (a : ℕ) → a < mostPins → Fits (siteAt feed a) a
   unfolding pin
   fits a h = pin-fits (pin a h)
 
+  -- These keys order the pairs of the feed's pins.
   pub keyed : Keyed feed (keyAt feed)
   unfolding keyAt pairAt
   keyed =

@@ -9,17 +9,16 @@ use lib.ListN.{length, take, replicate}
 use lib.Seq.{take-append-seam}
 use Rattle.refusal.specs.Tests.{choose}
 use Rattle.refusal.specs.declared.Verdict.the-variants.{Accepted, NoPins, BoxesMeet}
-use Rattle.refusal.proofs.Tests.{choose-yes, choose-no}
+use Rattle.refusal.proofs.Tests.{decide, choose-yes, choose-no}
 use Rattle.feed.specs.declared.Spot.{Spot}
 use Rattle.tree.specs.declared.Run.{Run}
 use Rattle.tree.specs.declared.Offer.{Offer}
 use Rattle.tree.specs.declared.Taken.{Taken}
-use Rattle.feed.specs.Feeds.{present, placeOf, spotAt, allWithin}
+use Rattle.feed.specs.Feeds.{mostPins, present, placeOf, spotAt, allWithin}
 use Rattle.tree.specs.Growth.{run, pinsFrom, pinsOf, runsOf}
 use Rattle.tree.specs.Boxes.{boxesMeet}
-use Rattle.tree.specs.Trees.{entries, treeWith, none, treeOf}
+use Rattle.tree.specs.Trees.{mostRuns, entries, treeWith, none, treeOf}
 use Rattle.tree.specs.Offers.{firstOffers, choiceOf, takenRuns, takenOf, firstFrom}
-use Rattle.tree.proofs.Deciding.{decide}
 use Rattle.tree.proofs.Membership.{kept-yes, kept-no}
 use Rattle.tree.proofs.Going.{after, nothing, something}
 use Rattle.tree.proofs.Numbering.{keyed}
@@ -31,6 +30,7 @@ pub data First (i : ℕ) (feed : List Spot) : Type 0 where
   nowhere : firstFrom i feed ≡ i + length feed → pinsFrom i feed ≡ [] → First i feed
   there : firstFrom i feed < i + length feed → (left : List ℕ) → pinsFrom i feed ≡ firstFrom i feed ∷ left → First i feed
 
+-- Every feed has one or the other.
 pub first-of : (i : ℕ) (feed : List Spot) → First i feed
 unfolding firstFrom pinsFrom
 first-of i [] = nowhere (omega arith) refl
@@ -51,6 +51,7 @@ first-of i (s ∷ feed) = go (decide (present s)) (first-of (suc i) feed)
         there (omega arith) left (kept-no i (pinsFrom (suc i) feed) e ∙ p ∙ ap (λ (z : ℕ). z ∷ left) (sym g))
 
 -- ---- how many runs are taken
+-- No more runs are taken than there are turns.
 pub taken-few : (feed : List Spot) (turns : ℕ) (offers : List Offer) → length (takenRuns feed turns offers) ≤ turns
 unfolding takenRuns
 taken-few feed zero offers = omega arith
@@ -64,25 +65,28 @@ taken-few feed (suc turns) offers = go (decide (choiceOf offers .offer .waits)) 
 -- The first entries of an answer are its runs.
 pub take-entries : (l : List Run) → take (length l) (entries l) ≡ l
 unfolding entries
-take-entries l = take-append-seam l (replicate (31 - length l) (run 0 0))
+take-entries l = take-append-seam l (replicate (mostRuns - length l) (run 0 0))
 
 -- ---- the three outcomes
-pub no-pins : (feed : List Spot) → length feed ≡ 32 → firstFrom 0 feed ≡ 32 → treeWith NoPins [] ≡ treeOf feed
+-- 17, where no pin is there.
+pub no-pins : (feed : List Spot) → length feed ≡ mostPins → firstFrom 0 feed ≡ mostPins → treeWith NoPins [] ≡ treeOf feed
 unfolding treeOf pinsOf
 no-pins feed full e = go (first-of 0 feed)
   where
-    go : First 0 feed → treeWith NoPins [] ≡ choose (none (pinsFrom 0 feed)) (treeWith NoPins []) (choose (boxesMeet feed (runsOf feed)) (treeWith BoxesMeet []) (treeWith Accepted (runsOf feed)))
+    go : First 0 feed → treeWith NoPins [] ≡ choose (none (pinsFrom 0 feed)) (treeWith NoPins [])
+        (choose (boxesMeet feed (runsOf feed)) (treeWith BoxesMeet []) (treeWith Accepted (runsOf feed)))
     go (nowhere f p) = sym (choose-yes _ _ (ap none p))
     go (there f left p) = absurd (omega arith)
 
-module _ (feed : List Spot) (full : length feed ≡ 32) (ok : allWithin feed ≡ true) (t : Taken)
-    (e : t ≡ takenOf (takenRuns feed 31 (firstOffers (firstFrom 0 feed) (placeOf (spotAt feed (firstFrom 0 feed))) 0 feed))) where
-  pub count-few : t .count ≤ 31
+module _ (feed : List Spot) (full : length feed ≡ mostPins) (ok : allWithin feed ≡ true) (t : Taken)
+    (e : t ≡ takenOf (takenRuns feed mostRuns (firstOffers (firstFrom 0 feed) (placeOf (spotAt feed (firstFrom 0 feed))) 0 feed))) where
+  -- There are 31 runs at most.
+  pub count-few : t .count ≤ mostRuns
   unfolding takenOf
   count-few =
-      rw e (taken-few feed 31 (firstOffers (firstFrom 0 feed) (placeOf (spotAt feed (firstFrom 0 feed))) 0 feed))
+      rw e (taken-few feed mostRuns (firstOffers (firstFrom 0 feed) (placeOf (spotAt feed (firstFrom 0 feed))) 0 feed))
 
-  module _ (some : firstFrom 0 feed ≡ 32 → ⊥) where
+  module _ (some : firstFrom 0 feed ≡ mostPins → ⊥) where
     pins-some : none (pinsOf feed) ≡ false
     unfolding pinsOf
     pins-some = go (first-of 0 feed)
@@ -95,7 +99,7 @@ module _ (feed : List Spot) (full : length feed ≡ 32) (ok : allWithin feed ≡
     unfolding pinsOf
     taken-is = e ∙ ap takenOf (go (first-of 0 feed))
       where
-        go : First 0 feed → takenRuns feed 31 (firstOffers (firstFrom 0 feed) (placeOf (spotAt feed (firstFrom 0 feed))) 0 feed) ≡ runsOf feed
+        go : First 0 feed → takenRuns feed mostRuns (firstOffers (firstFrom 0 feed) (placeOf (spotAt feed (firstFrom 0 feed))) 0 feed) ≡ runsOf feed
         go (nowhere f p) = absurd (some (omega arith))
         go (there f left p) = taken-runs (keyed feed ok) full (firstFrom 0 feed) left p
 
@@ -103,10 +107,12 @@ module _ (feed : List Spot) (full : length feed ≡ 32) (ok : allWithin feed ≡
     unfolding takenOf
     meet-is = ap (boxesMeet feed) (rw taken-is (take-entries (runsOf feed)))
 
+    -- 18, where boxes of the runs taken meet.
     pub boxes-meet : boxesMeet feed (take (t .count) (t .runs)) ≡ true → treeWith BoxesMeet [] ≡ treeOf feed
     unfolding treeOf
     boxes-meet h = sym (choose-no _ _ pins-some ∙ choose-yes _ _ (sym meet-is ∙ h))
 
+    -- Else the runs taken.
     pub the-runs : boxesMeet feed (take (t .count) (t .runs)) ≡ false
         → record { verdict = Accepted; count = t .count; runs = t .runs } ≡ treeOf feed
     unfolding treeOf treeWith takenOf

@@ -12,7 +12,7 @@ use Rattle.feed.specs.declared.Spot.{Spot}
 use Rattle.grid.specs.Weight.{comesBefore}
 use Rattle.grid.proofs.Flat.{same-or-not}
 use Rattle.tree.specs.declared.Run.{Run}
-use Rattle.feed.specs.Feeds.{allWithin}
+use Rattle.feed.specs.Feeds.{mostPins, allWithin}
 use Rattle.tree.specs.Growth.{run, pairAt, pinsOf, runsAmong, runsOf}
 use Rattle.tree.proofs.Membership.{Among, first, later, without-in}
 use Rattle.tree.proofs.Earliest.{Keyed}
@@ -35,12 +35,14 @@ CutBefore feed pins runs =
     → Way rest a (r .near) → Way rest b (r .far) → (Ends r a b → ⊥) → comesBefore (pairAt feed (r .near) (r .far)) (pairAt feed a b) ≡ true
 
 -- ---- between the two orders of a list
+-- What stands in one of two lists stands in both, the first turned round,
 pub in-turned : {r : Run} (l : List Run) {m : List Run} → Among r l ⊎ Among r m → Among r (reverseAux l m)
 in-turned [] (inr h) = h
 in-turned (q ∷ l) (inl (first e)) = in-turned l (inr (first e))
 in-turned (q ∷ l) (inl (later h)) = in-turned l (inl h)
 in-turned (q ∷ l) (inr h) = in-turned l (inr (later h))
 
+-- and the other way round.
 pub turned-in : {r : Run} (l : List Run) {m : List Run} → Among r (reverseAux l m) → Among r l ⊎ Among r m
 turned-in [] h = inr h
 turned-in {r} (q ∷ l) {m} h = go (turned-in l h)
@@ -50,10 +52,12 @@ turned-in {r} (q ∷ l) {m} h = go (turned-in l h)
     go (inr (first e)) = inl (first e)
     go (inr (later k)) = inr k
 
+-- A run that stands among others is one of theirs,
 pub has-run : {r : Run} {rs : List Run} → Among r rs → HasRun (r .near) (r .far) rs
 has-run (first e) = here (ap (λ (z : Run). z .near) e) (ap (λ (z : Run). z .far) e)
 has-run (later h) = further (has-run h)
 
+-- and the other way round.
 pub run-in : {s t : ℕ} {rs : List Run} → HasRun s t rs → Among (run s t) rs
 run-in (here {r = r} e f) = first (λ i. record { near = e i; far = f i })
 run-in (further h) = later (run-in h)
@@ -87,7 +91,7 @@ record Facts (feed : List Spot) (key : ℕ → ℕ → ℕ) (pins : List ℕ) (r
   root : ℕ
   newest : List Run
   keyed : Keyed feed key
-  low : (a : ℕ) → Among a pins → a < 32
+  low : (a : ℕ) → Among a pins → a < mostPins
   root-there : Among root pins
   grown : Grown key (λ (a : ℕ). Among a pins) root newest
   into : (q : Run) → Among q runs → Among q newest
@@ -326,7 +330,7 @@ module _ {feed : List Spot} {key : ℕ → ℕ → ℕ} {pins : List ℕ} {runs 
               absurd (omega (arith, least, sooner-out out (v .s) (v .t) s g (ways (v .s) (u .near) s near) (ways (v .t) (u .far) g far) n))
 
 -- ---- the runs of a feed
-module _ (feed : List Spot) (full : length feed ≡ 32) (ok : allWithin feed ≡ true) (f : ℕ) (left : List ℕ) (e : pinsOf feed ≡ f ∷ left) where
+module _ (feed : List Spot) (full : length feed ≡ mostPins) (ok : allWithin feed ≡ true) (f : ℕ) (left : List ℕ) (e : pinsOf feed ≡ f ∷ left) where
   facts : Facts feed (keyAt feed) (f ∷ left) (runsOf feed)
   facts =
       record {
@@ -346,7 +350,8 @@ module _ (feed : List Spot) (full : length feed ≡ 32) (ok : allWithin feed ≡
       back q (inl k) = k
 
       far : (r : ℕ) → r < length (runsOf feed) → Reached f (getD (runsOf feed) r (run 0 0) .far) (reverseAux (runsOf feed) [])
-      far r h = far-reached f (getD (runsOf feed) r (run 0 0) .near) (getD (runsOf feed) r (run 0 0) .far) (has-run (in-turned (runsOf feed) (inl (entry-in (runsOf feed) r h))))
+      far r h = far-reached f (getD (runsOf feed) r (run 0 0) .near) (getD (runsOf feed) r (run 0 0) .far)
+          (has-run (in-turned (runsOf feed) (inl (entry-in (runsOf feed) r h))))
 
       all : (a : ℕ) → Among a (f ∷ left) → Reached f a (reverseAux (runsOf feed) [])
       all a (first q) = subst (λ (z : ℕ). Reached f z (reverseAux (runsOf feed) [])) (sym q) (from-start f (reverseAux (runsOf feed) []))
@@ -363,6 +368,7 @@ pins-are feed = go (pinsOf feed) refl
     go [] e = inl e
     go (f ∷ left) e = inr (f, left, e)
 
+-- Nothing stands in an empty list.
 pub none-among : {A : Type 0} {a : A} {l : List A} → l ≡ [] → Among a l → ⊥
 none-among {a = a} e h = empty (subst (λ (l : List _). Among a l) e h)
   where
@@ -374,7 +380,7 @@ pub no-runs : (feed : List Spot) → pinsOf feed ≡ [] → runsOf feed ≡ []
 unfolding runsOf runsAmong
 no-runs feed e = rw e refl
 
-module _ (feed : List Spot) (full : length feed ≡ 32) (ok : allWithin feed ≡ true) where
+module _ (feed : List Spot) (full : length feed ≡ mostPins) (ok : allWithin feed ≡ true) where
   -- THE RUNS JOIN ALL PINS.
   pub runs-join : JoinsAll (pinsOf feed) (runsOf feed)
   runs-join = go (pins-are feed)
@@ -400,9 +406,10 @@ module _ (feed : List Spot) (full : length feed ≡ 32) (ok : allWithin feed ≡
     where
       go : (pinsOf feed ≡ []) ⊎ ((f : ℕ) × (left : List ℕ) × (pinsOf feed ≡ f ∷ left)) → comesBefore (pairAt feed (r .near) (r .far)) (pairAt feed a b) ≡ true
       go (inl e) = absurd (none-among e ha)
-      go (inr z) = facts-cut (facts feed full ok (z .0) (z .1) (z .2)) r rest o a b (subst (λ (l : List ℕ). Among a l) (z .2) ha) (subst (λ (l : List ℕ). Among b l) (z .2) hb) wa wb ne
+      go (inr z) = facts-cut (facts feed full ok (z .0) (z .1) (z .2)) r rest o a b (subst (λ (l : List ℕ). Among a l) (z .2) ha)
+          (subst (λ (l : List ℕ). Among b l) (z .2) hb) wa wb ne
 
-  -- THOSE ARE TWO GROUPS: every pin has a way to one end of the run, and the ends have none to each other.
+  -- THOSE ARE TWO GROUPS: every pin has a way to one end of the run,
   pub runs-groups : (r : Run) (rest : List Run) → Out r (runsOf feed) rest → (a : ℕ) → Among a (pinsOf feed) → Way rest a (r .near) ⊎ Way rest a (r .far)
   runs-groups r rest o a ha = go (pins-are feed)
     where
@@ -410,6 +417,7 @@ module _ (feed : List Spot) (full : length feed ≡ 32) (ok : allWithin feed ≡
       go (inl e) = absurd (none-among e ha)
       go (inr z) = facts-groups (facts feed full ok (z .0) (z .1) (z .2)) r rest o a (subst (λ (l : List ℕ). Among a l) (z .2) ha)
 
+  -- and the ends have none to each other.
   pub runs-two : (r : Run) (rest : List Run) → Out r (runsOf feed) rest → Way rest (r .near) (r .far) → ⊥
   runs-two r rest o w = go (pins-are feed)
     where

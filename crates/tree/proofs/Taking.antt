@@ -11,17 +11,17 @@ use lib.Dec.{ltb, eqb}
 use lib.ListN.{length, List·getD-eq-default}
 use borrow.Author.Tests.{ltb-true, ltb-false, eq-eqb, ne-eqb, not-true}
 use Rattle.refusal.specs.Tests.{both, choose}
-use Rattle.refusal.proofs.Tests.{choose-yes, choose-no, both-left, both-right, both-of}
+use Rattle.refusal.proofs.Tests.{opposite, decide, choose-yes, choose-no, both-left, both-right, both-of}
 use Rattle.grid.specs.declared.Place.{Place}
 use Rattle.feed.specs.declared.Spot.{Spot}
 use Rattle.grid.specs.Weight.{comesBefore}
 use Rattle.tree.specs.declared.Run.{Run}
 use Rattle.tree.specs.declared.Offer.{Offer}
 use Rattle.tree.specs.declared.Choice.{Choice}
-use Rattle.feed.specs.Feeds.{present, placeOf, spotAt}
+use Rattle.feed.specs.Feeds.{mostPins, present, placeOf, spotAt}
 use Rattle.tree.specs.Growth.{run, pairAt, pinsFrom, without, nextRun, grown, runsAmong, pinsOf, runsOf}
+use Rattle.tree.specs.Trees.{mostRuns}
 use Rattle.tree.specs.Offers.{noOffer, offerOf, firstOffer, betterOffer, nextOffer, firstOffers, choiceOf, takenRuns}
-use Rattle.tree.proofs.Deciding.{opposite, decide}
 use Rattle.tree.proofs.Membership.{Among, first, later, Distinct, also, without-in, in-without, length-without, distinct-without, pins-there, there-pins, pins-distinct, pins-few}
 use Rattle.tree.proofs.Earliest.{Keyed, Earliest, one-earliest, next-earliest}
 use Rattle.tree.proofs.Going.{after, nothing, something}
@@ -32,7 +32,7 @@ use Rattle.tree.proofs.Choosing.{offerAt, first-at, first-many, next-at
 pub record Linked (feed : List Spot) (key : ℕ → ℕ → ℕ) (reached left : List ℕ) (offers : List Offer) : Type 0 where
   pub many : length offers ≡ length feed
   pub apart : (a : ℕ) → Among a reached → Among a left → ⊥
-  pub low : (a : ℕ) → Among a reached → a < 32
+  pub low : (a : ℕ) → Among a reached → a < mostPins
   pub short : (a : ℕ) → Among a left → a < length feed
   pub once : Distinct left
   pub waiting : (k : ℕ) → offerAt offers k .waits ≡ true → Among k left
@@ -78,7 +78,7 @@ record Turned (feed : List Spot) (key : ℕ → ℕ → ℕ) (k t : ℕ) (o r : 
   old : key (r .near) k ≤ key (o .near) k
   new : key (r .near) k ≤ key t k
 
-turned : {feed : List Spot} {key : ℕ → ℕ → ℕ} → Keyed feed key → (k t : ℕ) (o : Offer) → k < 32 → t < 32 → o .near < 32 → o .waits ≡ true
+turned : {feed : List Spot} {key : ℕ → ℕ → ℕ} → Keyed feed key → (k t : ℕ) (o : Offer) → k < mostPins → t < mostPins → o .near < mostPins → o .waits ≡ true
     → o .pair ≡ pairAt feed (o .near) k → Turned feed key k t o (betterOffer o (offerOf t (placeOf (spotAt feed t)) k (placeOf (spotAt feed k))))
 unfolding betterOffer offerOf pairAt
 turned {feed} {key} keyed k t o lk lt ln w p = go (decide (comesBefore (pairAt feed t k) (o .pair)))
@@ -99,7 +99,8 @@ turned {feed} {key} keyed k t o lk lt ln w p = go (decide (comesBefore (pairAt f
         rw (choose-no new o e) (record { waits = w; from = inl refl; pair = p; old = omega arith; new = omega arith })
 
 -- ---- one turn
-module _ {feed : List Spot} {key : ℕ → ℕ → ℕ} (keyed : Keyed feed key) (full : length feed ≡ 32) where
+module _ {feed : List Spot} {key : ℕ → ℕ → ℕ} (keyed : Keyed feed key) (full : length feed ≡ mostPins) where
+  -- When one more pin is reached, that still holds of what the pins keep.
   pub linked-next : {reached left : List ℕ} {offers : List Offer} (t : ℕ) → Among t left → Linked feed key reached left offers
       → Linked feed key (t ∷ reached) (without t left) (after feed t offers)
   linked-next {reached} {left} {offers} t ht h =
@@ -116,14 +117,14 @@ module _ {feed : List Spot} {key : ℕ → ℕ → ℕ} (keyed : Keyed feed key)
         least = λ k w a m. let z = was k w in least k (z .0) (will k (z .0) (z .1)) a m;
       }
     where
-      lt : t < 32
+      lt : t < mostPins
       lt = omega (arith, h .short t ht)
 
       apart : (a : ℕ) → Among a (t ∷ reached) → Among a left × (a ≡ t → ⊥) → ⊥
       apart a (first e) n = n .1 e
       apart a (later m) n = h .apart a m (n .0)
 
-      low : (a : ℕ) → Among a (t ∷ reached) → a < 32
+      low : (a : ℕ) → Among a (t ∷ reached) → a < mostPins
       low a (first e) = omega (arith, lt)
       low a (later m) = h .low a m
 
@@ -148,7 +149,8 @@ module _ {feed : List Spot} {key : ℕ → ℕ → ℕ} (keyed : Keyed feed key)
       back k w (inl e) = later {l = reached} (rw e (h .from k w))
       back k w (inr e) = first e
 
-      least : (k : ℕ) → offerAt offers k .waits ≡ true → {r : Offer} → Turned feed key k t (offerAt offers k) r → (a : ℕ) → Among a (t ∷ reached) → key (r .near) k ≤ key a k
+      least : (k : ℕ) → offerAt offers k .waits ≡ true → {r : Offer} → Turned feed key k t (offerAt offers k) r → (a : ℕ)
+          → Among a (t ∷ reached) → key (r .near) k ≤ key a k
       least k w z a (first e) = rw e (z .new)
       least k w z a (later m) = omega (arith, z .old, h .least k w a m)
 
@@ -192,6 +194,7 @@ module _ {feed : List Spot} {key : ℕ → ℕ → ℕ} (keyed : Keyed feed key)
       go (inr f) = f
       go (inl f) = absurd (empty left e (chosen-earliest h (choiceOf offers) (choice-chosen keyed offers (opens h)) f .to))
 
+  -- From there on the runs taken are those of the growth.
   pub taken-grown : (turns most : ℕ) (reached left : List ℕ) (offers : List Offer) (a : ℕ) → Among a reached → length left ≡ turns → turns ≤ most
       → Linked feed key reached left offers → takenRuns feed most offers ≡ grown feed turns reached left
   unfolding grown
@@ -203,7 +206,7 @@ module _ {feed : List Spot} {key : ℕ → ℕ → ℕ} (keyed : Keyed feed key)
       let w : choiceOf offers .offer .waits ≡ true =
       z .found b (omega (arith, h .many, h .short b (first refl))) (h .awaited b (first refl)) in
       let c = chosen-earliest h (choiceOf offers) z w in
-      let low' : (k : ℕ) → Among k (b ∷ left) → k < 32 = λ k m. omega (arith, h .short k m) in
+      let low' : (k : ℕ) → Among k (b ∷ left) → k < mostPins = λ k m. omega (arith, h .short k m) in
       let same' : run (choiceOf offers .offer .near) (choiceOf offers .pin) ≡ nextRun feed reached (b ∷ left) =
       one-earliest keyed (h .low) low' (h .apart) (run (choiceOf offers .offer .near) (choiceOf offers .pin)) (nextRun feed reached (b ∷ left)) c
       (next-earliest keyed reached (b ∷ left) (h .low) low' a b ha (first refl)) in
@@ -239,10 +242,12 @@ module _ {feed : List Spot} {key : ℕ → ℕ → ℕ} (keyed : Keyed feed key)
   first-keeps f p k s e q = choose-yes (offerOf f p k (placeOf s)) noOffer (both-of e (ap not (ne-eqb k f q)))
 
   -- A first offer to pin k.
-  offered : (f k : ℕ) → Turned feed key k f (offerOf f (placeOf (spotAt feed f)) k (placeOf (spotAt feed k))) (offerOf f (placeOf (spotAt feed f)) k (placeOf (spotAt feed k)))
+  offered : (f k : ℕ) → Turned feed key k f (offerOf f (placeOf (spotAt feed f)) k (placeOf (spotAt feed k)))
+      (offerOf f (placeOf (spotAt feed f)) k (placeOf (spotAt feed k)))
   unfolding offerOf pairAt
   offered f k = record { waits = refl; from = inr refl; pair = refl; old = omega arith; new = omega arith }
 
+  -- That holds of what the pins keep when the first is reached.
   pub linked-first : (f : ℕ) (left : List ℕ) → pinsFrom 0 feed ≡ f ∷ left
       → Linked feed key (f ∷ []) left (opening f)
   unfolding offerOf
@@ -281,7 +286,7 @@ module _ {feed : List Spot} {key : ℕ → ℕ → ℕ} (keyed : Keyed feed key)
       apart : (a : ℕ) → Among a (f ∷ []) → Among a left → ⊥
       apart a (first q) n = out d (rw q at n)
 
-      low : (a : ℕ) → Among a (f ∷ []) → a < 32
+      low : (a : ℕ) → Among a (f ∷ []) → a < mostPins
       low a (first q) = omega (arith, short f (first refl))
 
       at : (k : ℕ) → k < length feed → offerAt (opening f) k ≡ firstOffer f (placeOf (spotAt feed f)) k (spotAt feed k)
@@ -308,7 +313,8 @@ module _ {feed : List Spot} {key : ℕ → ℕ → ℕ} (keyed : Keyed feed key)
               tail (rw e at (rw q at (there-pins 0 feed k l (z .0))))
           go (no l) = absurd (opposite (z .0) (ap present (List·getD-eq-default feed _ (omega arith))))
 
-      will : (k : ℕ) → present (spotAt feed k) ≡ true → (k ≡ f → ⊥) → Turned feed key k f (offerOf f (placeOf (spotAt feed f)) k (placeOf (spotAt feed k))) (offerAt (opening f) k)
+      will : (k : ℕ) → present (spotAt feed k) ≡ true → (k ≡ f → ⊥)
+          → Turned feed key k f (offerOf f (placeOf (spotAt feed f)) k (placeOf (spotAt feed k))) (offerAt (opening f) k)
       will k p ne =
           let l = short k (later (waiting k (p, ne))) in
           rw (at k l ∙ first-keeps f (placeOf (spotAt feed f)) k (spotAt feed k) p ne) (offered f k)
@@ -321,9 +327,9 @@ module _ {feed : List Spot} {key : ℕ → ℕ → ℕ} (keyed : Keyed feed key)
       least k z a (first q) = rw q (z .new)
 
   -- The runs taken offer by offer from the first pin are the runs of the feed.
-  pub taken-runs : (f : ℕ) (left : List ℕ) → pinsOf feed ≡ f ∷ left → takenRuns feed 31 (firstOffers f (placeOf (spotAt feed f)) 0 feed) ≡ runsOf feed
+  pub taken-runs : (f : ℕ) (left : List ℕ) → pinsOf feed ≡ f ∷ left → takenRuns feed mostRuns (firstOffers f (placeOf (spotAt feed f)) 0 feed) ≡ runsOf feed
   unfolding runsOf pinsOf runsAmong
   taken-runs f left e =
       rw e
-      (taken-grown (length left) 31 (f ∷ []) left (opening f) f (first refl) refl
+      (taken-grown (length left) mostRuns (f ∷ []) left (opening f) f (first refl) refl
       (omega (arith, pins-few 0 feed, ap length e)) (linked-first f left e))

@@ -23,6 +23,7 @@ pub data Out (r : Run) : List Run → List Run → Type 0 where
   top : {l : List Run} → Out r (r ∷ l) l
   under : {q : Run} {l m : List Run} → Out r l m → Out r (q ∷ l) (q ∷ m)
 
+-- The ends of a run are its ends in either direction.
 pub ends-turn : {r : Run} {a b : ℕ} → Ends r a b → Ends r b a
 ends-turn (inl e) = inr (e .1, e .0)
 ends-turn (inr e) = inl (e .1, e .0)
@@ -34,20 +35,25 @@ ends-two (inl e) (inr f) = inr (e .0 ∙ sym (f .1), e .1 ∙ sym (f .0))
 ends-two (inr e) (inl f) = inr (e .0 ∙ sym (f .1), e .1 ∙ sym (f .0))
 ends-two (inr e) (inr f) = inl (e .0 ∙ sym (f .0), e .1 ∙ sym (f .1))
 
+-- A way between two pins, by other names.
 pub way-as : {runs : List Run} {a b c d : ℕ} → a ≡ c → b ≡ d → Way runs a b → Way runs c d
 way-as e f w = rw (sym e, sym f) w
 
+-- A way can be gone on with,
 pub way-then : {runs : List Run} {a b c : ℕ} → Way runs a b → Way runs b c → Way runs a c
 way-then (stay e) v = way-as (sym e) refl v
 way-then (along r m h e w) v = along r m h e (way-then w v)
 
+-- one run is a way,
 pub way-one : {runs : List Run} {r : Run} {a b : ℕ} → Among r runs → Ends r a b → Way runs a b
 way-one {r = r} {b = b} h e = along r b h e (stay refl)
 
+-- a way leads back,
 pub way-back : {runs : List Run} {a b : ℕ} → Way runs a b → Way runs b a
 way-back (stay e) = stay (sym e)
 way-back (along r m h e w) = way-then (way-back w) (way-one h (ends-turn e))
 
+-- and a way stays one where there are more runs.
 pub way-more : {runs others : List Run} {a b : ℕ} → ((r : Run) → Among r runs → Among r others) → Way runs a b → Way others a b
 way-more f (stay e) = stay e
 way-more f (along r m h e w) = along r m (f r h) e (way-more f w)
@@ -58,15 +64,18 @@ way-same f h (stay e) = ap f e
 way-same f h (along r m k e w) = ⊎-elim (λ p. ap f (p .0) ∙ h r k ∙ ap f (sym (p .1))) (λ p. ap f (p .0) ∙ sym (h r k) ∙ ap f (sym (p .1))) e ∙ way-same f h w
 
 -- ---- one run taken out
+-- The run stood among them,
 pub out-in : {r : Run} {l m : List Run} → Out r l m → Among r l
 out-in top = first refl
 out-in (under o) = later (out-in o)
 
+-- and so did the rest;
 pub rest-in : {r q : Run} {l m : List Run} → Out r l m → Among q m → Among q l
 rest-in top h = later h
 rest-in (under o) (first e) = first e
 rest-in (under o) (later h) = later (rest-in o h)
 
+-- any that stood there is the run or one of the rest.
 pub in-rest : {r q : Run} {l m : List Run} → Out r l m → Among q l → (q ≡ r) ⊎ Among q m
 in-rest top (first e) = inl e
 in-rest top (later h) = inr h
@@ -78,6 +87,7 @@ pub record Taken-out (r : Run) (l : List Run) : Type 0 where
   pub rest : List Run
   pub out : Out r l rest
 
+-- So it is for every run that stands there.
 pub take-out : {r : Run} {l : List Run} → Among r l → Taken-out r l
 take-out {r} (first {b = q} {l = l} e) = record { rest = l; out = at (sym e) }
   where
@@ -90,6 +100,7 @@ pub data Parted (e : Run) (rest : List Run) (s t : ℕ) : Type 0 where
   spared : Way rest s t → Parted e rest s t
   used : (x y : ℕ) → Ends e x y → Way rest s x → Way rest y t → Parted e rest s t
 
+-- Every way is one of the two.
 pub part : {e : Run} {l rest : List Run} {s t : ℕ} → Out e l rest → Way l s t → Parted e rest s t
 part o (stay q) = spared (stay q)
 part {e} {l} {rest} {s} {t} o (along r m h q w) = go (in-rest o h) (part o w)

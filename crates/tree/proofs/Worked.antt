@@ -13,7 +13,7 @@ use Rattle.grid.specs.declared.Place.{Place}
 use Rattle.grid.specs.Place.{onBoard, inside, difference, larger}
 use Rattle.grid.specs.Weight.{distanceOf, weightOf, pairOf, byPart, byNumber, comesBefore}
 use Rattle.tree.specs.declared.Run.{Run}
-use Rattle.feed.specs.Feeds.{within, allWithin}
+use Rattle.feed.specs.Feeds.{mostPins, within, allWithin}
 use Rattle.tree.specs.Growth.{run, pairAt, sooner, keptIf, pinsFrom, without, runsFrom, runsBetween, earliest, earliestOf, nextRun, grown, runsAmong, pinsOf, runsOf}
 use Rattle.tree.specs.Boxes.{belowBoth, under, overlap, boxesShare, isEnd, common, clash, clashAny, boxesMeet}
 use Rattle.tree.specs.Trees.{entries, treeWith, treeOf}
@@ -24,7 +24,7 @@ pin x y = At (record { x = x; y = y })
 
 -- A feed of 32 spots that begins with these.
 abbrev feed : List Spot → List Spot
-feed spots = spots ++ replicate (32 - length spots) Absent
+feed spots = spots ++ replicate (mostPins - length spots) Absent
 
 -- Minus one, minus two, minus three.
 abbrev m1 : ℤ
@@ -62,6 +62,7 @@ runs =
     ∷ (run 0 3 ∷ run 0 1 ∷ run 0 2 ∷ [])
     ∷ []
 
+-- THE RUNS ARE THOSE WORKED BY HAND.
 pub worked : map (λ spots. treeOf (feed spots)) boards ≡ map (treeWith Accepted) runs
 unfolding treeOf treeWith entries boxesMeet clashAny clash common isEnd boxesShare overlap under belowBoth runsOf pinsOf runsAmong grown nextRun earliestOf earliest runsBetween runsFrom without pinsFrom keptIf sooner pairAt comesBefore byPart byNumber pairOf weightOf distanceOf difference larger both either choose
 worked = refl
@@ -80,14 +81,17 @@ met = refl
 abbrev place : ℤ → ℤ → Place
 place x y = record { x = x; y = y }
 
+-- These touch at a corner,
 pub touching : boxesShare (place (pos 0) (pos 0)) (place (pos 1) (pos 1)) (place (pos 2) (pos 2)) (place (pos 1) (pos 1)) ≡ true
 unfolding boxesShare overlap under belowBoth both choose
 touching = refl
 
+-- these along a side,
 pub sides : boxesShare (place m1 (pos 0)) (place (pos 1) (pos 1)) (place (pos 5) m2) (place (pos 1) (pos 7)) ≡ true
 unfolding boxesShare overlap under belowBoth both choose
 sides = refl
 
+-- and these are a step apart.
 pub a-step-apart : boxesShare (place m1 (pos 0)) (place (pos 1) (pos 1)) (place (pos 5) m2) (place (pos 2) (pos 7)) ≡ false
 unfolding boxesShare overlap under belowBoth both choose
 a-step-apart = refl

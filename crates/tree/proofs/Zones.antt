@@ -1,33 +1,35 @@
 -- Around a site, twelve zones hold the sites off its row and its column, each of these in two of them; and no zone holds two sites that are no nearer
 -- to each other than either is to it. So of sites that lie so at most six are off the row and the column. Assumes nothing.
 use mathlib.Core.Path.{_≡_, refl, sym}
-use mathlib.Core.Bool.{Bool, true, false, not}
+use mathlib.Core.Bool.{Bool, true, false, not, cond, _&&_}
 use mathlib.Core.List.{List, [], _∷_}
 use Prim.Native.Nat.{ℕ, _+_, _*_, _<_, _≤_}
 use native.Mathlib.Omega.{arith}
 use lib.Dec.{T, ltb}
 use borrow.Author.Tests.{ltb-true, ltb-false}
 use Rattle.grid.proofs.Flat.{gap, gap-swap, gap-up, gap-down, gap-through, Site, span}
-use Rattle.tree.proofs.Branches.{pick}
 use Rattle.tree.proofs.Neighbours.{All, All.none, All.also, all-map, Pairwise}
 
 -- On which side of a number another lies.
 pub data Side : Type 0 where
   less equal more : Side
 
+-- By comparing the two.
 unfoldable pub side : ℕ → ℕ → Side
-side c a = pick (ltb a c) less (pick (ltb c a) more equal)
+side c a = cond (ltb a c) less (cond (ltb c a) more equal)
 
+-- What each side says of them,
 pub data Seen (c a : ℕ) : Side → Type 0 where
   below : a < c → Seen c a less
   level : a ≡ c → Seen c a equal
   above : c < a → Seen c a more
 
+-- whichever they are.
 pub seen : (c a : ℕ) → Seen c a (side c a)
 unfolding side
 seen c a = go (ltb a c) (ltb c a) refl refl
   where
-    go : (p q : Bool) → ltb a c ≡ p → ltb c a ≡ q → Seen c a (pick p less (pick q more equal))
+    go : (p q : Bool) → ltb a c ≡ p → ltb c a ≡ q → Seen c a (cond p less (cond q more equal))
     go true q e f = below (ltb-true a c e)
     go false true e f = above (ltb-true c a f)
     go false false e f = level (omega (arith, ltb-false a c e, ltb-false c a f))
@@ -47,11 +49,7 @@ aside less = true
 aside equal = false
 aside more = true
 
-abbrev pub two : Bool → Bool → Bool
-two true b = b
-two false b = false
-
-parts : (a b c : Bool) → T (two a (two b c)) → T a × T b × T c
+parts : (a b c : Bool) → T (a && (b && c)) → T a × T b × T c
 parts true true true t = (tt, tt, tt)
 parts true true false t = absurd t
 parts true false c t = absurd t
@@ -62,28 +60,32 @@ pub data Zone : Type 0 where
   flat steep : Bool → Zone
   flatter steeper : Bool → Bool → Zone
 
+-- A zone holds what lies on these sides: in x, in y, and of the diagonal.
 abbrev pub within : Zone → Side → Side → Side → Bool
-within (flat b) x y d = two (on b x) (two (aside y) (on false d))
-within (steep b) x y d = two (aside x) (two (on b y) (on true d))
-within (flatter b c) x y d = two (on b x) (two (on c y) (not (on true d)))
-within (steeper b c) x y d = two (on b x) (two (on c y) (not (on false d)))
+within (flat b) x y d = on b x && (aside y && on false d)
+within (steep b) x y d = aside x && (on b y && on true d)
+within (flatter b c) x y d = on b x && (on c y && not (on true d))
+within (steeper b c) x y d = on b x && (on c y && not (on false d))
 
--- The sides of p seen from c: in x, in y, and its difference in y seen from that in x.
+-- The side of p seen from c in x,
 abbrev pub side-x : Site → Site → Side
 side-x c p = side (c .x) (p .x)
 
+-- in y,
 abbrev pub side-y : Site → Site → Side
 side-y c p = side (c .y) (p .y)
 
+-- and of its difference in y seen from that in x.
 abbrev pub side-d : Site → Site → Side
 side-d c p = side (gap (c .x) (p .x)) (gap (c .y) (p .y))
 
+-- A site lies in a zone around another.
 unfoldable pub inZone : Zone → Site → Site → Bool
 inZone z c p = within z (side-x c p) (side-y c p) (side-d c p)
 
 -- p is off the row and the column of c.
 unfoldable pub skew : Site → Site → Bool
-skew c p = two (aside (side-x c p)) (aside (side-y c p))
+skew c p = aside (side-x c p) && aside (side-y c p)
 
 aside-of : (c a : ℕ) → (c ≡ a → ⊥) → aside (side c a) ≡ true
 aside-of c a ne = go (side c a) (seen c a)
@@ -93,6 +95,7 @@ aside-of c a ne = go (side c a) (seen c a)
     go equal (level e) = absurd (ne (sym e))
     go more (above l) = refl
 
+-- A site that shares neither x nor y is off both.
 pub skew-of : (c p : Site) → (c .x ≡ p .x → ⊥) → (c .y ≡ p .y → ⊥) → skew c p ≡ true
 unfolding skew
 skew-of c p nx ny = rw (aside-of (c .x) (p .x) nx, aside-of (c .y) (p .y) ny)
@@ -197,20 +200,22 @@ module _ (c p q : Site) (hp : span c p ≤ span p q) (hq : span c q ≤ span p q
       (omega arith) (omega arith)
 
 -- ---- counting
-abbrev pub bit : Bool → ℕ
-bit true = 1
-bit false = 0
+-- 1 where a test holds, else 0.
+abbrev pub oneIf : Bool → ℕ
+oneIf true = 1
+oneIf false = 0
 
+-- How many of some numbers pass a test.
 unfoldable pub tally : (ℕ → Bool) → List ℕ → ℕ
 tally f [] = 0
-tally f (a ∷ l) = bit (f a) + tally f l
+tally f (a ∷ l) = oneIf (f a) + tally f l
 
 no-more : (f : ℕ → Bool) {l : List ℕ} → All (λ (b : ℕ). T (f b) → ⊥) l → tally f l ≡ 0
 unfolding tally
 no-more f none = refl
 no-more f (also {a = a} {l = l} h k) = go (f a) h (no-more f k)
   where
-    go : (t : Bool) → (T t → ⊥) → tally f l ≡ 0 → bit t + tally f l ≡ 0
+    go : (t : Bool) → (T t → ⊥) → tally f l ≡ 0 → oneIf t + tally f l ≡ 0
     go true u e = absurd (u tt)
     go false u e = omega arith
 
@@ -219,7 +224,7 @@ unfolding tally
 one-of f R w Pairwise.none = omega arith
 one-of f R w (Pairwise.also {a = a} {l = l} h k) = go (f a) (λ t. no-more f (all-map (λ b r. w a b r t) h)) (one-of f R w k)
   where
-    go : (t : Bool) → (T t → tally f l ≡ 0) → tally f l ≤ 1 → bit t + tally f l ≤ 1
+    go : (t : Bool) → (T t → tally f l ≡ 0) → tally f l ≤ 1 → oneIf t + tally f l ≤ 1
     go true u m = omega (arith, u tt)
     go false u m = omega arith
 
@@ -250,7 +255,7 @@ total-most f h =
     )
 
 -- Every place off the axes is in two zones, and every other in none.
-in-two : (x y d : Side) → 2 * bit (two (aside x) (aside y)) ≡ total (λ z. bit (within z x y d))
+in-two : (x y d : Side) → 2 * oneIf (aside x && aside y) ≡ total (λ z. oneIf (within z x y d))
 unfolding total
 in-two less less less = refl
 in-two less less equal = refl
@@ -292,6 +297,7 @@ module _ (at : ℕ → Site) (c : Site) where
     pub first : span c (at a) ≤ span (at a) (at b)
     pub second : span c (at b) ≤ span (at a) (at b)
 
+  -- AT MOST SIX of sites spread so are off the row and the column.
   pub six : {l : List ℕ} → Pairwise Spread l → tally (λ a. skew c (at a)) l ≤ 6
   six {l} h =
       omega (

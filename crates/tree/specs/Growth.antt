@@ -5,7 +5,6 @@ use Prim.Native.Nat.{ℕ, zero, suc}
 use lib.Dec.{eqb}
 use lib.ListN.{length}
 use Rattle.refusal.specs.Tests.{choose}
-use Rattle.grid.specs.declared.Place.{Place}
 use Rattle.feed.specs.Feeds.{present, placeOf, spotAt}
 use Rattle.feed.specs.declared.Spot.{Spot}
 use Rattle.grid.specs.declared.Pair.{Pair}

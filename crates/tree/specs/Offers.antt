@@ -84,6 +84,6 @@ unfoldable pub firstFrom : ℕ → List Spot → ℕ
 firstFrom i [] = i
 firstFrom i (s ∷ feed) = choose (present s) i (firstFrom (suc i) feed)
 
--- Some runs in 31 entries, and how many they are.
+-- Some runs in their entries, and how many they are.
 unfoldable pub takenOf : List Run → Taken
 takenOf runs = record { count = length runs; runs = entries runs }

@@ -12,9 +12,13 @@ use Rattle.tree.specs.declared.Tree.{Tree}
 use Rattle.tree.specs.Growth.{run, pinsOf, runsOf}
 use Rattle.tree.specs.Boxes.{boxesMeet}
 
--- Some runs in 31 entries; entries after the last are 0, 0.
+-- The answer holds 31 run entries: one fewer than there can be pins.
+abbrev pub mostRuns : ℕ
+mostRuns = 31
+
+-- Some runs in their entries; entries after the last are 0, 0.
 unfoldable pub entries : List Run → List Run
-entries runs = runs ++ replicate (31 - length runs) (run 0 0)
+entries runs = runs ++ replicate (mostRuns - length runs) (run 0 0)
 
 -- A verdict with some runs.
 unfoldable pub treeWith : Verdict → List Run → Tree

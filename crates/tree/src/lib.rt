@@ -1,4 +1,5 @@
 // The runs of a feed: the tree that joins its pins, grown from the lowest-numbered pin, or why there is none.
+use feed::PINS;
 use feed::Spot;
 use grid::Pair;
 use grid::Place;
@@ -12,8 +13,11 @@ ghost use lib.ListN.{take, drop};
 ghost use Rattle.grid.specs.Place.{inside};
 ghost use Rattle.feed.specs.Feeds.{placeOf, spotAt, allWithin};
 ghost use Rattle.tree.specs.Boxes.{belowBoth, under, overlap, boxesShare, isEnd, common, clash, clashAny, boxesMeet};
-ghost use Rattle.tree.specs.Trees.{treeWith, treeOf};
+ghost use Rattle.tree.specs.Trees.{mostRuns, treeWith, treeOf};
 ghost use Rattle.tree.specs.Offers.{noOffer, offerOf, firstOffer, betterOffer, nextOffer, firstOffers, nextOffers, betterChoice, choiceOf, takenRuns, firstFrom, takenOf};
+
+// A tree of PINS pins has one run fewer.
+pub const RUNS: usize = 31;
 
 // A run: the pin that was reached before it, and the pin that it reaches.
 pub struct Run {
@@ -25,7 +29,7 @@ pub struct Run {
 pub struct Tree {
     pub verdict: Verdict,
     pub count: usize,
-    pub runs: [Run; 31],
+    pub runs: [Run; RUNS],
 }
 
 // What a pin keeps while the tree grows: whether it waits to be reached, the pin that would reach it, and their pair.
@@ -41,25 +45,25 @@ pub struct Choice {
     pub offer: Offer,
 }
 
-// Some runs in 31 entries, and how many they are.
+// Some runs in their entries, and how many they are.
 pub struct Taken {
     pub count: usize,
-    pub runs: [Run; 31],
+    pub runs: [Run; RUNS],
 }
 
-// The lowest number of a pin that is there, or 32.
-fn first_pin(feed: [Spot; 32]) -> usize
+// The lowest number of a pin that is there, or the number after the last.
+fn first_pin(feed: [Spot; PINS]) -> usize
     ensures { λ r. ⌜ r ≡ firstFrom 0 feed ⌝ }
 {
     let mut pin = 0;
-    while pin < 32 {
+    while pin < PINS {
         let spot = feed[pin];
         if feed::is_there(spot) {
             return pin;
         }
         pin += 1;
     }
-    32
+    PINS
 }
 
 // What a pin keeps that does not wait.
@@ -139,15 +143,15 @@ fn next_offer(near: usize, from: Place, pin: usize, spot: Spot, kept: Offer) -> 
 }
 
 // What the pins keep when the first pin is reached.
-fn first_offers(feed: [Spot; 32], first: usize) -> [Offer; 32]
+fn first_offers(feed: [Spot; PINS], first: usize) -> [Offer; PINS]
     requires { ⌜ allWithin feed ≡ true ⌝ }
     ensures { λ r. ⌜ r ≡ firstOffers first (placeOf (spotAt feed first)) 0 feed ⌝ }
 {
     let from = feed::place_at(feed, first);
     let none = no_offer();
-    let mut offers = [none; 32];
+    let mut offers = [none; PINS];
     let mut pin = 0;
-    while pin < 32 {
+    while pin < PINS {
         let spot = feed[pin];
         offers[pin] = first_offer(first, from, pin, spot);
         pin += 1;
@@ -156,14 +160,14 @@ fn first_offers(feed: [Spot; 32], first: usize) -> [Offer; 32]
 }
 
 // What the pins keep when one more pin is reached: one weight for each pin that waits.
-fn next_offers(feed: [Spot; 32], kept: [Offer; 32], near: usize) -> [Offer; 32]
+fn next_offers(feed: [Spot; PINS], kept: [Offer; PINS], near: usize) -> [Offer; PINS]
     requires { ⌜ allWithin feed ≡ true ⌝ }
     ensures { λ r. ⌜ r ≡ nextOffers near (placeOf (spotAt feed near)) 0 feed kept ⌝ }
 {
     let from = feed::place_at(feed, near);
     let mut offers = kept;
     let mut pin = 0;
-    while pin < 32 {
+    while pin < PINS {
         let spot = feed[pin];
         let offer = offers[pin];
         offers[pin] = next_offer(near, from, pin, spot, offer);
@@ -192,7 +196,7 @@ fn better_choice(choice: Choice, pin: usize, offer: Offer) -> Choice
 }
 
 // The pin with the earliest offer; one that does not wait where no pin does.
-fn earliest_offer(offers: [Offer; 32]) -> Choice
+fn earliest_offer(offers: [Offer; PINS]) -> Choice
     ensures { λ r. ⌜ r ≡ choiceOf offers ⌝ }
 {
     let none = no_offer();
@@ -201,7 +205,7 @@ fn earliest_offer(offers: [Offer; 32]) -> Choice
         offer: none,
     };
     let mut pin = 0;
-    while pin < 32 {
+    while pin < PINS {
         let offer = offers[pin];
         choice = better_choice(choice, pin, offer);
         pin += 1;
@@ -210,14 +214,14 @@ fn earliest_offer(offers: [Offer; 32]) -> Choice
 }
 
 // The runs that are taken from these offers on, always the earliest offer.
-fn take_runs(feed: [Spot; 32], opening: [Offer; 32]) -> Taken
+fn take_runs(feed: [Spot; PINS], opening: [Offer; PINS]) -> Taken
     requires { ⌜ allWithin feed ≡ true ⌝ }
-    ensures { λ r. ⌜ r ≡ takenOf (takenRuns feed 31 opening) ⌝ }
+    ensures { λ r. ⌜ r ≡ takenOf (takenRuns feed mostRuns opening) ⌝ }
 {
     let mut offers = opening;
-    let mut runs = [Run { near: 0, far: 0 }; 31];
+    let mut runs = [Run { near: 0, far: 0 }; RUNS];
     let mut count = 0;
-    while count < 31 {
+    while count < RUNS {
         let choice = earliest_offer(offers);
         let offer = choice.offer;
         if !offer.waits {
@@ -290,7 +294,7 @@ fn have_common(a: Run, b: Run) -> bool
 }
 
 // Whether two runs without a common pin have boxes that share a point.
-fn do_clash(feed: [Spot; 32], a: Run, b: Run) -> bool
+fn do_clash(feed: [Spot; PINS], a: Run, b: Run) -> bool
     ensures { λ r. ⌜ r ≡ clash feed a b ⌝ }
 {
     if have_common(a, b) {
@@ -304,8 +308,8 @@ fn do_clash(feed: [Spot; 32], a: Run, b: Run) -> bool
 }
 
 // Whether a run clashes with one of the runs from number `start` on.
-fn clashes_any(feed: [Spot; 32], runs: [Run; 31], count: usize, run: Run, start: usize) -> bool
-    requires { ⌜ count ≤ 31 ⌝ }
+fn clashes_any(feed: [Spot; PINS], runs: [Run; RUNS], count: usize, run: Run, start: usize) -> bool
+    requires { ⌜ count ≤ mostRuns ⌝ }
     ensures { λ r. ⌜ r ≡ clashAny feed run (drop start (take count runs)) ⌝ }
 {
     let mut at = start;
@@ -320,8 +324,8 @@ fn clashes_any(feed: [Spot; 32], runs: [Run; 31], count: usize, run: Run, start:
 }
 
 // Whether the boxes of two of the runs, without a common pin, share a point.
-fn do_boxes_meet(feed: [Spot; 32], runs: [Run; 31], count: usize) -> bool
-    requires { ⌜ count ≤ 31 ⌝ }
+fn do_boxes_meet(feed: [Spot; PINS], runs: [Run; RUNS], count: usize) -> bool
+    requires { ⌜ count ≤ mostRuns ⌝ }
     ensures { λ r. ⌜ r ≡ boxesMeet feed (take count runs) ⌝ }
 {
     let mut at = 0;
@@ -339,7 +343,7 @@ fn do_boxes_meet(feed: [Spot; 32], runs: [Run; 31], count: usize) -> bool
 fn refused(verdict: Verdict) -> Tree
     ensures { λ r. ⌜ r ≡ treeWith verdict [] ⌝ }
 {
-    let runs = [Run { near: 0, far: 0 }; 31];
+    let runs = [Run { near: 0, far: 0 }; RUNS];
     Tree {
         verdict,
         count: 0,
@@ -348,12 +352,12 @@ fn refused(verdict: Verdict) -> Tree
 }
 
 // The runs of these pins, or 17 or 18.
-pub fn tree_of(feed: [Spot; 32]) -> Tree
+pub fn tree_of(feed: [Spot; PINS]) -> Tree
     requires { ⌜ allWithin feed ≡ true ⌝ }
     ensures { λ r. ⌜ r ≡ treeOf feed ⌝ }
 {
     let first = first_pin(feed);
-    if first == 32 {
+    if first == PINS {
         return refused(Verdict::NoPins);
     }
     let offers = first_offers(feed, first);

@@ -13,23 +13,22 @@ use borrow.Author.Tests.{ltb-true, ltb-false, lt-ltb, le-ltb, not-true, not-fals
 use Rattle.refusal.specs.Tests.{both, choose}
 use Rattle.refusal.specs.Refusals.{accepted, turn}
 use Rattle.refusal.specs.declared.Verdict.{Verdict}
-use Rattle.refusal.specs.declared.Verdict.the-variants.{Accepted, NoPins, BoxesMeet, RoomTooSmall}
+use Rattle.refusal.specs.declared.Verdict.the-variants.{Accepted, RoomTooSmall}
+use Rattle.refusal.proofs.Tests.{opposite}
 use Rattle.grid.specs.declared.Place.{Place}
 use Rattle.feed.specs.declared.Spot.{Spot}
 use Rattle.grid.specs.Place.{onBoard, inside}
 use Rattle.tree.specs.declared.Run.{Run}
 use Rattle.tree.specs.declared.Tree.{Tree}
-use Rattle.feed.specs.Feeds.{placeOf, spotAt, allWithin, allApart}
+use Rattle.feed.specs.Feeds.{mostPins, placeOf, spotAt, allWithin, allApart}
 use Rattle.tree.specs.Growth.{run, pinsOf, runsOf}
 use Rattle.tree.specs.Boxes.{boxesMeet}
-use Rattle.tree.specs.Trees.{entries, treeWith, none, treeOf}
+use Rattle.tree.specs.Trees.{mostRuns, entries, treeWith, none, treeOf}
 use Rattle.feed.proofs.Rules.{inside-at}
-use Rattle.tree.proofs.Membership.{pins-few}
+use Rattle.tree.proofs.Answer.{Answer, no-pins, boxes-meet, the-runs, answer, runs-few}
 use Rattle.tree.proofs.Result.{take-entries as entries-take}
-use Rattle.tree.proofs.Spanning.{runs-many}
 use Rattle.copper.specs.declared.Shape.{Shape}
 use Rattle.copper.specs.declared.Leg.{Leg}
-use Rattle.copper.specs.declared.Shape.the-variants.{Straight}
 use Rattle.copper.specs.Shapes.{shapeOf, legsOf}
 use Rattle.copper_laws.proofs.Tallies.{leastOf}
 use Rattle.least.specs.declared.Least.{Least}
@@ -37,39 +36,35 @@ use Rattle.least.specs.Asking.{base, placeAt, nearAt, markOf, leastOfTree, Grow
 use Rattle.least.proofs.Whole.{tree-cost}
 use Rattle.least.proofs.Alike.{Alike, found-alike}
 use Rattle.wiring.specs.declared.Shaped.{Shaped}
+use Rattle.wiring.specs.declared.Reached.{Reached}
 use Rattle.wiring.specs.declared.Strip.{Strip}
 use Rattle.wiring.specs.declared.Laid.{Laid}
 use Rattle.wiring.specs.Choices.{nearEnd, farEnd, bestChoice, legsOfChoice, lengthOfChoice, weighedOf}
-use Rattle.wiring.specs.Answer.{shaped, shapedRuns, runEntries, legEntries, laidWith, turnedAway, answerWith, wiringVerdict, wiringWith, wiringFavouring}
-use Rattle.wiring.specs.Reaching.{runAt, reachedPin, reachedNear, reachedPlace, reachedFrom, valuesFrom, xsOf, ysOf, nearsOf, upperIn, shapedIn, entriesIn, legsOfEntry, legsOfEntries, strip, shapesBy}
+use Rattle.wiring.specs.Answer.{shaped, noRun, shapedRuns, runEntries, legEntries, laidWith, turnedAway, answerWith, wiringVerdict, wiringWith, wiringFavouring}
+use Rattle.wiring.specs.Reaching.{runAt, reachedPin, reachedNear, reachedPlace, reachedFrom, valuesFrom, xsOf, ysOf, reachedOf, nearsOf, upperIn, shapedIn, entriesIn, legsOfEntry, legsOfEntries, strip, shapesBy}
 use Rattle.wiring.proofs.Filling.{values-long, value-at}
 use Rattle.wiring.proofs.Laying.{grown}
 use Rattle.wiring.proofs.Best.{length-found, shapes-found}
 use Rattle.wiring.proofs.Weighed.{weighed-told}
 
 -- ---- how a feed is refused
-refused-by : (n m : Bool) (runs : List Run) → accepted (choose n (treeWith NoPins []) (choose m (treeWith BoxesMeet []) (treeWith Accepted runs)) .verdict) ≡ false
-    → (rest : Verdict) → (choose n (treeWith NoPins []) (choose m (treeWith BoxesMeet []) (treeWith Accepted runs)) .verdict ≡ turn n NoPins (turn m BoxesMeet rest))
-unfolding choose treeWith turn accepted
-refused-by true m runs e rest = refl
-refused-by false true runs e rest = refl
-refused-by false false runs e rest = absurd (let z : _≡_ {A = ℕ} 0 1 = cc in omega arith)
-
 -- A verdict that is not accepted turns away.
 turned : (v : Verdict) (l : Laid) → accepted v ≡ false → choose (accepted v) l (turnedAway v) ≡ turnedAway v
 unfolding choose
 turned v l e = rw e
 
 -- The tree refuses: so does the wiring.
-pub tree-refuses : (favoured : Bool) (feed : List Spot) (room : ℕ) (t : Tree) → t ≡ treeOf feed → accepted (t .verdict) ≡ false → turnedAway (t .verdict) ≡ wiringFavouring favoured feed room
-unfolding wiringFavouring wiringWith wiringVerdict treeOf
-tree-refuses favoured feed room t e n =
-    let v : Verdict = turn (ltb room (length (legsOfChoice feed (runsOf feed) (bestChoice favoured feed (runsOf feed))))) RoomTooSmall Accepted in
-    let q : t .verdict ≡ turn (none (pinsOf feed)) NoPins (turn (boxesMeet feed (runsOf feed)) BoxesMeet v) =
-    ap (λ (z : Tree). z .verdict) e ∙ refused-by (none (pinsOf feed)) (boxesMeet feed (runsOf feed)) (runsOf feed) (sym (ap (λ (z : Tree). accepted (z .verdict)) e) ∙ n) v in
-    rw (← q) (sym (turned (t .verdict) (answerWith feed (runsOf feed) (bestChoice favoured feed (runsOf feed))) n))
+pub tree-refuses : (favoured : Bool) (feed : List Spot) (room : ℕ) (t : Tree) → t ≡ treeOf feed → accepted (t .verdict) ≡ false
+    → turnedAway (t .verdict) ≡ wiringFavouring favoured feed room
+tree-refuses favoured feed room t e n = go (answer feed)
+  where
+    go : Answer feed → turnedAway (t .verdict) ≡ wiringFavouring favoured feed room
+    go (no-pins p q) = unfold wiringFavouring wiringWith wiringVerdict treeWith turn accepted choose in rw (e, q, p)
+    go (boxes-meet f left p b q) = unfold wiringFavouring wiringWith wiringVerdict treeWith turn accepted choose in rw (e, q, p, b)
+    go (the-runs f left p b q) = absurd (opposite {t = accepted (t .verdict)} (unfold treeWith accepted in rw (e, q)) n)
 
 -- ---- how it is accepted
+-- A feed whose tree is accepted: its first pin and the others, and what the tree holds.
 pub record Wired (feed : List Spot) (t : Tree) : Type 0 where
   pub first : ℕ
   pub left : List ℕ
@@ -78,65 +73,53 @@ pub record Wired (feed : List Spot) (t : Tree) : Type 0 where
   pub count : t .count ≡ length (runsOf feed)
   pub runs : t .runs ≡ entries (runsOf feed)
 
-some-pins : (l : List ℕ) → none l ≡ false → (f : ℕ) × (left : List ℕ) × (l ≡ f ∷ left)
-some-pins [] e = absurd (let z : _≡_ {A = ℕ} 0 1 = cc in omega arith)
-some-pins (f ∷ left) e = (f, left, refl)
-
-accepted-by : (n m : Bool) (runs : List Run) → accepted (choose n (treeWith NoPins []) (choose m (treeWith BoxesMeet []) (treeWith Accepted runs)) .verdict) ≡ true
-    → (n ≡ false) × (m ≡ false)
-unfolding choose treeWith accepted
-accepted-by true m runs e = absurd (let z : _≡_ {A = ℕ} 0 1 = cc in omega arith)
-accepted-by false true runs e = absurd (let z : _≡_ {A = ℕ} 0 1 = cc in omega arith)
-accepted-by false false runs e = (refl, refl)
-
+-- The tree accepts: there is a first pin, no boxes meet, and its runs are those of the feed.
 pub tree-accepts : (feed : List Spot) (t : Tree) → t ≡ treeOf feed → accepted (t .verdict) ≡ true → Wired feed t
-unfolding treeOf
-tree-accepts feed t e y =
-    let z = accepted-by (none (pinsOf feed)) (boxesMeet feed (runsOf feed)) (runsOf feed) (sym (ap (λ (w : Tree). accepted (w .verdict)) e) ∙ y) in
-    let p = some-pins (pinsOf feed) (z .0) in
-    let q : t ≡ treeWith Accepted (runsOf feed) = e ∙ chosen (none (pinsOf feed)) (boxesMeet feed (runsOf feed)) (z .0) (z .1) in
-    record {
-      first = p .0;
-      left = p .1;
-      pins = p .2;
-      clear = z .1;
-      count = ap (λ (w : Tree). w .count) q ∙ (unfold treeWith in refl);
-      runs = ap (λ (w : Tree). w .runs) q ∙ (unfold treeWith in refl);
-    }
+tree-accepts feed t e y = go (answer feed)
   where
-    chosen : (n m : Bool) → n ≡ false → m ≡ false → choose n (treeWith NoPins []) (choose m (treeWith BoxesMeet []) (treeWith Accepted (runsOf feed))) ≡ treeWith Accepted (runsOf feed)
-    chosen n m a b = unfold choose in rw (a, b)
+    go : Answer feed → Wired feed t
+    go (no-pins p q) = absurd (opposite y (unfold treeWith accepted in rw (e, q)))
+    go (boxes-meet f left p b q) = absurd (opposite y (unfold treeWith accepted in rw (e, q)))
+    go (the-runs f left p b q) =
+        record { first = f; left = left; pins = p; clear = b; count = unfold treeWith in rw (e, q); runs = unfold treeWith in rw (e, q) }
 
 -- ---- entries after the last are blank
+-- Any entry of a list of blanks is blank,
 blank-at : {A : Type 0} (k i : ℕ) (d : A) → getD (replicate k d) i d ≡ d
 blank-at zero i d = refl
 blank-at (suc k) zero d = refl
 blank-at (suc k) (suc i) d = blank-at k i d
 
+-- so that blanks after the last entry change no entry.
 padded-at : {A : Type 0} (l : List A) (k i : ℕ) (d : A) → getD (l ++ replicate k d) i d ≡ getD l i d
 padded-at [] k i d = blank-at k i d
 padded-at (x ∷ l) k zero d = refl
 padded-at (x ∷ l) k (suc i) d = padded-at l k i d
 
+-- The runs of the tree by number are those of its entries ..
 entries-at : (runs : List Run) (r : ℕ) → runAt (entries runs) r ≡ runAt runs r
 unfolding entries
-entries-at runs r = padded-at runs (31 - length runs) r (run 0 0)
+entries-at runs r = padded-at runs (mostRuns - length runs) r (run 0 0)
 
+-- .. and so are the pins that they reach.
 pin-entries : (runs : List Run) (i : ℕ) → reachedPin (entries runs) i ≡ reachedPin runs i
 unfolding reachedPin
 pin-entries runs zero = ap (λ (r : Run). r .near) (entries-at runs 0)
 pin-entries runs (suc r) = ap (λ (q : Run). q .far) (entries-at runs r)
 
+-- The middle of the board is on it.
 middle-inside : inside (record { x = pos 0; y = pos 0 }) ≡ true
 unfolding inside onBoard both
 middle-inside = refl
 
 -- ---- the shapes, run by run
+-- Values from the next number on are those of the numbers after.
 values-shift : {A : Type 0} (f : ℕ → A) (i k : ℕ) → valuesFrom f (suc i) k ≡ valuesFrom (λ j. f (suc j)) i k
 unfolding valuesFrom
 values-shift f i zero = refl
 values-shift f i (suc k) = ap (λ (l : List _). f (suc i) ∷ l) (values-shift f (suc i) k)
 
+-- Functions that are the same give the same values.
 values-same : {A : Type 0} (f g : ℕ → A) (i k : ℕ) → ((j : ℕ) → f j ≡ g j) → valuesFrom f i k ≡ valuesFrom g i k
 unfolding valuesFrom
 values-same f g i zero h = refl
@@ -146,6 +129,7 @@ values-same f g i (suc k) h = ap₂ (λ (x : _) (l : List _). x ∷ l) (h i) (va
 abbrev bentAs : List Spot → (ℕ → Bool) → List Run → ℕ → Shaped
 bentAs feed upper runs r = shaped (runAt runs r .near) (runAt runs r .far) (shapeOf (upper r) (nearEnd feed (runAt runs r)) (farEnd feed (runAt runs r)))
 
+-- One after the other these are the runs with their shapes.
 shaped-values : (feed : List Spot) (upper : ℕ → Bool) (runs : List Run) → valuesFrom (bentAs feed upper runs) 0 (length runs) ≡ shapedRuns runs (shapesBy feed upper runs)
 unfolding shapedRuns shapesBy
 shaped-values feed upper [] = unfold valuesFrom in refl
@@ -157,6 +141,7 @@ shaped-values feed upper (r ∷ runs) =
     front : (f : ℕ → Shaped) (k : ℕ) → valuesFrom f 0 (suc k) ≡ f 0 ∷ valuesFrom f 1 k
     front f k = unfold valuesFrom in refl
 
+-- So the run entries that a mask gives are those of the shapes that it tells.
 entries-shaped : (feed : List Spot) (favoured : Bool) (mask : ℕ) (runs : List Run)
     → entriesIn feed favoured mask (entries runs) (length runs) ≡ runEntries (shapedRuns runs (shapesBy feed (upperIn favoured mask) runs))
 unfolding entriesIn
@@ -168,31 +153,34 @@ entries-shaped feed favoured mask runs =
     same : (j : ℕ) → shapedIn feed favoured mask (entries runs) j ≡ bentAs feed (upperIn favoured mask) runs j
     same j = unfold shapedIn in rw (entries-at runs j)
 
+-- There are as many as runs.
 shaped-long : (feed : List Spot) (upper : ℕ → Bool) (runs : List Run) → length (shapedRuns runs (shapesBy feed upper runs)) ≡ length runs
 unfolding shapedRuns shapesBy
 shaped-long feed upper [] = refl
 shaped-long feed upper (r ∷ runs) = ap suc (shaped-long feed (λ q. upper (suc q)) runs)
 
+-- The first run entries are those before the blanks.
 take-entries : (l : List Shaped) (n : ℕ) → length l ≡ n → take n (runEntries l) ≡ l
 unfolding runEntries
-take-entries l n e = take-at l (replicate (31 - length l) (shaped 0 0 Straight)) n e
+take-entries l n e = take-at l (replicate (mostRuns - length l) noRun) n e
 
+-- The legs of the run entries are those of the choice.
 legs-shaped : (feed : List Spot) (runs : List Run) (shapes : List Shape) → legsOfEntries feed (shapedRuns runs shapes) ≡ legsOfChoice feed runs shapes
 unfolding legsOfEntries shapedRuns legsOfChoice legsOfEntry
 legs-shaped feed [] shapes = refl
 legs-shaped feed (r ∷ runs) [] = refl
 legs-shaped feed (r ∷ runs) (s ∷ shapes) = ap (λ (l : List Leg). legsOf s (nearEnd feed r) (farEnd feed r) ++ l) (legs-shaped feed runs shapes)
 
-module _ (feed : List Spot) (full : length feed ≡ 32) (ok : allWithin feed ≡ true) (free : allApart feed ≡ true) (t : Tree) (w : Wired feed t) where
+module _ (feed : List Spot) (full : length feed ≡ mostPins) (ok : allWithin feed ≡ true) (free : allApart feed ≡ true) (t : Tree) (w : Wired feed t) where
   abbrev runs : List Run
   runs = runsOf feed
 
   abbrev n : ℕ
   n = length runs
 
-  pub few : n ≤ 31
-  unfolding pinsOf
-  few = omega (arith, runs-many feed full ok (w .first) (w .left) (w .pins), pins-few 0 feed)
+  -- There are at most 31 runs.
+  pub few : n ≤ mostRuns
+  few = runs-few feed full ok (w .first) (w .left) (w .pins)
 
   abbrev xs : List ℤ
   xs = xsOf feed (entries runs)
@@ -203,19 +191,22 @@ module _ (feed : List Spot) (full : length feed ≡ 32) (ok : allWithin feed ≡
   abbrev nears : List ℕ
   nears = nearsOf (entries runs) n
 
+  -- Pins that are reached stand at the same places by the entries ..
   place-same : (i : ℕ) → reachedPlace feed (entries runs) i ≡ reachedPlace feed runs i
   place-same i = ap (λ (p : ℕ). placeOf (spotAt feed p)) (pin-entries runs i)
 
-  place-is : (i : ℕ) → i < 32 → placeAt xs ys i ≡ reachedPlace feed runs i
+  -- .. and by the lists of x and y ..
+  place-is : (i : ℕ) → i < mostPins → placeAt xs ys i ≡ reachedPlace feed runs i
   unfolding xsOf ysOf
   place-is i l =
-      ap₂ (λ (a b : ℤ). record { x = a; y = b }) (value-at (λ j. reachedPlace feed (entries runs) j .x) 32 i (pos 0) l ∙ ap (λ (p : Place). p .x) (place-same i))
-      (value-at (λ j. reachedPlace feed (entries runs) j .y) 32 i (pos 0) l ∙ ap (λ (p : Place). p .y) (place-same i))
+      ap₂ (λ (a b : ℤ). record { x = a; y = b }) (value-at (λ j. reachedPlace feed (entries runs) j .x) mostPins i (pos 0) l ∙ ap (λ (p : Place). p .x) (place-same i))
+      (value-at (λ j. reachedPlace feed (entries runs) j .y) mostPins i (pos 0) l ∙ ap (λ (p : Place). p .y) (place-same i))
 
-  near-is : (r : ℕ) → r < 31 → nearAt nears r ≡ reachedNear runs r
+  -- .. and near pins are reached as the same numbers.
+  near-is : (r : ℕ) → r < mostRuns → nearAt nears r ≡ reachedNear runs r
   unfolding nearsOf reachedNear
   near-is r l =
-      value-at (λ q. reachedFrom 0 (take n (entries runs)) (runAt (entries runs) q .near)) 31 r 0 l
+      value-at (λ q. reachedFrom 0 (take n (entries runs)) (runAt (entries runs) q .near)) mostRuns r 0 l
       ∙ ap₂ (λ (a : List Run) (b : ℕ). reachedFrom 0 a b) (entries-take runs) (ap (λ (q : Run). q .near) (entries-at runs r))
 
   abbrev before : (r : ℕ) → r < n → reachedNear runs r ≤ r
@@ -227,23 +218,24 @@ module _ (feed : List Spot) (full : length feed ≡ 32) (ok : allWithin feed ≡
       record {
         few = few;
         grown = λ r l. rw (near-is r (omega (arith, few))) (before r l);
-        on-board = λ i. go i (ltb i 32) refl;
+        on-board = λ i. go i (ltb i mostPins) refl;
       }
     where
-      go : (i : ℕ) (b : Bool) → ltb i 32 ≡ b → inside (placeAt xs ys i) ≡ true
-      go i true e = rw (place-is i (ltb-true i 32 e)) (inside-at feed ok (reachedPin runs i))
+      go : (i : ℕ) (b : Bool) → ltb i mostPins ≡ b → inside (placeAt xs ys i) ≡ true
+      go i true e = rw (place-is i (ltb-true i mostPins e)) (inside-at feed ok (reachedPin runs i))
       go i false e =
-          let l : 32 ≤ i = ltb-false i 32 e in
+          let l : mostPins ≤ i = ltb-false i mostPins e in
           let p : getD xs i (pos 0) ≡ pos 0 = List·getD-eq-default xs (pos 0) (long-x i l) in
           let q : getD ys i (pos 0) ≡ pos 0 = List·getD-eq-default ys (pos 0) (long-y i l) in
           rw (p, q) middle-inside
         where
-          long-x : (i : ℕ) → 32 ≤ i → length xs ≤ i
-          long-x i l = unfold xsOf in omega (arith, values-long (λ j. reachedPlace feed (entries runs) j .x) 0 32)
+          long-x : (i : ℕ) → mostPins ≤ i → length xs ≤ i
+          long-x i l = unfold xsOf in omega (arith, values-long (λ j. reachedPlace feed (entries runs) j .x) 0 mostPins)
 
-          long-y : (i : ℕ) → 32 ≤ i → length ys ≤ i
-          long-y i l = unfold ysOf in omega (arith, values-long (λ j. reachedPlace feed (entries runs) j .y) 0 32)
+          long-y : (i : ℕ) → mostPins ≤ i → length ys ≤ i
+          long-y i l = unfold ysOf in omega (arith, values-long (λ j. reachedPlace feed (entries runs) j .y) 0 mostPins)
 
+  -- The tree by its lists is told as the tree by its runs.
   alike : Alike (placeAt xs ys) (reachedPlace feed runs) (nearAt nears) (reachedNear runs) n
   alike =
       record {
@@ -256,46 +248,60 @@ module _ (feed : List Spot) (full : length feed ≡ 32) (ok : allWithin feed ≡
     abbrev choice : List Shape
     choice = bestChoice favoured feed runs
 
+    -- What is found for the one is found for the other:
     found-is : f ≡ leastOfTree (reachedPlace feed runs) (reachedNear runs) favoured n
     found-is = ef ∙ found-alike (placeAt xs ys) (reachedPlace feed runs) (nearAt nears) (reachedNear runs) n alike favoured
 
+    -- the cost is the least of all choices of shapes,
     cost-is : f .cost ≡ leastOf (reachedPlace feed runs) (reachedNear runs) base (markOf favoured) n
     unfolding leastOfTree
     cost-is = ap (λ (z : Least). z .cost) found-is ∙ tree-cost (reachedPlace feed runs) (reachedNear runs) favoured n
 
+    -- its length that of the best choice,
     length-is : f .cost / base ≡ lengthOfChoice feed runs choice
     length-is = ap (λ (c : ℕ). c / base) cost-is ∙ length-found feed full ok (w .first) (w .left) (w .pins) free (w .clear) few favoured
 
+    -- its shapes those of the best choice,
     shapes-is : shapesBy feed (upperIn favoured (f .cost % base)) runs ≡ choice
-    shapes-is = ap (λ (c : ℕ). shapesBy feed (upperIn favoured (c % base)) runs) cost-is ∙ shapes-found feed full ok (w .first) (w .left) (w .pins) free (w .clear) few favoured
+    shapes-is =
+        ap (λ (c : ℕ). shapesBy feed (upperIn favoured (c % base)) runs) cost-is
+        ∙ shapes-found feed full ok (w .first) (w .left) (w .pins) free (w .clear) few favoured
 
+    -- and the choices weighed those of the definition.
     weighed-is : f .weighed ≡ weighedOf feed runs (pinsOf feed)
     unfolding leastOfTree
     weighed-is = ap (λ (z : Least). z .weighed) found-is ∙ weighed-told feed full ok (w .first) (w .left) (w .pins)
 
     module _ (E : List Shaped) (eE : E ≡ entriesIn feed favoured (f .cost % base) (entries runs) n) (S : Strip) (eS : S ≡ strip (legsOfEntries feed (take n E))) where
+      -- The run entries are those of the best choice ..
       entries-is : E ≡ runEntries (shapedRuns runs choice)
       entries-is = eE ∙ entries-shaped feed favoured (f .cost % base) runs ∙ ap (λ (c : List Shape). runEntries (shapedRuns runs c)) shapes-is
 
+      -- .. as many as runs ..
       count-is : length (shapedRuns runs choice) ≡ n
       count-is = rw shapes-is at (shaped-long feed (upperIn favoured (f .cost % base)) runs)
 
+      -- .. and so are the legs ..
       strip-is : S ≡ strip (legsOfChoice feed runs choice)
       strip-is =
           eS ∙ ap (λ (l : List Shaped). strip (legsOfEntries feed l)) (ap (take n) entries-is ∙ take-entries (shapedRuns runs choice) n count-is)
           ∙ ap strip (legs-shaped feed runs choice)
 
+      -- .. their number ..
       many-is : S .count ≡ length (legsOfChoice feed runs choice)
       unfolding strip
       many-is = ap (λ (s : Strip). s .count) strip-is
 
+      -- .. and their entries.
       legs-is : S .legs ≡ legEntries (legsOfChoice feed runs choice)
       unfolding strip
       legs-is = ap (λ (s : Strip). s .legs) strip-is
 
+      -- There are pins,
       some : none (pinsOf feed) ≡ false
       some = rw (w .pins)
 
+      -- so that the room alone decides.
       verdict-is : (room : ℕ) → wiringVerdict feed runs choice room ≡ turn (ltb room (S .count)) RoomTooSmall Accepted
       unfolding wiringVerdict turn choose
       verdict-is room = rw (some, w .clear, many-is)
@@ -319,8 +325,9 @@ module _ (feed : List Spot) (full : length feed ≡ 32) (ok : allWithin feed ≡
           rw v (unfold accepted choose answerWith laidWith in rw (length-is, weighed-is, entries-is, many-is, legs-is, count-is))
 
 -- ---- the same of the tree as the code has it
-module _ (feed : List Spot) (full : length feed ≡ 32) (ok : allWithin feed ≡ true) (free : allApart feed ≡ true) (favoured : Bool) (room : ℕ)
+module _ (feed : List Spot) (full : length feed ≡ mostPins) (ok : allWithin feed ≡ true) (free : allApart feed ≡ true) (favoured : Bool) (room : ℕ)
     (t : Tree) (et : t ≡ treeOf feed) (b : Bool) (eb : b ≡ accepted (t .verdict)) where
+  -- The tree refuses.
   pub wire-refused : not b ≡ true → turnedAway (t .verdict) ≡ wiringFavouring favoured feed room
   wire-refused y = tree-refuses favoured feed room t et (sym eb ∙ not-true b y)
 
@@ -328,17 +335,25 @@ module _ (feed : List Spot) (full : length feed ≡ 32) (ok : allWithin feed ≡
     w : Wired feed t
     w = tree-accepts feed t et (sym eb ∙ not-false b y)
 
-    pub count-few : t .count ≤ 31
+    -- It accepts: there are at most 31 runs,
+    pub count-few : t .count ≤ mostRuns
     count-few = omega (arith, few feed full ok free t w, w .count)
 
-    module _ (xs ys : List ℤ) (nears : List ℕ) (ex : xs ≡ xsOf feed (t .runs)) (ey : ys ≡ ysOf feed (t .runs)) (en : nears ≡ nearsOf (t .runs) (t .count)) where
-      pub wire-grown : Grown xs ys nears (t .count)
-      wire-grown = rw (ex, ey, en, w .count, w .runs) (tree-grown feed full ok free t w)
+    module _ (places : Reached) (ep : places ≡ reachedOf feed (t .runs)) (nears : List ℕ) (en : nears ≡ nearsOf (t .runs) (t .count)) where
+      -- and the tree can be asked.
+      pub wire-grown : Grown (places .xs) (places .ys) nears (t .count)
+      unfolding reachedOf
+      wire-grown = rw (ep, en, w .count, w .runs) (tree-grown feed full ok free t w)
 
-      module _ (f : Least) (ef : f ≡ leastOfTree (placeAt xs ys) (nearAt nears) favoured (t .count)) (E : List Shaped) (eE : E ≡ entriesIn feed favoured (f .cost % base) (t .runs) (t .count))
+      module _ (f : Least) (ef : f ≡ leastOfTree (placeAt (places .xs) (places .ys)) (nearAt nears) favoured (t .count))
+          (E : List Shaped) (eE : E ≡ entriesIn feed favoured (f .cost % base) (t .runs) (t .count))
           (S : Strip) (eS : S ≡ strip (legsOfEntries feed (take (t .count) E))) where
-        found-as : f ≡ leastOfTree (placeAt (xsOf feed (entries (runsOf feed))) (ysOf feed (entries (runsOf feed)))) (nearAt (nearsOf (entries (runsOf feed)) (length (runsOf feed)))) favoured (length (runsOf feed))
-        found-as = rw (ex, ey, en, w .count, w .runs) at ef
+        -- What is found, the run entries and the legs, by the tree of the definition.
+        found-as : f
+            ≡ leastOfTree (placeAt (xsOf feed (entries (runsOf feed))) (ysOf feed (entries (runsOf feed))))
+            (nearAt (nearsOf (entries (runsOf feed)) (length (runsOf feed)))) favoured (length (runsOf feed))
+        unfolding reachedOf
+        found-as = rw (ep, en, w .count, w .runs) at ef
 
         entries-as : E ≡ entriesIn feed favoured (f .cost % base) (entries (runsOf feed)) (length (runsOf feed))
         entries-as = rw (w .count, w .runs) at eE
@@ -346,9 +361,11 @@ module _ (feed : List Spot) (full : length feed ≡ 32) (ok : allWithin feed ≡
         strip-as : S ≡ strip (legsOfEntries feed (take (length (runsOf feed)) E))
         strip-as = rw (w .count) at eS
 
+        -- Too little room is refused ..
         pub wire-room : room < S .count → turnedAway RoomTooSmall ≡ wiringFavouring favoured feed room
         wire-room l = room-refused feed full ok free t w favoured f found-as E entries-as S strip-as room l
 
+        -- .. and otherwise this is the answer.
         pub wire-answer : S .count ≤ room
             → record {
               wiring = record { verdict = Accepted; length = f .cost / base; count = t .count; runs = E; legs = S .count; weighed = f .weighed };

@@ -13,9 +13,10 @@ use Rattle.grid.specs.declared.Place.{Place}
 use Rattle.feed.specs.declared.Spot.{Spot}
 use Rattle.grid.specs.Place.{isStraight}
 use Rattle.tree.specs.declared.Run.{Run}
-use Rattle.feed.specs.Feeds.{allWithin, allApart}
+use Rattle.feed.specs.Feeds.{mostPins, allWithin, allApart}
 use Rattle.tree.specs.Growth.{pinsOf, runsOf}
 use Rattle.tree.specs.Boxes.{boxesMeet}
+use Rattle.tree.specs.Trees.{mostRuns}
 use Rattle.tree.proofs.Membership.{Among}
 use Rattle.copper.specs.declared.Shape.{Shape}
 use Rattle.copper.specs.declared.Leg.{Leg}
@@ -28,8 +29,8 @@ use Rattle.copper_laws.proofs.Wired.{first-shortest}
 use Rattle.least.specs.Asking.{base, markOf}
 use Rattle.wiring.specs.Choices.{nearEnd, farEnd, choicesOf, legsOfChoice, lengthOfChoice, bestChoice}
 use Rattle.wiring.specs.Reaching.{runAt, reachedNear, reachedPlace, upperIn, shapesBy}
-use Rattle.wiring.proofs.Ordered.{bends, maskFrom, choice-told, told-choice, choice-long, choices-rising, choice-may, bends-told, first-found}
-use Rattle.wiring.proofs.Masks.{maskBy, mask-sum, mask-choice, mask-less, mask-read}
+use Rattle.wiring.proofs.Ordered.{choice-told, told-choice, choice-long, choices-rising, choice-may, bends-told, first-found}
+use Rattle.wiring.proofs.Masks.{bends, maskFrom, maskBy, mask-sum, mask-choice, mask-less, mask-read}
 use Rattle.wiring.proofs.Laying.{places-held, near-place, far-place, laid}
 
 -- Lists joined, n of them.
@@ -37,11 +38,13 @@ unfoldable joinBelow : ℕ → (ℕ → List Leg) → List Leg
 joinBelow zero g = []
 joinBelow (suc n) g = joinBelow n g ++ g n
 
+-- They are joined from the front as from the back,
 join-front : (n : ℕ) (g : ℕ → List Leg) → joinBelow (suc n) g ≡ g 0 ++ joinBelow n (λ r. g (suc r))
 unfolding joinBelow
 join-front zero g = sym (append-nil (g 0))
 join-front (suc n) g = ap (λ (l : List Leg). l ++ g (suc n)) (join-front n g) ∙ append-assoc (g 0) (joinBelow n (λ r. g (suc r))) (g (suc n))
 
+-- and equal ones give equal lists.
 join-same : (n : ℕ) (g h : ℕ → List Leg) → ((r : ℕ) → r < n → g r ≡ h r) → joinBelow n g ≡ joinBelow n h
 unfolding joinBelow
 join-same zero g h e = refl
@@ -51,6 +54,7 @@ join-same (suc n) g h e = ap₂ (λ (a b : List Leg). a ++ b) (join-same n g h (
 abbrev legsAt : List Spot → List Run → (ℕ → Bool) → ℕ → List Leg
 legsAt feed runs upper r = legsOf (shapeOf (upper r) (nearEnd feed (runAt runs r)) (farEnd feed (runAt runs r))) (nearEnd feed (runAt runs r)) (farEnd feed (runAt runs r))
 
+-- The legs of a choice, run by run,
 legs-join : (feed : List Spot) (runs : List Run) (upper : ℕ → Bool) → legsOfChoice feed runs (shapesBy feed upper runs) ≡ joinBelow (length runs) (legsAt feed runs upper)
 unfolding legsOfChoice shapesBy
 legs-join feed [] upper = unfold joinBelow in refl
@@ -58,6 +62,7 @@ legs-join feed (r ∷ runs) upper =
     ap (λ (l : List Leg). legsOf (shapeOf (upper 0) (nearEnd feed r) (farEnd feed r)) (nearEnd feed r) (farEnd feed r) ++ l) (legs-join feed runs (λ q. upper (suc q)))
     ∙ sym (join-front (length runs) (legsAt feed (r ∷ runs) upper))
 
+-- and those of the runs by when their pins are reached.
 runs-join : (at : ℕ → Place) (near : ℕ → ℕ) (upper : ℕ → Bool) (n : ℕ)
     → legsOfRuns at near upper n ≡ joinBelow n (λ r. legsOf (shapeOf (upper r) (at (near r)) (at (suc r))) (at (near r)) (at (suc r)))
 unfolding legsOfRuns joinBelow
@@ -69,17 +74,19 @@ shapes-same : (feed : List Spot) (runs : List Run) (u v : ℕ → Bool) → ((r 
 unfolding shapesBy
 shapes-same feed [] u v h = refl
 shapes-same feed (r ∷ runs) u v h =
-    ap₂ (λ (b : Bool) (c : List Shape). shapeOf b (nearEnd feed r) (farEnd feed r) ∷ c) (h 0 (omega arith)) (shapes-same feed runs (λ q. u (suc q)) (λ q. v (suc q)) (λ q l. h (suc q) (omega arith)))
+    ap₂ (λ (b : Bool) (c : List Shape). shapeOf b (nearEnd feed r) (farEnd feed r) ∷ c) (h 0 (omega arith))
+    (shapes-same feed runs (λ q. u (suc q)) (λ q. v (suc q)) (λ q l. h (suc q) (omega arith)))
 
 -- A length and a mask as one number, taken apart again.
 split-length : (mask long : ℕ) → mask < base → (mask + long * base) / base ≡ long
 split-length mask long l = add-mul-div-right mask long {z = base} (omega arith) ∙ (let z : mask / base ≡ 0 = div-eq-of-lt l in omega (arith, z))
 
+-- And the mask.
 split-mask : (mask long : ℕ) → mask < base → (mask + long * base) % base ≡ mask
 split-mask mask long l = add-mul-mod-self-right mask long base ∙ mod-eq-of-lt l
 
-module _ (feed : List Spot) (full : length feed ≡ 32) (ok : allWithin feed ≡ true) (f : ℕ) (left : List ℕ) (e : pinsOf feed ≡ f ∷ left)
-    (free : allApart feed ≡ true) (clear : boxesMeet feed (runsOf feed) ≡ false) (few : length (runsOf feed) ≤ 31) (favoured : Bool) where
+module _ (feed : List Spot) (full : length feed ≡ mostPins) (ok : allWithin feed ≡ true) (f : ℕ) (left : List ℕ) (e : pinsOf feed ≡ f ∷ left)
+    (free : allApart feed ≡ true) (clear : boxesMeet feed (runsOf feed) ≡ false) (few : length (runsOf feed) ≤ mostRuns) (favoured : Bool) where
   abbrev runs : List Run
   runs = runsOf feed
 
@@ -100,6 +107,7 @@ module _ (feed : List Spot) (full : length feed ≡ 32) (ok : allWithin feed ≡
       (λ r l. ap₂ (λ (a b : Place). legsOf (shapeOf (upper r) a b) a b) (sym (near-place feed full ok f left e r l)) (sym (far-place feed full ok f left e r)))
       ∙ sym (runs-join at near upper n)
 
+  -- So is its length.
   length-told : (upper : ℕ → Bool) → lengthOfChoice feed runs (shapesBy feed upper runs) ≡ lengthOf (legsOfRuns at near upper n)
   unfolding lengthOfChoice
   length-told upper = ap lengthOf (legs-told upper)
@@ -108,17 +116,23 @@ module _ (feed : List Spot) (full : length feed ≡ 32) (ok : allWithin feed ≡
   abbrev cost : ℕ
   cost = leastOf at near base (markOf favoured) n
 
+  -- A mask of all runs is small.
   small : (upper : ℕ → Bool) → sumBelow n (λ r. markOf favoured r (upper r)) < base
-  small upper = let z : maskBy favoured 0 n upper < 2147483648 = mask-less favoured 0 n upper (omega arith) in omega (arith, mask-sum favoured n upper)
+  small upper = let z : maskBy favoured 0 n upper < base = mask-less favoured 0 n upper (omega arith) in omega (arith, mask-sum favoured n upper)
 
+  -- The mask of a choice is the sum of its marks.
   mask-told : (c : List Shape) → length c ≡ n → maskFrom favoured 0 c ≡ sumBelow n (λ r. markOf favoured r (bends c r))
   mask-told c l = mask-choice favoured 0 c ∙ ap (λ (k : ℕ). maskBy favoured 0 k (bends c)) l ∙ sym (mask-sum favoured n (bends c))
 
   -- Bends that may be, by the ends of the runs and by when their pins are reached.
   may-reached : (upper : ℕ → Bool) → ((r : ℕ) → r < n → isStraight (nearEnd feed (runAt runs r)) (farEnd feed (runAt runs r)) ≡ true → upper r ≡ false)
       → (r : ℕ) → r < n → May (bentAt at near r) (upper r)
-  may-reached upper h r l q = h r l (ap₂ isStraight (sym (near-place feed full ok f left e r l)) (sym (far-place feed full ok f left e r)) ∙ not-false (isStraight (at (near r)) (at (suc r))) q)
+  may-reached upper h r l q =
+      h r l
+      (ap₂ isStraight (sym (near-place feed full ok f left e r l)) (sym (far-place feed full ok f left e r))
+      ∙ not-false (isStraight (at (near r)) (at (suc r))) q)
 
+  -- And back.
   may-ends : (upper : ℕ → Bool) → ((r : ℕ) → r < n → May (bentAt at near r) (upper r))
       → (r : ℕ) → r < n → isStraight (nearEnd feed (runAt runs r)) (farEnd feed (runAt runs r)) ≡ true → upper r ≡ false
   may-ends upper h r l q =
@@ -133,31 +147,38 @@ module _ (feed : List Spot) (full : length feed ≡ 32) (ok : allWithin feed ≡
     abbrev best : List Shape
     best = shapesBy feed s runs
 
+    -- The shapes found are a choice,
     best-in : Among best (choicesOf favoured feed runs)
     best-in = told-choice favoured feed runs s
 
+    -- whose mask is found too;
     best-mask : maskFrom favoured 0 best ≡ sumBelow n (λ r. markOf favoured r (s r))
     best-mask =
         mask-told best (choice-long favoured feed runs best best-in)
         ∙ sum-same n (λ r. markOf favoured r (bends best r)) (λ r. markOf favoured r (s r)) (λ r l. ap (markOf favoured r) (bends-told feed runs s (may-ends s may) r l))
 
+    -- no choice is shorter, and none as short has a smaller mask;
     best-first : (d : List Shape) → Among d (choicesOf favoured feed runs)
         → (lengthOfChoice feed runs best < lengthOfChoice feed runs d)
         ⊎ ((lengthOfChoice feed runs best ≡ lengthOfChoice feed runs d) × (maskFrom favoured 0 best ≤ maskFrom favoured 0 d))
     best-first d m =
-        let l : lengthOfChoice feed runs d ≡ lengthOf (legsOfRuns at near (bends d) n) = ap (lengthOfChoice feed runs) (choice-told favoured feed runs d m) ∙ length-told (bends d) in
+        let l : lengthOfChoice feed runs d ≡ lengthOf (legsOfRuns at near (bends d) n) =
+        ap (lengthOfChoice feed runs) (choice-told favoured feed runs d m) ∙ length-told (bends d) in
         let b : lengthOfChoice feed runs best ≡ lengthOf (legsOfRuns at near s n) = length-told s in
         ⊎-elim (λ h. inl (omega (arith, h, l, b)))
         (λ h. inr (omega (arith, h .0, l, b), omega (arith, h .1, best-mask, mask-told d (choice-long favoured feed runs d m))))
         (ahead (bends d) (may-reached (bends d) (choice-may favoured feed runs d m)))
 
+    -- so they are the best choice,
     best-is : bestChoice favoured feed runs ≡ best
     unfolding bestChoice
     best-is = first-found feed runs (maskFrom favoured 0) best (choicesOf favoured feed runs) best-in (choices-rising favoured feed 0 runs (omega arith)) best-first
 
+    -- with its length
     length-is : cost / base ≡ lengthOfChoice feed runs (bestChoice favoured feed runs)
     length-is = ap (λ (c : ℕ). c / base) is ∙ split-length _ _ (small s) ∙ sym (length-told s) ∙ ap (lengthOfChoice feed runs) (sym best-is)
 
+    -- and its shapes.
     shapes-is : shapesBy feed (upperIn favoured (cost % base)) runs ≡ bestChoice favoured feed runs
     shapes-is =
         shapes-same feed runs (upperIn favoured (cost % base)) s

@@ -10,7 +10,7 @@ use lib.IntN.{ℤ}
 use lib.Dec.{eqb}
 use lib.ListN.{length, getD}
 use borrow.Author.Tests.{eq-eqb, eqb-true, eqb-false, lt-ltb}
-use Rattle.refusal.proofs.Tests.{both-of, both-left, both-right}
+use Rattle.refusal.proofs.Tests.{opposite, both-of, both-left, both-right}
 use Rattle.grid.specs.declared.Place.{Place}
 use Rattle.feed.specs.declared.Spot.{Spot}
 use Rattle.feed.specs.declared.Spot.the-variants.{Absent, At}
@@ -18,11 +18,10 @@ use Rattle.grid.specs.Place.{leastGap, difference, sameNumber, closer, tooNear,
 use Rattle.grid.proofs.Signed.{I32, difference-off}
 use Rattle.grid.proofs.Flat.{Site, site, Held, order}
 use Rattle.tree.specs.declared.Run.{Run}
-use Rattle.feed.specs.Feeds.{present, placeOf, spotAt, meets, allWithin, allApart}
+use Rattle.feed.specs.Feeds.{mostPins, present, placeOf, spotAt, spotsTooNear, allWithin, allApart}
 use Rattle.feed.proofs.Rules.{apart-pair}
 use Rattle.tree.specs.Growth.{pinsOf, runsOf}
 use Rattle.tree.specs.Boxes.{boxesMeet}
-use Rattle.tree.proofs.Deciding.{opposite}
 use Rattle.tree.proofs.Membership.{Among, pins-there}
 use Rattle.tree.proofs.Listing.{Rooted, nearAt, farAt, pins-low, runs-rooted}
 use Rattle.tree.proofs.Numbering.{stands}
@@ -42,24 +41,26 @@ unfolding tooNear samePlace
 same-near p q e = both-of (same-closer (p .x) (q .x) (both-left _ _ e)) (same-closer (p .y) (q .y) (both-right _ _ e))
 
 -- Two pins that are there at one place meet.
-same-meet : (s t : Spot) → present s ≡ true → present t ≡ true → samePlace (placeOf s) (placeOf t) ≡ true → meets s t ≡ true
-unfolding meets
-same-meet Absent t a b e = absurd (opposite a refl)
-same-meet (At p) Absent a b e = absurd (opposite b refl)
-same-meet (At p) (At q) a b e = same-near p q e
+same-spots : (s t : Spot) → present s ≡ true → present t ≡ true → samePlace (placeOf s) (placeOf t) ≡ true → spotsTooNear s t ≡ true
+unfolding spotsTooNear
+same-spots Absent t a b e = absurd (opposite a refl)
+same-spots (At p) Absent a b e = absurd (opposite b refl)
+same-spots (At p) (At q) a b e = same-near p q e
 
+-- Numbers that are the same are so in either order ..
 turned : (a b : ℤ) → I32 a → I32 b → sameNumber a b ≡ true → sameNumber b a ≡ true
 unfolding sameNumber
 turned a b p q e =
     eq-eqb (difference b a) 0 (let z : difference b a ≡ 0 = omega (arith, eqb-true (difference a b) 0 e, difference-off a b p q, difference-off b a q p) in z)
 
+-- .. and so are places.
 place-turned : (a b : Place) → Held a → Held b → samePlace a b ≡ true → samePlace b a ≡ true
 unfolding samePlace
 place-turned a b p q e =
     both-of (turned (a .x) (b .x) (p .x) (q .x) (both-left (sameNumber (a .x) (b .x)) (sameNumber (a .y) (b .y)) e))
     (turned (a .y) (b .y) (p .y) (q .y) (both-right (sameNumber (a .x) (b .x)) (sameNumber (a .y) (b .y)) e))
 
-module _ (feed : List Spot) (full : length feed ≡ 32) (ok : allWithin feed ≡ true) (f : ℕ) (left : List ℕ) (e : pinsOf feed ≡ f ∷ left) where
+module _ (feed : List Spot) (full : length feed ≡ mostPins) (ok : allWithin feed ≡ true) (f : ℕ) (left : List ℕ) (e : pinsOf feed ≡ f ∷ left) where
   abbrev runs : List Run
   runs = runsOf feed
 
@@ -78,20 +79,24 @@ module _ (feed : List Spot) (full : length feed ≡ 32) (ok : allWithin feed ≡
   root : Rooted f left runs
   root = runs-rooted feed full ok f left e
 
+  -- Each place fits the numbers that hold it.
   pub places-held : (i : ℕ) → Held (at i)
   places-held i = stands feed ok (reachedPin runs i) .held
 
-  -- Where the near and the far pin of a run stand.
+  -- Where the near pin of a run stands ..
   pub near-place : (r : ℕ) → r < n → at (near r) ≡ placeOf (spotAt feed (nearAt runs r))
   near-place r l = ap (λ (p : ℕ). placeOf (spotAt feed p)) (near-pin f left runs root r l)
 
+  -- .. and where its far pin does.
   pub far-place : (r : ℕ) → at (suc r) ≡ placeOf (spotAt feed (farAt runs r))
   far-place r = ap (λ (p : ℕ). placeOf (spotAt feed p)) (far-pin f left runs root r)
 
+  -- Near pins are reached first.
   pub grown : (r : ℕ) → r < n → near r ≤ r
   grown = near-before f left runs root
 
   module _ (free : allApart feed ≡ true) where
+    -- The pins that are listed are there.
     there : (a : ℕ) → Among a (f ∷ left) → present (spotAt feed a) ≡ true
     unfolding pinsOf
     there a m =
@@ -100,10 +105,11 @@ module _ (feed : List Spot) (full : length feed ≡ 32) (ok : allWithin feed ≡
         ap (λ (p : ℕ). present (getD feed p Absent)) (z .1 ∙ q) ∙ z .3
 
     -- No two pins stand at one place.
-    apart : (a b : ℕ) → a < b → b < 32 → Among a (f ∷ left) → Among b (f ∷ left) → samePlace (placeOf (spotAt feed a)) (placeOf (spotAt feed b)) ≡ true → ⊥
+    apart : (a b : ℕ) → a < b → b < mostPins → Among a (f ∷ left) → Among b (f ∷ left) → samePlace (placeOf (spotAt feed a)) (placeOf (spotAt feed b)) ≡ true → ⊥
     apart a b l k m o h =
-        opposite (same-meet (spotAt feed a) (spotAt feed b) (there a m) (there b o) h) (apart-pair feed a b free l)
+        opposite (same-spots (spotAt feed a) (spotAt feed b) (there a m) (there b o) h) (apart-pair feed a b free l)
 
+    -- Pins at one place are one pin.
     distinct : (a b : ℕ) → Among a (f ∷ left) → Among b (f ∷ left) → samePlace (placeOf (spotAt feed a)) (placeOf (spotAt feed b)) ≡ true → a ≡ b
     distinct a b m o h = go (order a b) (order b a)
       where
@@ -122,11 +128,13 @@ module _ (feed : List Spot) (full : length feed ≡ 32) (ok : allWithin feed ≡
       pin-same o zero = first-pin f left runs root o
       pin-same o (suc r) = far-pin f left runs root r
 
+      -- Where there are runs, they are laid as the length asks ..
       laid-some : 0 < n → Laid sites near n
       laid-some o =
           subst (λ (at' : ℕ → Site). Laid at' near n) (fun-ext (λ i. ap (λ (p : ℕ). site (placeOf (spotAt feed p))) (sym (pin-same o i))))
           (planted feed full ok f left e near grown (λ r l. sym (pin-same o (near r)) ∙ near-pin f left runs root r l) distinct clear)
 
+      -- .. and where there is none, nothing is asked.
       laid-none : n ≡ 0 → Laid sites near n
       laid-none z =
           record {

@@ -1,46 +1,29 @@
 -- The choices of shapes in their order: every choice is told by how its runs bend, its mask grows from each choice to the later ones, and so
 -- the first of the shortest is the one of least length, and among those of least mask. Assumes at most 31 runs.
-use mathlib.Core.Path.{_≡_, refl, sym, ap, ap₂, _∙_, subst}
+use mathlib.Core.Path.{_≡_, refl, sym, ap, ap₂, subst}
 use mathlib.Core.Bool.{Bool, true, false, not}
 use mathlib.Core.List.{List, [], _∷_, _++_}
 use mathlib.Core.Logic.{_⊎_, inl, inr}
-use Prim.Native.Nat.{ℕ, zero, suc, _+_, _-_, _*_, _^_, _≤_, _<_}
-use native.Mathlib.Nat.{pow-suc}
+use Prim.Native.Nat.{ℕ, zero, suc, _+_, _-_, _≤_, _<_}
 use native.Mathlib.Omega.{arith}
 use lib.Dec.{ltb}
 use lib.ListN.{length}
-use lib.Pow.{pow-pos}
 use borrow.Author.Tests.{lt-ltb, le-ltb}
 use Rattle.refusal.specs.Tests.{choose}
 use Rattle.feed.specs.declared.Spot.{Spot}
 use Rattle.grid.specs.Place.{isStraight}
 use Rattle.tree.specs.declared.Run.{Run}
 use Rattle.tree.specs.Bends.{bent}
+use Rattle.tree.specs.Trees.{mostRuns}
 use Rattle.tree.proofs.Membership.{Among, first, later, in-front, in-back, in-either}
 use Rattle.tree.proofs.Spanning.{none-among}
 use Rattle.copper.specs.declared.Shape.{Shape}
 use Rattle.copper.specs.declared.Shape.the-variants.{Straight, Lower, Upper}
 use Rattle.copper.specs.Shapes.{shapeOf}
-use Rattle.least.specs.Asking.{differs, markOf}
+use Rattle.least.specs.Asking.{differs, markAt, markOf}
 use Rattle.wiring.specs.Choices.{nearEnd, farEnd, bentShapes, shapesOf, withShape, withShapes, choicesOf, lengthOfChoice, shortest, shortestOf}
 use Rattle.wiring.specs.Reaching.{runAt, shapesBy}
-
--- A shape bends upwards.
-abbrev pub isUpper : Shape → Bool
-isUpper Straight = false
-isUpper Lower = false
-isUpper Upper = true
-
--- How the runs of a choice bend.
-abbrev pub bends : List Shape → ℕ → Bool
-bends [] r = false
-bends (s ∷ c) zero = isUpper s
-bends (s ∷ c) (suc r) = bends c r
-
--- The mask of a choice, whose first run has number j.
-unfoldable pub maskFrom : Bool → ℕ → List Shape → ℕ
-maskFrom favoured j [] = 0
-maskFrom favoured j (s ∷ c) = markOf favoured j (isUpper s) + maskFrom favoured (suc j) c
+use Rattle.wiring.proofs.Masks.{isUpper, bends, maskFrom, mark-next, mask-most}
 
 -- One of the choices with a shape in front.
 with-in : {d : List Shape} (s : Shape) (cs : List (List Shape)) → Among d (withShape s cs) → (c : List Shape) × (d ≡ s ∷ c) × Among c cs
@@ -48,6 +31,7 @@ unfolding withShape
 with-in s (c ∷ cs) (first e) = (c, e, first refl)
 with-in s (c ∷ cs) (later m) = let z = with-in s cs m in (z .0, z .1, later (z .2))
 
+-- And the other way round.
 in-with : {c : List Shape} (s : Shape) (cs : List (List Shape)) → Among c cs → Among (s ∷ c) (withShape s cs)
 unfolding withShape
 in-with s (c ∷ cs) (first e) = first (ap (λ (z : List Shape). s ∷ z) e)
@@ -65,15 +49,18 @@ shapes-in (s ∷ ss) cs m = go (in-either (withShape s cs) m) (λ n. shapes-in s
     go (inl n) ih = let z = with-in s cs n in (s, z .0, z .1, first refl, z .2)
     go (inr n) ih = let z = ih n in (z .0, z .1, z .2, later (z .3), z .4)
 
+-- And the other way round.
 in-shapes : {s : Shape} {c : List Shape} (ss : List Shape) (cs : List (List Shape)) → Among s ss → Among c cs → Among (s ∷ c) (withShapes ss cs)
 unfolding withShapes
-in-shapes {s = a} {c = c} (s ∷ ss) cs (first e) m = in-front {l = withShape s cs} (withShapes ss cs) (subst (λ (z : Shape). Among (z ∷ c) (withShape s cs)) (sym e) (in-with s cs m))
+in-shapes {s = a} {c = c} (s ∷ ss) cs (first e) m =
+    in-front {l = withShape s cs} (withShapes ss cs) (subst (λ (z : Shape). Among (z ∷ c) (withShape s cs)) (sym e) (in-with s cs m))
 in-shapes (s ∷ ss) cs (later n) m = in-back (withShape s cs) (in-shapes ss cs n m)
 
 -- A run has the shape that its bend gives it, and a straight run does not bend upwards.
 only-straight : (s : Shape) → Among s (Straight ∷ []) → (s ≡ Straight) × (isUpper s ≡ false)
 only-straight s (first e) = (e, ap isUpper e)
 
+-- The two shapes of a bent run, in either order.
 either-bend : (s : Shape) → Among s (Upper ∷ Lower ∷ []) ⊎ Among s (Lower ∷ Upper ∷ []) → s ≡ choose (isUpper s) Upper Lower
 unfolding choose
 either-bend s (inl (first e)) = rw e
@@ -81,6 +68,7 @@ either-bend s (inl (later (first e))) = rw e
 either-bend s (inr (first e)) = rw e
 either-bend s (inr (later (first e))) = rw e
 
+-- A shape that a run may have is told by how it bends; a straight run does not bend upwards.
 told-by : (s : Shape) (t v : Bool) → Among s (choose (not t) (choose v (Upper ∷ Lower ∷ []) (Lower ∷ Upper ∷ [])) (Straight ∷ []))
     → (s ≡ choose t Straight (choose (isUpper s) Upper Lower)) × (t ≡ true → isUpper s ≡ false)
 unfolding choose
@@ -92,10 +80,12 @@ module _ (favoured : Bool) (feed : List Spot) (r : Run) where
   abbrev level : Bool
   level = isStraight (nearEnd feed r) (farEnd feed r)
 
+  -- The same of a run of the feed ..
   shape-told : (s : Shape) → Among s (shapesOf favoured feed r) → (s ≡ shapeOf (isUpper s) (nearEnd feed r) (farEnd feed r)) × (level ≡ true → isUpper s ≡ false)
   unfolding shapesOf bent isStraight shapeOf bentShapes
   shape-told s m = told-by s level favoured m
 
+  -- .. and any bend tells a shape that it may have.
   told-shape : (u : Bool) → Among (shapeOf u (nearEnd feed r) (farEnd feed r)) (shapesOf favoured feed r)
   unfolding shapesOf bent isStraight shapeOf bentShapes
   told-shape u = go level favoured u
@@ -136,13 +126,14 @@ choice-may favoured feed (q ∷ runs) d m (suc r) l e =
     let z = shapes-in (shapesOf favoured feed q) (choicesOf favoured feed runs) m in
     rw (z .2) (choice-may favoured feed runs (z .1) (z .4) r (omega arith) e)
 
+-- How the shape that a bend tells bends.
 upper-told : (t u : Bool) → (t ≡ true → u ≡ false) → isUpper (choose t Straight (choose u Upper Lower)) ≡ u
 unfolding choose
 upper-told true u h = sym (h refl)
 upper-told false true h = refl
 upper-told false false h = refl
 
--- Where the straight runs do not bend upwards, the bends of the choice that bends tell are these.
+-- Where its straight runs do not bend upwards, a choice that is told by bends bends so.
 pub bends-told : (feed : List Spot) (runs : List Run) (upper : ℕ → Bool)
     → ((r : ℕ) → r < length runs → isStraight (nearEnd feed (runAt runs r)) (farEnd feed (runAt runs r)) ≡ true → upper r ≡ false)
     → (r : ℕ) → r < length runs → bends (shapesBy feed upper runs) r ≡ upper r
@@ -151,30 +142,12 @@ bends-told feed [] upper h r l = absurd (omega arith)
 bends-told feed (q ∷ runs) upper h zero l = upper-told (isStraight (nearEnd feed q) (farEnd feed q)) (upper 0) (h 0 (omega arith))
 bends-told feed (q ∷ runs) upper h (suc r) l = bends-told feed runs (λ i. upper (suc i)) (λ i k. h (suc i) (omega arith)) r (omega arith)
 
--- The marks of later runs together are less than the mark of an earlier one.
-mark-most : (favoured upper : Bool) (j : ℕ) → markOf favoured j upper ≤ 2 ^ (30 - j)
-unfolding markOf
-mark-most favoured upper j = go (differs upper favoured)
-  where
-    go : (t : Bool) → choose t (2 ^ (30 - j)) 0 ≤ 2 ^ (30 - j)
-    go true = unfold choose in omega arith
-    go false = unfold choose in omega arith
-
-pub mask-most : (favoured : Bool) (j : ℕ) (c : List Shape) → j + length c ≤ 31 → maskFrom favoured j c < 2 ^ (31 - j)
-unfolding maskFrom
-mask-most favoured j [] h = pow-pos (31 - j)
-mask-most favoured j (s ∷ c) h =
-    let e : 31 - j ≡ suc (30 - j) = omega arith in
-    let d : 31 - suc j ≡ 30 - j = omega arith in
-    let p : 2 ^ (31 - j) ≡ 2 ^ (30 - j) * 2 = ap (λ (z : ℕ). 2 ^ z) e ∙ pow-suc 2 (30 - j) in
-    let q : 2 ^ (31 - suc j) ≡ 2 ^ (30 - j) = ap (λ (z : ℕ). 2 ^ z) d in
-    omega (arith, mask-most favoured (suc j) c (omega arith), mark-most favoured (isUpper s) j, p, q)
-
 -- A list of choices of which each has a smaller mask than the later ones.
 pub data Rising (mask : List Shape → ℕ) : List (List Shape) → Type 0 where
   none : Rising mask []
   more : {c : List Shape} {cs : List (List Shape)} → ((d : List Shape) → Among d cs → mask c < mask d) → Rising mask cs → Rising mask (c ∷ cs)
 
+-- Rising choices, and then rising ones whose masks are larger, rise.
 rising-join : {mask : List Shape → ℕ} {cs ds : List (List Shape)} → Rising mask cs → Rising mask ds
     → ((c d : List Shape) → Among c cs → Among d ds → mask c < mask d) → Rising mask (cs ++ ds)
 rising-join none r h = r
@@ -185,6 +158,7 @@ rising-join {mask = mask} {ds = ds} (more {c = c} {cs = cs} l q) r h = more (λ 
     go d (inr m) = h c d (first refl) m
 
 module _ (favoured : Bool) (j : ℕ) where
+  -- One shape before each of rising choices leaves them rising.
   rising-with : (s : Shape) {cs : List (List Shape)} → Rising (maskFrom favoured (suc j)) cs → Rising (maskFrom favoured j) (withShape s cs)
   unfolding withShape
   rising-with s none = none
@@ -194,8 +168,8 @@ module _ (favoured : Bool) (j : ℕ) where
       go d z = rw (z .1) (unfold maskFrom in omega (arith, l (z .0) (z .2)))
 
   -- The favoured shape comes before the other.
-  rising-two : (s t : Shape) {cs : List (List Shape)} → markOf favoured j (isUpper s) ≡ 0 → markOf favoured j (isUpper t) ≡ 2 ^ (30 - j)
-      → ((c : List Shape) → Among c cs → maskFrom favoured (suc j) c < 2 ^ (30 - j)) → Rising (maskFrom favoured (suc j)) cs
+  rising-two : (s t : Shape) {cs : List (List Shape)} → markOf favoured j (isUpper s) ≡ 0 → markOf favoured j (isUpper t) ≡ markAt j
+      → ((c : List Shape) → Among c cs → maskFrom favoured (suc j) c < markAt j) → Rising (maskFrom favoured (suc j)) cs
       → Rising (maskFrom favoured j) (withShapes (s ∷ t ∷ []) cs)
   unfolding withShapes
   rising-two s t {cs = cs} es et low q =
@@ -207,22 +181,25 @@ module _ (favoured : Bool) (j : ℕ) where
           let y = with-in t cs n in
           rw (x .1, y .1) (unfold maskFrom in omega (arith, low (x .0) (x .2), es, et))
 
-mark-on : (favoured upper : Bool) (j : ℕ) → differs upper favoured ≡ true → markOf favoured j upper ≡ 2 ^ (30 - j)
+-- The other shape has the run's mark ..
+mark-on : (favoured upper : Bool) (j : ℕ) → differs upper favoured ≡ true → markOf favoured j upper ≡ markAt j
 unfolding markOf choose
 mark-on favoured upper j e = rw e
 
+-- .. and the favoured none.
 mark-off : (favoured upper : Bool) (j : ℕ) → differs upper favoured ≡ false → markOf favoured j upper ≡ 0
 unfolding markOf choose
 mark-off favoured upper j e = rw e
 
 -- The shapes of one run before choices of the others.
-rising-run : (favoured : Bool) (j : ℕ) (bent : Bool) {cs : List (List Shape)} → ((c : List Shape) → Among c cs → maskFrom favoured (suc j) c < 2 ^ (30 - j))
+rising-run : (favoured : Bool) (j : ℕ) (bent : Bool) {cs : List (List Shape)} → ((c : List Shape) → Among c cs → maskFrom favoured (suc j) c < markAt j)
     → Rising (maskFrom favoured (suc j)) cs → Rising (maskFrom favoured j) (withShapes (choose bent (bentShapes favoured) (Straight ∷ [])) cs)
 unfolding choose bentShapes
 rising-run favoured j false low q = unfold withShapes in rising-join (rising-with favoured j Straight q) none (λ c d m n. absurd (none-among refl n))
 rising-run true j true low q = rising-two true j Upper Lower (mark-off true true j refl) (mark-on true false j refl) low q
 rising-run false j true low q = rising-two false j Lower Upper (mark-off false false j refl) (mark-on false true j refl) low q
 
+-- A choice has a shape for each run.
 pub choice-long : (favoured : Bool) (feed : List Spot) (runs : List Run) (c : List Shape) → Among c (choicesOf favoured feed runs) → length c ≡ length runs
 unfolding choicesOf
 choice-long favoured feed [] c (first e) = ap length e
@@ -231,16 +208,15 @@ choice-long favoured feed (r ∷ runs) d m =
     rw (z .2) (ap suc (choice-long favoured feed runs (z .1) (z .4)))
 
 -- The mask grows from each choice to the later ones.
-pub choices-rising : (favoured : Bool) (feed : List Spot) (j : ℕ) (runs : List Run) → j + length runs ≤ 31 → Rising (maskFrom favoured j) (choicesOf favoured feed runs)
+pub choices-rising : (favoured : Bool) (feed : List Spot) (j : ℕ) (runs : List Run) → j + length runs ≤ mostRuns
+    → Rising (maskFrom favoured j) (choicesOf favoured feed runs)
 unfolding choicesOf shapesOf
 choices-rising favoured feed j [] h = more (λ d m. absurd (none-among refl m)) none
 choices-rising favoured feed j (r ∷ runs) h =
     rising-run favoured j (bent feed r)
     (λ c m.
-    let d : 31 - suc j ≡ 30 - j = omega arith in
-    let q : 2 ^ (31 - suc j) ≡ 2 ^ (30 - j) = ap (λ (z : ℕ). 2 ^ z) d in
     let l : length c ≡ length runs = choice-long favoured feed runs c m in
-    omega (arith, mask-most favoured (suc j) c (omega arith), q))
+    omega (arith, mask-most favoured (suc j) c (omega arith), mark-next j))
     (choices-rising favoured feed (suc j) runs (omega arith))
 
 -- ---- the first of the shortest
@@ -252,14 +228,17 @@ module _ (feed : List Spot) (runs : List Run) (mask : List Shape → ℕ) (best 
   abbrev Ahead : List Shape → Type 0
   Ahead d = (long best < long d) ⊎ ((long best ≡ long d) × (mask best ≤ mask d))
 
+  -- So the best is no longer ..
   ahead-le : (d : List Shape) → Ahead d → long best ≤ long d
   ahead-le d (inl h) = omega arith
   ahead-le d (inr h) = omega (arith, h .0)
 
+  -- .. and shorter than a choice of smaller mask.
   ahead-lt : (d : List Shape) → mask d < mask best → Ahead d → long best < long d
   ahead-lt d l (inl h) = h
   ahead-lt d l (inr h) = absurd (omega (arith, h .1))
 
+  -- The best is kept where it is ahead of all later ones,
   kept : (cs : List (List Shape)) → ((d : List Shape) → Among d cs → Ahead d) → shortest feed runs best cs ≡ best
   unfolding shortest
   kept [] h = refl
@@ -268,6 +247,7 @@ module _ (feed : List Spot) (runs : List Run) (mask : List Shape → ℕ) (best 
       stays : (d : List Shape) → Ahead d → choose (ltb (long d) (long best)) d best ≡ best
       stays d a = unfold choose in rw (le-ltb (long d) (long best) (ahead-le d a))
 
+  -- and takes the place of a longer one.
   moves : (c d : List Shape) → d ≡ best → long best < long c → choose (ltb (long d) (long c)) d c ≡ best
   unfolding choose
   moves c d e l = rw (e, lt-ltb (long best) (long c) l)
@@ -285,6 +265,7 @@ module _ (feed : List Spot) (runs : List Run) (mask : List Shape → ℕ) (best 
       longer true p r = unfold choose in r
       longer false p r = unfold choose in p
 
+  -- So the best is the first of the shortest.
   pub first-found : (cs : List (List Shape)) → Among best cs → Rising mask cs → ((d : List Shape) → Among d cs → Ahead d) → shortestOf feed runs cs ≡ best
   unfolding shortestOf
   first-found (c ∷ cs) (first e) (more up q) h = rw (sym e) (kept cs (λ x m. h x (later m)))

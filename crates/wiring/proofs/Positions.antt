@@ -24,6 +24,7 @@ search-hit i (r ∷ runs) pin (suc q) l e h =
     rw (ne-eqb (r .far) pin (h 0 (omega arith)))
     (search-hit (suc i) runs pin q (omega arith) e (λ p k. h (suc p) (omega arith)) ∙ (let z : suc (suc i + q) ≡ suc (i + suc q) = omega arith in z))
 
+-- It finds none where no run does.
 search-miss : (i : ℕ) (runs : List Run) (pin : ℕ) → ((p : ℕ) → p < length runs → farAt runs p ≡ pin → ⊥) → reachedFrom i runs pin ≡ 0
 unfolding reachedFrom choose
 search-miss i [] pin h = refl
@@ -37,6 +38,7 @@ module _ (f : ℕ) (left : List ℕ) (runs : List Run) (root : Rooted f left run
   first-near : 0 < n → nearAt runs 0 ≡ f
   first-near l = ⊎-elim (λ e. e) (λ z. absurd (omega (arith, z .1))) (root .near-reached 0 l)
 
+  -- The near pin of a run is reached before the run: it is the first pin, or the far pin of an earlier run.
   near-cases : (r : ℕ) → r < n → (reachedNear runs r ≤ r) × (reachedPin runs (reachedNear runs r) ≡ nearAt runs r)
   unfolding reachedNear reachedPin
   near-cases r l = ⊎-elim at-first at-later (root .near-reached r l)
@@ -46,7 +48,8 @@ module _ (f : ℕ) (left : List ℕ) (runs : List Run) (root : Rooted f left run
           let z : reachedFrom 0 runs (nearAt runs r) ≡ 0 = search-miss 0 runs (nearAt runs r) (λ p k q. root .far-new p k (q ∙ e)) in
           rw z (omega arith, unfold reachedPin in (first-near (omega arith) ∙ sym e))
 
-      at-later : (q : ℕ) × (q < r) × (nearAt runs r ≡ farAt runs q) → (reachedFrom 0 runs (nearAt runs r) ≤ r) × (reachedPin runs (reachedFrom 0 runs (nearAt runs r)) ≡ nearAt runs r)
+      at-later : (q : ℕ) × (q < r) × (nearAt runs r ≡ farAt runs q)
+          → (reachedFrom 0 runs (nearAt runs r) ≤ r) × (reachedPin runs (reachedFrom 0 runs (nearAt runs r)) ≡ nearAt runs r)
       at-later w =
           let q : ℕ = w .0 in
           let z : reachedFrom 0 runs (nearAt runs r) ≡ suc (0 + q) =
@@ -62,6 +65,7 @@ module _ (f : ℕ) (left : List ℕ) (runs : List Run) (root : Rooted f left run
   pub near-pin : (r : ℕ) → r < n → reachedPin runs (reachedNear runs r) ≡ nearAt runs r
   near-pin r l = near-cases r l .1
 
+  -- Run r reaches its far pin as number r + 1.
   pub far-pin : (r : ℕ) → reachedPin runs (suc r) ≡ farAt runs r
   unfolding reachedPin
   far-pin r = refl
@@ -82,6 +86,7 @@ module _ (f : ℕ) (left : List ℕ) (runs : List Run) (root : Rooted f left run
   once-by zero (suc r) l k e = root .far-new r (omega arith) (unfold reachedPin in (sym (far-pin r) ∙ sym e ∙ first-pin (omega arith)))
   once-by (suc q) (suc r) l k e = root .far-once q r (omega arith) (omega arith) (sym (far-pin q) ∙ e ∙ far-pin r)
 
+  -- The same, whichever of the two numbers is the smaller.
   pub reached-once : (i j : ℕ) → i < suc n → j < suc n → (i ≡ j → ⊥) → reachedPin runs i ≡ reachedPin runs j → ⊥
   reached-once i j l k ne e = go (order j i)
     where

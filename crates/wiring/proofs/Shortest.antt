@@ -15,7 +15,7 @@ use Rattle.refusal.specs.Refusals.{accepted}
 use Rattle.refusal.specs.declared.Verdict.{Verdict}
 use Rattle.feed.specs.declared.Spot.{Spot}
 use Rattle.tree.specs.declared.Run.{Run}
-use Rattle.feed.specs.Feeds.{allWithin}
+use Rattle.feed.specs.Feeds.{mostPins, allWithin}
 use Rattle.tree.specs.Growth.{pinsOf, runsOf}
 use Rattle.tree.proofs.Membership.{Among, first, later, in-either}
 use Rattle.tree.proofs.Spanning.{none-among}
@@ -24,7 +24,7 @@ use Rattle.copper.specs.declared.Leg.{Leg}
 use Rattle.copper.specs.Length.{stepsOfAll, different, lengthOf}
 use Rattle.wiring.specs.declared.Laid.{Laid}
 use Rattle.wiring.specs.Choices.{choicesOf, legsOfChoice, lengthOfChoice, shortest, shortestOf, bestChoice}
-use Rattle.wiring.specs.Answer.{noLeg, legEntries, laidWith, turnedAway, answerWith, wiringVerdict, wiringWith, wiringFavouring}
+use Rattle.wiring.specs.Answer.{mostLegs, noLeg, legEntries, laidWith, turnedAway, answerWith, wiringVerdict, wiringWith, wiringFavouring}
 use Rattle.wiring.specs.Reaching.{shapesBy}
 use Rattle.wiring.proofs.Ordered.{told-choice}
 use Rattle.wiring.proofs.Weighed.{weighed-most}
@@ -48,7 +48,14 @@ module _ (feed : List Spot) (runs : List Run) where
       go : (t : Bool) → ltb (long d) (long c) ≡ t → First long (done ++ (d ∷ [])) (choose t d c)
       go true e =
           let l : long d < long c = ltb-true (long d) (long c) e in
-          unfold choose in record { before = done; after = []; listed = refl; longer = λ x m. shorter l x (subst (λ (z : List (List Shape)). Among x z) (h .listed) m); as-long = λ x m. absurd (none-among refl m) }
+          unfold choose in
+          record {
+            before = done;
+            after = [];
+            listed = refl;
+            longer = λ x m. shorter l x (subst (λ (z : List (List Shape)). Among x z) (h .listed) m);
+            as-long = λ x m. absurd (none-among refl m);
+          }
         where
           shorter : long d < long c → (x : List Shape) → Among x (h .before ++ (c ∷ h .after)) → long d < long x
           shorter l x m = by (in-either (h .before) m)
@@ -72,6 +79,7 @@ module _ (feed : List Spot) (runs : List Run) where
           by l x (inl p) = h .as-long x p
           by l x (inr (first q)) = rw q l
 
+  -- And so on to the last.
   walk : (c : List Shape) (done left : List (List Shape)) → First long done c → First long (done ++ left) (shortest feed runs c left)
   unfolding shortest
   walk c done [] h = rw (append-nil done) h
@@ -79,6 +87,7 @@ module _ (feed : List Spot) (runs : List Run) where
       subst (λ (z : List (List Shape)). First long z (shortest feed runs (choose (ltb (long d) (long c)) d c) left)) (append-assoc done (d ∷ []) left)
       (walk (choose (ltb (long d) (long c)) d c) (done ++ (d ∷ [])) left (one-more c d done h))
 
+  -- So the first of the shortest is found among any choices.
   of-some : (choices : List (List Shape)) (c : List Shape) → Among c choices → First long choices (shortestOf feed runs choices)
   unfolding shortestOf
   of-some (c ∷ left) d m =
@@ -102,9 +111,10 @@ module _ (feed : List Spot) (runs : List Run) where
       by h (inr (later p)) = h .as-long c p
 
 -- ---- of the answer
+-- The legs before those that are not filled.
 take-legs : (legs : List Leg) → take (length legs) (legEntries legs) ≡ legs
 unfolding legEntries
-take-legs legs = take-at legs (replicate (62 - length legs) noLeg) (length legs) refl
+take-legs legs = take-at legs (replicate (mostLegs - length legs) noLeg) (length legs) refl
 
 -- What holds of an answer and of a refused wiring holds of both.
 either-way : (P : Laid → Type 0) (t : Bool) (l m : Laid) → P l → P m → P (choose t l m)
@@ -117,9 +127,11 @@ pub length-of-legs : (favoured : Bool) (feed : List Spot) (room : ℕ)
     → wiringFavouring favoured feed room .wiring .length ≡ lengthOf (take (wiringFavouring favoured feed room .wiring .legs) (wiringFavouring favoured feed room .legs))
 unfolding wiringFavouring wiringWith
 length-of-legs favoured feed room =
-    either-way (λ (l : Laid). l .wiring .length ≡ lengthOf (take (l .wiring .legs) (l .legs))) (accepted (wiringVerdict feed (runsOf feed) (bestChoice favoured feed (runsOf feed)) room))
-    (answerWith feed (runsOf feed) (bestChoice favoured feed (runsOf feed))) (turnedAway (wiringVerdict feed (runsOf feed) (bestChoice favoured feed (runsOf feed)) room))
-    (of-answer feed (runsOf feed) (bestChoice favoured feed (runsOf feed))) (of-none (wiringVerdict feed (runsOf feed) (bestChoice favoured feed (runsOf feed)) room))
+    let runs = runsOf feed in
+    let shapes = bestChoice favoured feed runs in
+    let v = wiringVerdict feed runs shapes room in
+    either-way (λ (l : Laid). l .wiring .length ≡ lengthOf (take (l .wiring .legs) (l .legs))) (accepted v)
+    (answerWith feed runs shapes) (turnedAway v) (of-answer feed runs shapes) (of-none v)
   where
     of-answer : (feed : List Spot) (runs : List Run) (shapes : List Shape)
         → answerWith feed runs shapes .wiring .length ≡ lengthOf (take (answerWith feed runs shapes .wiring .legs) (answerWith feed runs shapes .legs))
@@ -129,13 +141,15 @@ length-of-legs favoured feed room =
     of-none v = unfold turnedAway lengthOf different stepsOfAll in refl
 
 -- CHOICES WEIGHED NEVER EXCEED 64 TIMES the number of pins.
-pub weighed-few : (favoured : Bool) (feed : List Spot) (room : ℕ) → length feed ≡ 32 → allWithin feed ≡ true
+pub weighed-few : (favoured : Bool) (feed : List Spot) (room : ℕ) → length feed ≡ mostPins → allWithin feed ≡ true
     → wiringFavouring favoured feed room .wiring .weighed ≤ 64 * length (pinsOf feed)
 unfolding wiringFavouring wiringWith
 weighed-few favoured feed room full ok =
-    either-way (λ (l : Laid). l .wiring .weighed ≤ 64 * length (pinsOf feed)) (accepted (wiringVerdict feed (runsOf feed) (bestChoice favoured feed (runsOf feed)) room))
-    (answerWith feed (runsOf feed) (bestChoice favoured feed (runsOf feed))) (turnedAway (wiringVerdict feed (runsOf feed) (bestChoice favoured feed (runsOf feed)) room))
-    (of-answer (bestChoice favoured feed (runsOf feed))) (of-none (wiringVerdict feed (runsOf feed) (bestChoice favoured feed (runsOf feed)) room))
+    let runs = runsOf feed in
+    let shapes = bestChoice favoured feed runs in
+    let v = wiringVerdict feed runs shapes room in
+    either-way (λ (l : Laid). l .wiring .weighed ≤ 64 * length (pinsOf feed)) (accepted v)
+    (answerWith feed runs shapes) (turnedAway v) (of-answer shapes) (of-none v)
   where
     of-answer : (shapes : List Shape) → answerWith feed (runsOf feed) shapes .wiring .weighed ≤ 64 * length (pinsOf feed)
     of-answer shapes = unfold answerWith laidWith in weighed-most feed full ok

@@ -16,7 +16,7 @@ use Rattle.feed.specs.declared.Spot.{Spot}
 use Rattle.grid.proofs.Signed.{eqb-same}
 use Rattle.grid.specs.Place.{isStraight}
 use Rattle.tree.specs.declared.Run.{Run}
-use Rattle.feed.specs.Feeds.{allWithin}
+use Rattle.feed.specs.Feeds.{mostPins, allWithin}
 use Rattle.tree.specs.Growth.{keptIf, without, pinsOf, runsOf}
 use Rattle.tree.specs.Bends.{bent, howMany, bentFrom, bentInto}
 use Rattle.tree.proofs.Membership.{Among, first, later, Distinct, also, without-none, distinct-without, pins-distinct}
@@ -33,10 +33,12 @@ use Rattle.wiring.proofs.Masks.{sum-front}
 use Rattle.wiring.proofs.Laying.{near-place, far-place, grown}
 
 -- ---- a sum over pins, however they are listed
+-- The sum over the pins of a list.
 sumOver : (ℕ → ℕ) → List ℕ → ℕ
 sumOver g [] = 0
 sumOver g (p ∷ l) = g p + sumOver g l
 
+-- One pin taken out of it.
 sum-without : (g : ℕ → ℕ) (t : ℕ) (l : List ℕ) → Distinct l → Among t l → sumOver g l ≡ g t + sumOver g (without t l)
 unfolding without sumOver keptIf choose
 sum-without g t (a ∷ l) (also out d) (first e) =
@@ -64,12 +66,14 @@ twice t = choose t 2 1
 abbrev twiceSome : ℕ → ℕ
 twiceSome n = choose (eqb n 0) 1 2
 
+-- Twice as many is one power more ..
 power-twice : (w c k : ℕ) → w ≡ 2 ^ c * k → w + w ≡ 2 ^ (1 + c) * k
 power-twice w c k e =
     let p : 2 ^ (1 + c) ≡ 2 ^ c * 2 = ap (λ (z : ℕ). 2 ^ z) (let y : 1 + c ≡ suc c = omega arith in y) ∙ pow-suc 2 c in
     let q : 2 ^ c * 2 * k ≡ 2 ^ c * k * 2 = mul-assoc (2 ^ c) 2 k ∙ ap (λ (z : ℕ). 2 ^ c * z) (mul-comm 2 k) ∙ sym (mul-assoc (2 ^ c) k 2) in
     rw (p, q) (omega arith)
 
+-- .. and as many as before is none.
 power-once : (w c k : ℕ) → w ≡ 2 ^ c * k → w ≡ 2 ^ (0 + c) * k
 power-once w c k e = rw (let y : 0 + c ≡ c = omega arith in y) e
 
@@ -103,24 +107,28 @@ unfolding howMany
 many-sum test [] = unfold sumBelow in refl
 many-sum test (r ∷ runs) = ap (λ (z : ℕ). one (test r) + z) (many-sum test runs) ∙ sym (sum-front (length runs) (λ q. one (test (runAt (r ∷ runs) q))))
 
--- The run that reached a pin is bent, or none reached it.
+-- Where no bent run reached a pin, nothing is doubled ..
 doubled-none : (n : ℕ) → n ≡ 0 → twiceSome n ≡ twice false
 unfolding choose
 doubled-none n e = rw (eq-eqb n 0 e)
 
+-- .. and where one run did, it decides.
 doubled-one : (n : ℕ) (t : Bool) → n ≡ one t → twiceSome n ≡ twice t
 unfolding choose
 doubled-one n true e = rw (ne-eqb n 0 (λ z. omega arith))
 doubled-one n false e = rw (eq-eqb n 0 e)
 
+-- A run of another pin is not counted ..
 fails-both : (t s : Bool) → t ≡ false → one (both t s) ≡ 0
 unfolding both choose
 fails-both t s e = rw e
 
+-- .. and one of this pin where it is bent.
 holds-both : (t s : Bool) → t ≡ true → one (both t s) ≡ one s
 unfolding both choose
 holds-both t s e = rw e
 
+-- A list without length is empty.
 none-long : {A : Type 0} (l : List A) → length l ≡ 0 → l ≡ []
 none-long l z = drop-of-length-le l {i = 0} (omega arith)
 
@@ -129,11 +137,12 @@ lone : (at : ℕ → Place) (near : ℕ → ℕ) (feed : List Spot) (f : ℕ) �
 unfolding asked.weighedBelow asked.weighedFrom asked.isBentInto doubledIf choose sumOver weighedAt howMany
 lone at near feed f = refl
 
+-- No pin is listed twice.
 pins-once : (feed : List Spot) (f : ℕ) (left : List ℕ) → pinsOf feed ≡ f ∷ left → Distinct (f ∷ left)
 unfolding pinsOf
 pins-once feed f left e = rw e at (pins-distinct 0 feed)
 
-module _ (feed : List Spot) (full : length feed ≡ 32) (ok : allWithin feed ≡ true) (f : ℕ) (left : List ℕ) (e : pinsOf feed ≡ f ∷ left) where
+module _ (feed : List Spot) (full : length feed ≡ mostPins) (ok : allWithin feed ≡ true) (f : ℕ) (left : List ℕ) (e : pinsOf feed ≡ f ∷ left) where
   abbrev runs : List Run
   runs = runsOf feed
 
@@ -149,10 +158,12 @@ module _ (feed : List Spot) (full : length feed ≡ 32) (ok : allWithin feed ≡
   root : Rooted f left runs
   root = runs-rooted feed full ok f left e
 
+  -- A run is bent where the definition says so ..
   bent-told : (r : ℕ) → r < n → asked.isBent at near r ≡ bent feed (runAt runs r)
   unfolding asked.isBent bent isStraight
   bent-told r l = ap not (ap₂ isStraight (near-place feed full ok f left e r l) (far-place feed full ok f left e r))
 
+  -- .. and leads on from the same pin.
   near-told : (r i : ℕ) → r < n → i < suc n → eqb (near r) i ≡ eqb (reachedPin runs i) (nearAt runs r)
   near-told r i l k =
       eqb-same (near r) i (reachedPin runs i) (nearAt runs r) (λ z. ap (reachedPin runs) (sym z) ∙ near-pin f left runs root r l)
@@ -188,6 +199,7 @@ module _ (feed : List Spot) (full : length feed ≡ 32) (ok : allWithin feed ≡
       (λ z. reached-once f left runs root (suc q) (suc r) l (omega arith) (λ y. ne (omega arith)) (z ∙ sym (far-pin f left runs root r)))))
       ∙ holds-both (eqb (reachedPin runs (suc q)) (farAt runs q)) (bent feed (runAt runs q)) (eq-eqb (reachedPin runs (suc q)) (farAt runs q) (far-pin f left runs root q))))
 
+  -- So the choices weighed at a pin are those of the definition,
   at-told : (i : ℕ) → 0 < n → i < suc n → whole.weighedAt at near n i ≡ weighedAt feed runs (reachedPin runs i)
   unfolding weighedAt
   at-told i o l =
@@ -198,11 +210,13 @@ module _ (feed : List Spot) (full : length feed ≡ 32) (ok : allWithin feed ≡
       ∙ sym (many-sum (λ r. both (eqb (reachedPin runs i) (r .near)) (bent feed r)) runs))
       (into-told i o l)
 
+  -- and so is their sum over a list of pins,
   over-pins : (pins : List ℕ) → weighedOf feed runs pins ≡ sumOver (weighedAt feed runs) pins
   unfolding weighedOf sumOver
   over-pins [] = refl
   over-pins (p ∷ pins) = ap (λ (z : ℕ). weighedAt feed runs p + z) (over-pins pins)
 
+  -- as the pins are reached, where there are runs,
   many-told : 0 < n → asked.weighedBelow at near n 0 ≡ sumOver (weighedAt feed runs) (f ∷ left)
   unfolding sumOver
   many-told o =
@@ -216,6 +230,7 @@ module _ (feed : List Spot) (full : length feed ≡ 32) (ok : allWithin feed ≡
       rest : Distinct (f ∷ left) → Distinct left
       rest (also out d) = d
 
+  -- and where there is none.
   one-told : n ≡ 0 → asked.weighedBelow at near n 0 ≡ sumOver (weighedAt feed runs) (f ∷ left)
   one-told z =
       subst (λ (k : ℕ). asked.weighedBelow at near k 0 ≡ sumOver (weighedAt feed runs) (f ∷ left)) (sym z)
@@ -231,6 +246,7 @@ module _ (feed : List Spot) (full : length feed ≡ 32) (ok : allWithin feed ≡
       go false y = let ne : n ≡ 0 → ⊥ = eqb-false n 0 y in many-told (omega (arith, ne))
 
 -- ---- the bound
+-- At most six bent runs at a pin give at most 64 choices.
 power-six : (c i : ℕ) → c + i ≤ 6 → 2 ^ c * twiceSome i ≤ 64
 power-six c i l = go (eqb i 0) refl
   where
@@ -243,12 +259,13 @@ power-six c i l = go (eqb i 0) refl
         let p : 2 ^ suc c ≤ 2 ^ 6 = pow-mono (let z : suc c ≤ 6 = omega (arith, ne) in z) in
         unfold choose in (let z : 2 ^ c * 2 ≤ 64 = omega (arith, pow-suc 2 c, p) in z)
 
-module _ (feed : List Spot) (full : length feed ≡ 32) (ok : allWithin feed ≡ true) where
+module _ (feed : List Spot) (full : length feed ≡ mostPins) (ok : allWithin feed ≡ true) where
   -- At most 64 choices are weighed at a pin ..
   pub pin-most : (p : ℕ) → weighedAt feed (runsOf feed) p ≤ 64
   unfolding weighedAt
   pin-most p = power-six (bentFrom feed (runsOf feed) p) (bentInto feed (runsOf feed) p) (six-leading feed full ok p)
 
+  -- .. at most 64 at each of some pins ..
   pins-most : (pins : List ℕ) → weighedOf feed (runsOf feed) pins ≤ 64 * length pins
   unfolding weighedOf
   pins-most [] = omega arith

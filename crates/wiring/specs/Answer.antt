@@ -2,18 +2,18 @@
 use mathlib.Core.Bool.{Bool, false}
 use mathlib.Core.List.{List, [], _∷_, _++_}
 use Prim.Native.Nat.{ℕ, _-_}
-use lib.IntN.{pos}
 use lib.Dec.{ltb}
 use lib.ListN.{length, replicate}
 use Rattle.refusal.specs.Tests.{choose}
 use Rattle.refusal.specs.Refusals.{accepted, turn}
 use Rattle.refusal.specs.declared.Verdict.{Verdict}
 use Rattle.refusal.specs.declared.Verdict.the-variants.{Accepted, NoPins, BoxesMeet, RoomTooSmall}
+use Rattle.grid.specs.Place.{middle}
 use Rattle.feed.specs.declared.Spot.{Spot}
 use Rattle.tree.specs.declared.Run.{Run}
 use Rattle.tree.specs.Growth.{pinsOf, runsOf}
 use Rattle.tree.specs.Boxes.{boxesMeet}
-use Rattle.tree.specs.Trees.{none}
+use Rattle.tree.specs.Trees.{mostRuns, none}
 use Rattle.copper.specs.declared.Shape.{Shape}
 use Rattle.copper.specs.declared.Shape.the-variants.{Straight}
 use Rattle.copper.specs.declared.Leg.{Leg}
@@ -25,9 +25,17 @@ use Rattle.wiring.specs.Choices.{bestChoice, legsOfChoice, lengthOfChoic
 abbrev pub shaped : ℕ → ℕ → Shape → Shaped
 shaped near far shape = record { near = near; far = far; shape = shape }
 
+-- A run entry after the last: 0, 0, straight.
+abbrev pub noRun : Shaped
+noRun = shaped 0 0 Straight
+
+-- The most legs that a board has: 31 runs of two legs each.
+abbrev pub mostLegs : ℕ
+mostLegs = 62
+
 -- A leg that is not filled.
 abbrev pub noLeg : Leg
-noLeg = record { from = record { x = pos 0; y = pos 0 }; to = record { x = pos 0; y = pos 0 } }
+noLeg = record { from = middle; to = middle }
 
 -- The runs with their shapes.
 unfoldable pub shapedRuns : List Run → List Shape → List Shaped
@@ -37,11 +45,11 @@ shapedRuns (r ∷ runs) (s ∷ shapes) = shaped (r .near) (r .far) s ∷ shapedR
 
 -- 31 run entries; entries after the last are 0, 0, straight.
 unfoldable pub runEntries : List Shaped → List Shaped
-runEntries runs = runs ++ replicate (31 - length runs) (shaped 0 0 Straight)
+runEntries runs = runs ++ replicate (mostRuns - length runs) noRun
 
--- 62 legs; those after the last are not filled.
+-- As many legs as a board can have; those after the last are not filled.
 unfoldable pub legEntries : List Leg → List Leg
-legEntries legs = legs ++ replicate (62 - length legs) noLeg
+legEntries legs = legs ++ replicate (mostLegs - length legs) noLeg
 
 -- The answer of an accepted wiring, with its legs.
 unfoldable pub laidWith : ℕ → List Shaped → ℕ → List Leg → Laid
@@ -81,6 +89,6 @@ wiringWith feed runs shapes room =
 unfoldable pub wiringFavouring : Bool → List Spot → ℕ → Laid
 wiringFavouring favoured feed room = wiringWith feed (runsOf feed) (bestChoice favoured feed (runsOf feed)) room
 
--- Lower before upper.
+-- The wiring of a feed, lower before upper.
 unfoldable pub wiringOf : List Spot → ℕ → Laid
 wiringOf = wiringFavouring false

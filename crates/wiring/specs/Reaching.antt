@@ -1,21 +1,23 @@
 -- How the best shapes are found: pins numbered by when they are reached, and the shapes that a mask holds. No entry point's promise rests on these.
 use mathlib.Core.Bool.{Bool}
 use mathlib.Core.List.{List, [], _∷_, _++_}
-use Prim.Native.Nat.{ℕ, zero, suc, _-_, _/_, _%_, _^_}
+use Prim.Native.Nat.{ℕ, zero, suc, _/_, _%_}
 use lib.IntN.{ℤ}
 use lib.Dec.{eqb}
-use lib.ListN.{length, getD, set, take}
+use lib.ListN.{length, getD, take}
 use Rattle.refusal.specs.Tests.{choose}
 use Rattle.grid.specs.declared.Place.{Place}
 use Rattle.feed.specs.declared.Spot.{Spot}
 use Rattle.tree.specs.declared.Run.{Run}
-use Rattle.feed.specs.Feeds.{placeOf, spotAt}
+use Rattle.feed.specs.Feeds.{mostPins, placeOf, spotAt}
 use Rattle.tree.specs.Growth.{run}
+use Rattle.tree.specs.Trees.{mostRuns}
 use Rattle.copper.specs.declared.Shape.{Shape}
 use Rattle.copper.specs.declared.Leg.{Leg}
 use Rattle.copper.specs.Shapes.{shapeOf, legsOf}
-use Rattle.least.specs.Asking.{differs}
+use Rattle.least.specs.Asking.{differs, markAt}
 use Rattle.wiring.specs.declared.Shaped.{Shaped}
+use Rattle.wiring.specs.declared.Reached.{Reached}
 use Rattle.wiring.specs.declared.Strip.{Strip}
 use Rattle.wiring.specs.Choices.{nearEnd, farEnd}
 use Rattle.wiring.specs.Answer.{shaped, runEntries, legEntries}
@@ -49,19 +51,23 @@ valuesFrom f i (suc k) = f i ∷ valuesFrom f (suc i) k
 
 -- The x of the pins, as they are reached.
 unfoldable pub xsOf : List Spot → List Run → List ℤ
-xsOf feed runs = valuesFrom (λ i. reachedPlace feed runs i .x) 0 32
+xsOf feed runs = valuesFrom (λ i. reachedPlace feed runs i .x) 0 mostPins
 
 -- Their y.
 unfoldable pub ysOf : List Spot → List Run → List ℤ
-ysOf feed runs = valuesFrom (λ i. reachedPlace feed runs i .y) 0 32
+ysOf feed runs = valuesFrom (λ i. reachedPlace feed runs i .y) 0 mostPins
+
+-- Both.
+unfoldable pub reachedOf : List Spot → List Run → Reached
+reachedOf feed runs = record { xs = xsOf feed runs; ys = ysOf feed runs }
 
 -- The numbers as which the near pins of the runs are reached; only the first runs are looked at.
 unfoldable pub nearsOf : List Run → ℕ → List ℕ
-nearsOf runs count = valuesFrom (λ r. reachedFrom 0 (take count runs) (runAt runs r .near)) 0 31
+nearsOf runs count = valuesFrom (λ r. reachedFrom 0 (take count runs) (runAt runs r .near)) 0 mostRuns
 
 -- The shape of run r in a mask is the other than the favoured where its mark is there.
 unfoldable pub upperIn : Bool → ℕ → ℕ → Bool
-upperIn favoured mask r = differs (eqb (mask / 2 ^ (30 - r) % 2) 1) favoured
+upperIn favoured mask r = differs (eqb (mask / markAt r % 2) 1) favoured
 
 -- A run with the shape that a mask gives it.
 unfoldable pub shapedIn : List Spot → Bool → ℕ → List Run → ℕ → Shaped
@@ -71,11 +77,6 @@ shapedIn feed favoured mask runs r =
 -- The run entries that a mask gives.
 unfoldable pub entriesIn : List Spot → Bool → ℕ → List Run → ℕ → List Shaped
 entriesIn feed favoured mask runs count = runEntries (valuesFrom (shapedIn feed favoured mask runs) 0 count)
-
--- Some legs put into a list, from entry i on.
-unfoldable pub putLegs : List Leg → ℕ → List Leg → List Leg
-putLegs legs i [] = legs
-putLegs legs i (l ∷ more) = putLegs (set legs i l) (suc i) more
 
 -- The legs of a run entry.
 unfoldable pub legsOfEntry : List Spot → Shaped → List Leg

@@ -1,18 +1,23 @@
 // Wiring: the best shapes of the runs, the answer with its legs, and the choices weighed.
 use copper::Leg;
 use copper::Shape;
+use feed::PINS;
 use feed::Spot;
-use feed::place_at;
 use grid::Place;
 use refusal::Verdict;
+use tree::RUNS;
 use tree::Run;
 ghost use mathlib.Core.Path.{_≡_};
 ghost use mathlib.Core.Bool.{true, false};
 ghost use Prim.Native.Nat.{_+_, _≤_, _<_};
 ghost use lib.ListN.{take};
-ghost use Rattle.feed.specs.Feeds.{allWithin, allApart};
-ghost use Rattle.wiring.specs.Answer.{noLeg, turnedAway, wiringFavouring, wiringOf};
-ghost use Rattle.wiring.specs.Reaching.{reachedPin, reachedPlace, reachedFrom, xsOf, ysOf, nearsOf, upperIn, shapedIn, entriesIn, putLegs, legsOfEntry, legsOfEntries, strip};
+ghost use Rattle.feed.specs.Feeds.{mostPins, allWithin, allApart};
+ghost use Rattle.tree.specs.Trees.{mostRuns};
+ghost use Rattle.wiring.specs.Answer.{noRun, noLeg, turnedAway, wiringFavouring, wiringOf};
+ghost use Rattle.wiring.specs.Reaching.{reachedPin, reachedPlace, reachedFrom, reachedOf, nearsOf, upperIn, shapedIn, entriesIn, legsOfEntries, strip};
+
+// The most legs that a board has: 31 runs of two legs each.
+pub const LEGS: usize = 62;
 
 // A run entry of the answer: near, far, shape.
 pub struct Shaped {
@@ -26,7 +31,7 @@ pub struct Wiring {
     pub verdict: Verdict,
     pub length: u64,
     pub count: usize,
-    pub runs: [Shaped; 31],
+    pub runs: [Shaped; RUNS],
     pub legs: usize,
     pub weighed: u64,
 }
@@ -34,18 +39,46 @@ pub struct Wiring {
 // The answer with the legs by value.
 pub struct Laid {
     pub wiring: Wiring,
-    pub legs: [Leg; 62],
+    pub legs: [Leg; LEGS],
+}
+
+// Where the pins stand, as they are reached: their x, and their y.
+pub struct Reached {
+    pub xs: [i32; PINS],
+    pub ys: [i32; PINS],
 }
 
 // Legs with their number.
 pub struct Strip {
     pub count: usize,
-    pub legs: [Leg; 62],
+    pub legs: [Leg; LEGS],
+}
+
+// A run entry after the last.
+fn no_run() -> Shaped
+    ensures { λ r. ⌜ r ≡ noRun ⌝ }
+{
+    Shaped {
+        near: 0,
+        far: 0,
+        shape: Shape::Straight,
+    }
+}
+
+// A leg that is not filled.
+fn no_leg() -> Leg
+    ensures { λ r. ⌜ r ≡ noLeg ⌝ }
+{
+    let middle = Place { x: 0, y: 0 };
+    Leg {
+        from: middle,
+        to: middle,
+    }
 }
 
 // The pin that is reached as number `i`.
-fn reached_pin(runs: [Run; 31], i: usize) -> usize
-    requires { ⌜ i < 32 ⌝ }
+fn reached_pin(runs: [Run; RUNS], i: usize) -> usize
+    requires { ⌜ i < mostPins ⌝ }
     ensures { λ r. ⌜ r ≡ reachedPin runs i ⌝ }
 {
     if i == 0 {
@@ -57,47 +90,35 @@ fn reached_pin(runs: [Run; 31], i: usize) -> usize
 }
 
 // Where it stands.
-fn reached_place(feed: [Spot; 32], runs: [Run; 31], i: usize) -> Place
-    requires { ⌜ i < 32 ⌝ }
+fn reached_place(feed: [Spot; PINS], runs: [Run; RUNS], i: usize) -> Place
+    requires { ⌜ i < mostPins ⌝ }
     ensures { λ r. ⌜ r ≡ reachedPlace feed runs i ⌝ }
 {
     let pin = reached_pin(runs, i);
     feed::place_at(feed, pin)
 }
 
-// The x of the pins, as they are reached.
-fn xs_of(feed: [Spot; 32], runs: [Run; 31]) -> [i32; 32]
-    ensures { λ r. ⌜ r ≡ xsOf feed runs ⌝ }
+// Where the pins stand, as they are reached.
+fn reached_of(feed: [Spot; PINS], runs: [Run; RUNS]) -> Reached
+    ensures { λ r. ⌜ r ≡ reachedOf feed runs ⌝ }
 {
-    let mut xs = [0; 32];
+    let mut xs = [0; PINS];
+    let mut ys = [0; PINS];
     let mut i = 0;
-    while i < 32 {
+    while i < PINS {
         let place = reached_place(feed, runs, i);
         let x = place.x;
-        xs[i] = x;
-        i += 1;
-    }
-    xs
-}
-
-// Their y.
-fn ys_of(feed: [Spot; 32], runs: [Run; 31]) -> [i32; 32]
-    ensures { λ r. ⌜ r ≡ ysOf feed runs ⌝ }
-{
-    let mut ys = [0; 32];
-    let mut i = 0;
-    while i < 32 {
-        let place = reached_place(feed, runs, i);
         let y = place.y;
+        xs[i] = x;
         ys[i] = y;
         i += 1;
     }
-    ys
+    Reached { xs, ys }
 }
 
 // The number as which a pin is reached by the first runs; 0 where none of them reaches it.
-fn reached_as(runs: [Run; 31], count: usize, pin: usize) -> usize
-    requires { ⌜ count ≤ 31 ⌝ }
+fn reached_as(runs: [Run; RUNS], count: usize, pin: usize) -> usize
+    requires { ⌜ count ≤ mostRuns ⌝ }
     ensures { λ r. ⌜ r ≡ reachedFrom 0 (take count runs) pin ⌝ }
 {
     let mut at = 0;
@@ -112,13 +133,13 @@ fn reached_as(runs: [Run; 31], count: usize, pin: usize) -> usize
 }
 
 // The numbers as which the near pins of the runs are reached.
-fn nears_of(runs: [Run; 31], count: usize) -> [usize; 31]
-    requires { ⌜ count ≤ 31 ⌝ }
+fn nears_of(runs: [Run; RUNS], count: usize) -> [usize; RUNS]
+    requires { ⌜ count ≤ mostRuns ⌝ }
     ensures { λ r. ⌜ r ≡ nearsOf runs count ⌝ }
 {
-    let mut nears = [0; 31];
+    let mut nears = [0; RUNS];
     let mut at = 0;
-    while at < 31 {
+    while at < RUNS {
         let run = runs[at];
         nears[at] = reached_as(runs, count, run.near);
         at += 1;
@@ -128,16 +149,16 @@ fn nears_of(runs: [Run; 31], count: usize) -> [usize; 31]
 
 // How a mask bends a run if it does.
 fn upper_in(favoured: bool, mask: u64, run: usize) -> bool
-    requires { ⌜ run < 31 ⌝ }
+    requires { ⌜ run < mostRuns ⌝ }
     ensures { λ r. ⌜ r ≡ upperIn favoured mask run ⌝ }
 {
-    let marked = (mask >> (30 - run)) % 2 == 1;
+    let marked = (mask >> (RUNS - 1 - run)) % 2 == 1;
     if marked { !favoured } else { favoured }
 }
 
 // A run with the shape that a mask gives it.
-fn shaped_in(feed: [Spot; 32], favoured: bool, mask: u64, runs: [Run; 31], at: usize) -> Shaped
-    requires { ⌜ at < 31 ⌝ }
+fn shaped_in(feed: [Spot; PINS], favoured: bool, mask: u64, runs: [Run; RUNS], at: usize) -> Shaped
+    requires { ⌜ at < mostRuns ⌝ }
     ensures { λ r. ⌜ r ≡ shapedIn feed favoured mask runs at ⌝ }
 {
     let run = runs[at];
@@ -154,21 +175,17 @@ fn shaped_in(feed: [Spot; 32], favoured: bool, mask: u64, runs: [Run; 31], at: u
 
 // The run entries that a mask gives.
 fn entries_in(
-    feed: [Spot; 32],
+    feed: [Spot; PINS],
     favoured: bool,
     mask: u64,
-    runs: [Run; 31],
+    runs: [Run; RUNS],
     count: usize,
-) -> [Shaped; 31]
-    requires { ⌜ count ≤ 31 ⌝ }
+) -> [Shaped; RUNS]
+    requires { ⌜ count ≤ mostRuns ⌝ }
     ensures { λ r. ⌜ r ≡ entriesIn feed favoured mask runs count ⌝ }
 {
-    let blank = Shaped {
-        near: 0,
-        far: 0,
-        shape: Shape::Straight,
-    };
-    let mut entries = [blank; 31];
+    let blank = no_run();
+    let mut entries = [blank; RUNS];
     let mut at = 0;
     while at < count {
         entries[at] = shaped_in(feed, favoured, mask, runs, at);
@@ -177,48 +194,26 @@ fn entries_in(
     entries
 }
 
-// The legs with those of one more run entry.
-fn put_legs(legs: [Leg; 62], at: usize, feed: [Spot; 32], entry: Shaped) -> [Leg; 62]
-    requires { ⌜ at + 2 ≤ 62 ⌝ }
-    ensures { λ r. ⌜ r ≡ putLegs legs at (legsOfEntry feed entry) ⌝ }
-{
-    let shape = entry.shape;
-    let near = feed::place_at(feed, entry.near);
-    let far = feed::place_at(feed, entry.far);
-    let mut more = legs;
-    more[at] = copper::first_leg(shape, near, far);
-    if copper::leg_count(shape) == 2 {
-        more[at + 1] = copper::second_leg(shape, near, far);
-    }
-    more
-}
-
-// A leg that is not filled.
-fn no_leg() -> Leg
-    ensures { λ r. ⌜ r ≡ noLeg ⌝ }
-{
-    let middle = Place { x: 0, y: 0 };
-    Leg {
-        from: middle,
-        to: middle,
-    }
-}
-
 // The legs of the first run entries, with their number.
-fn legs_of(feed: [Spot; 32], entries: [Shaped; 31], count: usize) -> Strip
-    requires { ⌜ count ≤ 31 ⌝ }
+fn legs_of(feed: [Spot; PINS], entries: [Shaped; RUNS], count: usize) -> Strip
+    requires { ⌜ count ≤ mostRuns ⌝ }
     ensures { λ r. ⌜ r ≡ strip (legsOfEntries feed (take count entries)) ⌝ }
 {
     let none = no_leg();
-    let mut legs = [none; 62];
+    let mut legs = [none; LEGS];
     let mut filled = 0;
     let mut at = 0;
     while at < count {
         let entry = entries[at];
-        let more = put_legs(legs, filled, feed, entry);
-        legs = more;
         let shape = entry.shape;
-        filled += copper::leg_count(shape);
+        let near = feed::place_at(feed, entry.near);
+        let far = feed::place_at(feed, entry.far);
+        let more = copper::leg_count(shape);
+        legs[filled] = copper::first_leg(shape, near, far);
+        if more == 2 {
+            legs[filled + 1] = copper::second_leg(shape, near, far);
+        }
+        filled += more;
         at += 1;
     }
     Strip {
@@ -231,14 +226,10 @@ fn legs_of(feed: [Spot; 32], entries: [Shaped; 31], count: usize) -> Strip
 pub fn refused(verdict: Verdict) -> Laid
     ensures { λ r. ⌜ r ≡ turnedAway verdict ⌝ }
 {
-    let blank = Shaped {
-        near: 0,
-        far: 0,
-        shape: Shape::Straight,
-    };
+    let blank = no_run();
     let none = no_leg();
-    let runs = [blank; 31];
-    let legs = [none; 62];
+    let runs = [blank; RUNS];
+    let legs = [none; LEGS];
     let wiring = Wiring {
         verdict,
         length: 0,
@@ -251,7 +242,7 @@ pub fn refused(verdict: Verdict) -> Laid
 }
 
 // The wiring of a feed, where one shape is favoured: false for lower, true for upper.
-fn wire_favouring(feed: [Spot; 32], room: usize, favoured: bool) -> Laid
+fn wire_favouring(feed: [Spot; PINS], room: usize, favoured: bool) -> Laid
     requires { ⌜ (allWithin feed ≡ true) × (allApart feed ≡ true) ⌝ }
     ensures { λ r. ⌜ r ≡ wiringFavouring favoured feed room ⌝ }
 {
@@ -262,8 +253,9 @@ fn wire_favouring(feed: [Spot; 32], room: usize, favoured: bool) -> Laid
     }
     let count = tree.count;
     let runs = tree.runs;
-    let xs = xs_of(feed, runs);
-    let ys = ys_of(feed, runs);
+    let reached = reached_of(feed, runs);
+    let xs = reached.xs;
+    let ys = reached.ys;
     let near = nears_of(runs, count);
     let found = least::least_cost(&xs, &ys, &near, favoured, count);
     let mask = found.cost % least::BASE;
@@ -285,7 +277,7 @@ fn wire_favouring(feed: [Spot; 32], room: usize, favoured: bool) -> Laid
 }
 
 // The wiring of a feed whose pins stand on the board, no two of them too near, with room for so many legs.
-pub fn wire_feed(feed: [Spot; 32], room: usize) -> Laid
+pub fn wire_feed(feed: [Spot; PINS], room: usize) -> Laid
     requires { ⌜ (allWithin feed ≡ true) × (allApart feed ≡ true) ⌝ }
     ensures { λ r. ⌜ r ≡ wiringOf feed room ⌝ }
 {

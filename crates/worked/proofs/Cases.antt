@@ -12,12 +12,12 @@ use Rattle.refusal.specs.declared.Verdict.the-variants.{Accepted, PlaceTaken, D
 use Rattle.grid.specs.declared.Place.{Place}
 use Rattle.grid.specs.Place.{onBoard, inside, difference, closer, tooNear, sameNumber, samePlace}
 use Rattle.drawing.specs.declared.Pin.{Pin}
-use Rattle.feed.specs.Feeds.{mostPins, meets, meetsAny, crowded, within, settled, allWithin, allApart, meetsOther}
+use Rattle.feed.specs.Feeds.{mostPins, spotsTooNear, tooNearAny, crowded, within, settled, allWithin, allApart, tooNearOther}
 use Rattle.drawing.specs.Pins.{absent, there, holding, isThere, sameHeld, samePin, samePins, lawful, spotOf, feedOf}
 use Rattle.drawing.specs.Edits.{movedPin, made, unmade, standsAt, fits, placeable, movable, makeable, takeable, heldBy, placed}
 use Rattle.pinmap.specs.Map.{noPins, readFrom, wrongLength, readMap}
 use Rattle.journal.specs.declared.Record.{Record}
-use Rattle.journal.specs.Journal.{recorded, own, kept, filled, seated, inTurn}
+use Rattle.journal.specs.Journal.{mostSeats, recorded, own, kept, filled, seated, inTurn}
 use Rattle.seats.specs.declared.Seat.{Seat}
 use Rattle.desk.specs.declared.Desk.{Desk}
 use Rattle.desk.specs.Calls.{opening, placing, moving, undoing}
@@ -25,9 +25,11 @@ use Rattle.desk.specs.Refusals.{sameJob, jobAmong, turnedOpening, turnedPlacing
 use Rattle.desk.specs.Desk.{closedSeat, jobOf, jobsApart, soundOpen, soundClosed, soundSeat, soundTo, sound, edited, effect, answerOf, step, emptyDesk}
 use Rattle.history.specs.History.{answers}
 
+-- A place,
 abbrev pub at : ℤ → ℤ → Place
 at a b = record { x = a; y = b }
 
+-- and a pin that stands there.
 abbrev pub pinAt : ℤ → ℤ → Pin
 pinAt a b = there (holding (at a b))
 
@@ -38,7 +40,7 @@ drawn l = take mostPins (l ++ replicate mostPins absent)
 -- Pin 0 is placed at (1,1), and a move to (1,1) is 9.
 pub own-place-refused : answers emptyDesk (opening 0 7 [] ∷ placing 0 0 (at (pos 1) (pos 1)) ∷ moving 0 0 (at (pos 1) (pos 1)) ∷ [])
     ≡ Accepted ∷ Accepted ∷ PlaceTaken ∷ []
-unfolding answers both either choose accepted turn onBoard inside difference closer tooNear sameNumber samePlace isThere sameHeld samePin samePins meets meetsAny meetsOther crowded within settled allWithin allApart spotOf feedOf lawful movedPin made unmade standsAt fits placeable movable makeable takeable heldBy noPins readFrom wrongLength readMap own kept filled seated inTurn sameJob jobAmong turnedOpening turnedPlacing turnedMoving verdictOf jobOf jobsApart soundOpen soundClosed soundSeat soundTo sound edited effect answerOf step emptyDesk
+unfolding answers both either choose accepted turn onBoard inside difference closer tooNear sameNumber samePlace isThere sameHeld samePin samePins spotsTooNear tooNearAny tooNearOther crowded within settled allWithin allApart spotOf feedOf lawful movedPin made unmade standsAt fits placeable movable makeable takeable heldBy noPins readFrom wrongLength readMap own kept filled seated inTurn sameJob jobAmong turnedOpening turnedPlacing turnedMoving verdictOf jobOf jobsApart soundOpen soundClosed soundSeat soundTo sound edited effect answerOf step emptyDesk
 own-place-refused = refl
 
 -- A seat open for a job, with these pins and so many standing edits.
@@ -47,18 +49,21 @@ opened job l n = record { opened = true; job = job; pins = drawn l; standing = n
 
 -- A desk with these first seats, the others closed, and these records.
 abbrev pub deskOf : List Seat → List Record → ℕ → Desk
-deskOf l m n = record { seats = take 8 (l ++ replicate 8 closedSeat); journal = filled m; used = n }
+deskOf l m n = record { seats = take mostSeats (l ++ replicate mostSeats closedSeat); journal = filled m; used = n }
 
 -- Pin 0 stands at (1,1), and a placing of pin 1 at (2,2) is taken back.
 abbrev pub here : Pin
 here = pinAt (pos 1) (pos 1)
 
+-- The record of the one that stands,
 abbrev pub stands : Record
 stands = recorded 0 (placed 0 (at (pos 1) (pos 1)))
 
+-- and that of the one taken back.
 abbrev pub takenBack : Record
 takenBack = recorded 0 (placed 1 (at (pos 2) (pos 2)))
 
+-- The desk with these two records, open at seat 0 for job 7.
 abbrev pub whole : Desk
 whole = deskOf (opened 7 (here ∷ []) 1 ∷ []) (stands ∷ takenBack ∷ []) 2
 
@@ -83,6 +88,7 @@ broken =
 abbrev pub undo : Desk → Verdict
 undo d = answerOf d (undoing 0)
 
+-- Undo is accepted on the sound desk, and 28 on every broken one.
 pub broken-refused : (undo whole ≡ Accepted) × (map undo broken ≡ replicate 10 DeskBroken)
-unfolding both either choose turn onBoard inside difference closer tooNear sameNumber samePlace isThere sameHeld samePin samePins meets meetsAny meetsOther crowded within settled allWithin allApart spotOf feedOf lawful movedPin made unmade standsAt fits placeable movable makeable takeable own kept filled seated inTurn sameJob jobAmong turnedUndoing verdictOf jobOf jobsApart soundOpen soundClosed soundSeat soundTo sound answerOf
+unfolding both either choose turn onBoard inside difference closer tooNear sameNumber samePlace isThere sameHeld samePin samePins spotsTooNear tooNearAny tooNearOther crowded within settled allWithin allApart spotOf feedOf lawful movedPin made unmade standsAt fits placeable movable makeable takeable own kept filled seated inTurn sameJob jobAmong turnedUndoing verdictOf jobOf jobsApart soundOpen soundClosed soundSeat soundTo sound answerOf
 broken-refused = (refl, refl)

@@ -9,10 +9,10 @@ use Rattle.refusal.specs.Tests.{both, either, choose}
 use Rattle.refusal.specs.Refusals.{accepted, turn}
 use Rattle.refusal.specs.declared.Verdict.{Verdict}
 use Rattle.refusal.specs.declared.Verdict.the-variants.{Accepted, NothingStands, NothingTakenBack}
-use Rattle.grid.specs.Number.{first, second, third, fourth}
+use Rattle.grid.specs.Number.{firstByte, secondByte, thirdByte, fourthByte}
 use Rattle.grid.specs.Place.{onBoard, inside, difference, closer, tooNear, sameNumber, samePlace}
 use Rattle.drawing.specs.declared.Pin.{Pin}
-use Rattle.feed.specs.Feeds.{meets, meetsAny, crowded, within, settled, allWithin, allApart, meetsOther}
+use Rattle.feed.specs.Feeds.{spotsTooNear, tooNearAny, crowded, within, settled, allWithin, allApart, tooNearOther}
 use Rattle.drawing.specs.Pins.{isThere, sameHeld, samePin, samePins, lawful, spotOf, feedOf}
 use Rattle.drawing.specs.Edits.{movedPin, made, unmade, standsAt, fits, placeable, movable, makeable, takeable, heldBy}
 use Rattle.pinmap.specs.Record.{recordBytes, pinBytes}
@@ -22,6 +22,7 @@ use Rattle.desk.specs.Calls.{Call, opening, placing, moving, undoing, redoing}
 use Rattle.desk.specs.Refusals.{sameJob, jobAmong, turnedOpening, turnedClosing, turnedPlacing, turnedMoving, turnedRemoving, turnedUndoing, turnedRedoing, turnedWriting, verdictOf}
 use Rattle.desk.specs.Desk.{seatOf, jobOf, jobsApart, soundOpen, soundClosed, soundSeat, soundTo, sound, edited, effect, answerOf, step, emptyDesk, writtenOf, bufferOf}
 use Rattle.wiring.specs.declared.Wiring.{Wiring}
+use Rattle.wiring.specs.Answer.{mostLegs}
 use Rattle.bare.specs.Bare.{bareOf}
 use Rattle.bare.proofs.Worked as boards
 use Rattle.history.specs.History.{after, answers}
@@ -36,9 +37,9 @@ pub data Case : Type 0 where
 
 -- What a case says.
 unfoldable pub Holds : Case → Type 0
-Holds (wired l w) = map (λ (b : boards.Board). bareOf (b .xs) (b .ys) 62 .wiring) l ≡ w
-Holds (session calls told first second) =
-    (answers emptyDesk calls ≡ told) × (seatOf (after emptyDesk calls) 0 .pins ≡ first) × (seatOf (after emptyDesk calls) 1 .pins ≡ second)
+Holds (wired l w) = map (λ (b : boards.Board). bareOf (b .xs) (b .ys) mostLegs .wiring) l ≡ w
+Holds (session calls verdicts first second) =
+    (answers emptyDesk calls ≡ verdicts) × (seatOf (after emptyDesk calls) 0 .pins ≡ first) × (seatOf (after emptyDesk calls) 1 .pins ≡ second)
 Holds (writes calls buffer bytes later) =
     (writtenOf (after emptyDesk calls) 0 buffer .verdict ≡ Accepted)
     × (writtenOf (after emptyDesk calls) 0 buffer .bytes ≡ bytes)
@@ -61,16 +62,18 @@ D2 = opening 0 7 [] ∷ placing 0 0 (at (pos 1) (pos 1)) ∷ moving 0 0 (at (pos
 abbrev D3 : List Call
 D3 = opening 0 7 [] ∷ placing 0 0 (at (pos 1) (negsuc 0)) ∷ []
 
+-- The table: the boards, D1 up to its first undo and to its end, D2, D3.
 abbrev pub table : List Case
 table =
     wired boards.boards boards.answers
     ∷ session D1 (Accepted ∷ Accepted ∷ Accepted ∷ Accepted ∷ Accepted ∷ []) (drawn []) (drawn (pinAt (pos 2) (pos 2) ∷ []))
-    ∷ session (D1 ++ (undoing 0 ∷ redoing 0 ∷ [])) (Accepted ∷ Accepted ∷ Accepted ∷ Accepted ∷ Accepted ∷ NothingStands ∷ Accepted ∷ []) (drawn (pinAt (pos 1) (pos 1) ∷ [])) (drawn (pinAt (pos 2) (pos 2) ∷ []))
+    ∷ session (D1 ++ (undoing 0 ∷ redoing 0 ∷ [])) (Accepted ∷ Accepted ∷ Accepted ∷ Accepted ∷ Accepted ∷ NothingStands ∷ Accepted ∷ [])
+    (drawn (pinAt (pos 1) (pos 1) ∷ [])) (drawn (pinAt (pos 2) (pos 2) ∷ []))
     ∷ session D2 (Accepted ∷ Accepted ∷ Accepted ∷ Accepted ∷ Accepted ∷ NothingTakenBack ∷ []) (drawn (pinAt (pos 1) (pos 1) ∷ pinAt (pos 2) (pos 2) ∷ [])) (drawn [])
     ∷ writes D3 (replicate 14 9) 12 (0 ∷ 7 ∷ 0 ∷ 0 ∷ 0 ∷ 0 ∷ 0 ∷ 1 ∷ 255 ∷ 255 ∷ 255 ∷ 255 ∷ 9 ∷ 9 ∷ [])
     ∷ []
 
 -- W1 TO W8 AND D1 TO D3 HOLD.
 pub worked : AllHold table
-unfolding Holds AllHold after answers both either choose accepted turn onBoard inside difference closer tooNear sameNumber samePlace isThere sameHeld samePin samePins meets meetsAny meetsOther crowded within settled allWithin allApart spotOf feedOf lawful movedPin made unmade standsAt fits placeable movable makeable takeable heldBy noPins readFrom wrongLength readMap own kept filled seated inTurn sameJob jobAmong turnedOpening turnedClosing turnedPlacing turnedMoving turnedRemoving turnedUndoing turnedRedoing verdictOf jobOf jobsApart soundOpen soundClosed soundSeat soundTo sound edited effect answerOf step emptyDesk mapFrom mapOf recordBytes pinBytes first second third fourth turnedWriting written writtenOf bufferOf
+unfolding Holds AllHold after answers both either choose accepted turn onBoard inside difference closer tooNear sameNumber samePlace isThere sameHeld samePin samePins spotsTooNear tooNearAny tooNearOther crowded within settled allWithin allApart spotOf feedOf lawful movedPin made unmade standsAt fits placeable movable makeable takeable heldBy noPins readFrom wrongLength readMap own kept filled seated inTurn sameJob jobAmong turnedOpening turnedClosing turnedPlacing turnedMoving turnedRemoving turnedUndoing turnedRedoing verdictOf jobOf jobsApart soundOpen soundClosed soundSeat soundTo sound edited effect answerOf step emptyDesk mapFrom mapOf recordBytes pinBytes firstByte secondByte thirdByte fourthByte turnedWriting written writtenOf bufferOf
 worked = (boards.worked, ((refl, refl, refl), ((refl, refl, refl), ((refl, refl, refl), ((refl, refl, refl), tt)))))

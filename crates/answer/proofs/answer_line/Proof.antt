@@ -1,4 +1,4 @@
--- `answer::answer_line` meets its contract. Assumes nothing.
+-- `answer::answer_line` meets its contract: each order by the call that it asks for. Assumes nothing.
 use mathlib.Core.Path.{refl}
 use Prim.Native.Nat.{ℕ}
 use native.Mathlib.Omega.{arith}
@@ -6,6 +6,7 @@ use lib.IntN.{ℤ, pos}
 use lib.ListN.{length-replicate}
 use borrow.Author.Needs.{needs}
 use Rattle.desk.specs.Calls.{closing, placing, moving, removing, undoing, redoing}
+use Rattle.script.specs.Numbers.{mostPairs, mostNumbers}
 use Rattle.script.specs.Answers.{notACallLine}
 use Rattle.answer.specs.Answered.{followed, printed}
 use Rattle.answer.proofs.Ordered.{open-count, write-room, bare-counts}
@@ -13,6 +14,10 @@ use Rattle.answer.proofs.Telling.{held, called}
 use Rattle.answer.proofs.Answering.{answers, map-lent, across-lent, up-lent}
 use Rattle.answer.proofs.answer_line.Statement.{statement}
 use Rattle.answer.proofs.answer_line.Tie as tie
+
+-- The call, seen from where its line was read.
+abbrev begun : tie.After-read-line → tie.Start
+begun r = r .before .before .before .before .before
 
 read-line-requires : tie.Need-read-line-requires
 read-line-requires c κs = search needs
@@ -31,7 +36,9 @@ enum-known-order c = search needs
 
 open-requires : tie.Need-open-requires
 open-requires c κs =
-    omega (arith, open-count (c .before .before .before .before .before .before .before .before .before .before .args .line .now) (c .before .before .before .before .before .read-line .ensures .0) (c .before .before .before .order .given .1))
+    let o = c .before .before .before in
+    let r = o .before .before in
+    omega (arith, open-count (begun r .args .line .now) (r .read-line .ensures .0) (o .order .given .1))
 
 enum-known-order-2 : tie.Need-enum-known-order-2
 enum-known-order-2 c = search needs
@@ -92,7 +99,9 @@ enum-known-order-8 c = search needs
 
 write-requires : tie.Need-write-requires
 write-requires c κs =
-    omega (arith, write-room (c .before .before .before .before .before .before .before .before .before .args .line .now) (c .before .before .before .before .read-line .ensures .0) (c .before .before .order8 .given .1))
+    let o = c .before .before in
+    let r = o .before .before in
+    omega (arith, write-room (begun r .args .line .now) (r .read-line .ensures .0) (o .order8 .given .1))
 
 enum-known-order-9 : tie.Need-enum-known-order-9
 enum-known-order-9 c = search needs
@@ -105,7 +114,9 @@ enum-known-order-10 c = search needs
 
 wire-bare-requires : tie.Need-wire-bare-requires
 wire-bare-requires c κs =
-    omega (arith, bare-counts (c .before .before .before .before .before .before .before .before .before .before .before .args .line .now) (c .before .before .before .before .before .before .read-line .ensures .0) (c .before .before .before .before .order10 .given .1))
+    let o = c .before .before .before .before in
+    let r = o .before .before in
+    omega (arith, bare-counts (begun r .args .line .now) (r .read-line .ensures .0) (o .order10 .given .1))
 
 enum-known-order-11 : tie.Need-enum-known-order-11
 enum-known-order-11 c = search needs
@@ -116,122 +127,124 @@ show-pins-requires c κs = search needs
 returns : tie.Need-returns
 unfolding followed printed
 returns c =
-    let s = c .before .before .before .before .before .before .before in
-    let e = c .before .before .read-line .ensures .0 in
-    let f = c .enum-told .given .1 in
-    answers (s .args .desk) (s .args .number) (s .args .line .now) (s .args .out .now) e f
+    let r = c .before .before in
+    let s = begun r in
+    answers (s .args .desk) (s .args .number) (s .args .line .now) (s .args .out .now) (r .read-line .ensures .0) (c .enum-told .given .1)
     (refl, record { bytes = refl; within = omega arith; buffer = refl })
 
 returns-2 : tie.Need-returns-2
 unfolding followed printed
 returns-2 c =
-    let s = c .before .before .before .before .before .before .before .before .before in
-    let e = c .before .before .before .before .read-line .ensures .0 in
-    let f = c .before .before .enum-told2 .given .1 in
-    answers (s .args .desk) (s .args .number) (s .args .line .now) (s .args .out .now) e f
+    let o = c .before .before in
+    let r = o .before .before in
+    let s = begun r in
+    answers (s .args .desk) (s .args .number) (s .args .line .now) (s .args .out .now) (r .read-line .ensures .0) (o .enum-told2 .given .1)
     (refl, held (notACallLine (s .args .number)) (s .args .out .now) 200 (omega arith) (c .print-not-a-call .ensures))
 
 returns-3 : tie.Need-returns-3
 unfolding followed printed
 returns-3 c =
-    let s = c .before .before .before .before .before .before .before .before .before .before .before in
-    let e = c .before .before .before .before .before .before .read-line .ensures .0 in
-    let f = c .before .before .before .before .order .given .1 in
-    answers (s .args .desk) (s .args .number) (s .args .line .now) (s .args .out .now) e f
-    (rw (map-lent (s .args .line .now) e _ f (c .before .before .before .before .before .before .read-line .ensures .1 .0) (length-replicate {A = ℕ} 4200 0)) at (c .open .ensures))
+    let o = c .before .before .before .before in
+    let r = o .before .before in
+    let s = begun r in
+    let m = map-lent (s .args .line .now) (r .read-line .ensures .0) _ (o .order .given .1) (r .read-line .ensures .1 .0) (length-replicate {A = ℕ} mostPairs 0) in
+    answers (s .args .desk) (s .args .number) (s .args .line .now) (s .args .out .now) (r .read-line .ensures .0) (o .order .given .1)
+    (rw m at (c .open .ensures))
 
 returns-4 : tie.Need-returns-4
 unfolding followed printed
 returns-4 c =
-    let s = c .before .before .before .before .before .before .before .before .before .before .before in
-    let e = c .before .before .before .before .before .before .read-line .ensures .0 in
-    let f = c .before .before .before .before .order2 .given .1 in
-    answers (s .args .desk) (s .args .number) (s .args .line .now) (s .args .out .now) e f
-    (called (s .args .desk) (s .args .out .now) (closing (c .before .before .before .before .order2 .given .0 .0)) (c .before .before .close .ensures) (c .told .ensures))
+    let o = c .before .before .before .before in
+    let r = o .before .before in
+    let s = begun r in
+    answers (s .args .desk) (s .args .number) (s .args .line .now) (s .args .out .now) (r .read-line .ensures .0) (o .order2 .given .1)
+    (called (s .args .desk) (s .args .out .now) (closing (o .order2 .given .0 .0)) (c .before .before .close .ensures) (c .told .ensures))
 
 returns-5 : tie.Need-returns-5
 unfolding followed printed
 returns-5 c =
-    let s = c .before .before .before .before .before .before .before .before .before .before .before in
-    let e = c .before .before .before .before .before .before .read-line .ensures .0 in
-    let f = c .before .before .before .before .order3 .given .1 in
-    answers (s .args .desk) (s .args .number) (s .args .line .now) (s .args .out .now) e f
-    (called (s .args .desk) (s .args .out .now) (placing (c .before .before .before .before .order3 .given .0 .0) (c .before .before .before .before .order3 .given .0 .1 .0) (c .before .before .before .before .order3 .given .0 .1 .1 .0)) (c .before .before .place .ensures) (c .told2 .ensures))
+    let o = c .before .before .before .before in
+    let r = o .before .before in
+    let s = begun r in
+    let g = o .order3 .given .0 in
+    answers (s .args .desk) (s .args .number) (s .args .line .now) (s .args .out .now) (r .read-line .ensures .0) (o .order3 .given .1)
+    (called (s .args .desk) (s .args .out .now) (placing (g .0) (g .1 .0) (g .1 .1 .0)) (c .before .before .place .ensures) (c .told2 .ensures))
 
 returns-6 : tie.Need-returns-6
 unfolding followed printed
 returns-6 c =
-    let s = c .before .before .before .before .before .before .before .before .before .before .before in
-    let e = c .before .before .before .before .before .before .read-line .ensures .0 in
-    let f = c .before .before .before .before .order4 .given .1 in
-    answers (s .args .desk) (s .args .number) (s .args .line .now) (s .args .out .now) e f
-    (called (s .args .desk) (s .args .out .now) (moving (c .before .before .before .before .order4 .given .0 .0) (c .before .before .before .before .order4 .given .0 .1 .0) (c .before .before .before .before .order4 .given .0 .1 .1 .0)) (c .before .before .shift .ensures) (c .told3 .ensures))
+    let o = c .before .before .before .before in
+    let r = o .before .before in
+    let s = begun r in
+    let g = o .order4 .given .0 in
+    answers (s .args .desk) (s .args .number) (s .args .line .now) (s .args .out .now) (r .read-line .ensures .0) (o .order4 .given .1)
+    (called (s .args .desk) (s .args .out .now) (moving (g .0) (g .1 .0) (g .1 .1 .0)) (c .before .before .shift .ensures) (c .told3 .ensures))
 
 returns-7 : tie.Need-returns-7
 unfolding followed printed
 returns-7 c =
-    let s = c .before .before .before .before .before .before .before .before .before .before .before in
-    let e = c .before .before .before .before .before .before .read-line .ensures .0 in
-    let f = c .before .before .before .before .order5 .given .1 in
-    answers (s .args .desk) (s .args .number) (s .args .line .now) (s .args .out .now) e f
-    (called (s .args .desk) (s .args .out .now) (removing (c .before .before .before .before .order5 .given .0 .0) (c .before .before .before .before .order5 .given .0 .1 .0)) (c .before .before .remove .ensures) (c .told4 .ensures))
+    let o = c .before .before .before .before in
+    let r = o .before .before in
+    let s = begun r in
+    let g = o .order5 .given .0 in
+    answers (s .args .desk) (s .args .number) (s .args .line .now) (s .args .out .now) (r .read-line .ensures .0) (o .order5 .given .1)
+    (called (s .args .desk) (s .args .out .now) (removing (g .0) (g .1 .0)) (c .before .before .remove .ensures) (c .told4 .ensures))
 
 returns-8 : tie.Need-returns-8
 unfolding followed printed
 returns-8 c =
-    let s = c .before .before .before .before .before .before .before .before .before .before .before in
-    let e = c .before .before .before .before .before .before .read-line .ensures .0 in
-    let f = c .before .before .before .before .order6 .given .1 in
-    answers (s .args .desk) (s .args .number) (s .args .line .now) (s .args .out .now) e f
-    (called (s .args .desk) (s .args .out .now) (undoing (c .before .before .before .before .order6 .given .0 .0)) (c .before .before .undo .ensures) (c .told5 .ensures))
+    let o = c .before .before .before .before in
+    let r = o .before .before in
+    let s = begun r in
+    answers (s .args .desk) (s .args .number) (s .args .line .now) (s .args .out .now) (r .read-line .ensures .0) (o .order6 .given .1)
+    (called (s .args .desk) (s .args .out .now) (undoing (o .order6 .given .0 .0)) (c .before .before .undo .ensures) (c .told5 .ensures))
 
 returns-9 : tie.Need-returns-9
 unfolding followed printed
 returns-9 c =
-    let s = c .before .before .before .before .before .before .before .before .before .before .before in
-    let e = c .before .before .before .before .before .before .read-line .ensures .0 in
-    let f = c .before .before .before .before .order7 .given .1 in
-    answers (s .args .desk) (s .args .number) (s .args .line .now) (s .args .out .now) e f
-    (called (s .args .desk) (s .args .out .now) (redoing (c .before .before .before .before .order7 .given .0 .0)) (c .before .before .redo .ensures) (c .told6 .ensures))
+    let o = c .before .before .before .before in
+    let r = o .before .before in
+    let s = begun r in
+    answers (s .args .desk) (s .args .number) (s .args .line .now) (s .args .out .now) (r .read-line .ensures .0) (o .order7 .given .1)
+    (called (s .args .desk) (s .args .out .now) (redoing (o .order7 .given .0 .0)) (c .before .before .redo .ensures) (c .told6 .ensures))
 
 returns-10 : tie.Need-returns-10
 unfolding followed printed
 returns-10 c =
-    let s = c .before .before .before .before .before .before .before .before .before .before in
-    let e = c .before .before .before .before .before .read-line .ensures .0 in
-    let f = c .before .before .before .order8 .given .1 in
-    answers (s .args .desk) (s .args .number) (s .args .line .now) (s .args .out .now) e f
+    let o = c .before .before .before in
+    let r = o .before .before in
+    let s = begun r in
+    answers (s .args .desk) (s .args .number) (s .args .line .now) (s .args .out .now) (r .read-line .ensures .0) (o .order8 .given .1)
     (c .write .ensures)
 
 returns-11 : tie.Need-returns-11
 unfolding followed printed
 returns-11 c =
-    let s = c .before .before .before .before .before .before .before .before .before .before in
-    let e = c .before .before .before .before .before .read-line .ensures .0 in
-    let f = c .before .before .before .order9 .given .1 in
-    answers (s .args .desk) (s .args .number) (s .args .line .now) (s .args .out .now) e f
+    let o = c .before .before .before in
+    let r = o .before .before in
+    let s = begun r in
+    answers (s .args .desk) (s .args .number) (s .args .line .now) (s .args .out .now) (r .read-line .ensures .0) (o .order9 .given .1)
     (c .wire .ensures)
 
 returns-12 : tie.Need-returns-12
 unfolding followed printed
 returns-12 c =
-    let s = c .before .before .before .before .before .before .before .before .before .before .before .before in
-    let e = c .before .before .before .before .before .before .before .read-line .ensures .0 in
-    let f = c .before .before .before .before .before .order10 .given .1 in
-    answers (s .args .desk) (s .args .number) (s .args .line .now) (s .args .out .now) e f (
-      refl,
-      rw (up-lent (s .args .line .now) e _ f (c .before .before .before .before .before .before .before .read-line .ensures .1 .1 .1) (length-replicate {A = ℤ} 40 (pos 0)))
-          at (rw (across-lent (s .args .line .now) e _ f (c .before .before .before .before .before .before .before .read-line .ensures .1 .1 .0) (length-replicate {A = ℤ} 40 (pos 0)))
-          at (c .wire-bare .ensures)),
-    )
+    let o = c .before .before .before .before .before in
+    let r = o .before .before in
+    let s = begun r in
+    let l = r .read-line .ensures .1 .1 in
+    let x = across-lent (s .args .line .now) (r .read-line .ensures .0) _ (o .order10 .given .1) (l .0) (length-replicate {A = ℤ} mostNumbers (pos 0)) in
+    let y = up-lent (s .args .line .now) (r .read-line .ensures .0) _ (o .order10 .given .1) (l .1) (length-replicate {A = ℤ} mostNumbers (pos 0)) in
+    answers (s .args .desk) (s .args .number) (s .args .line .now) (s .args .out .now) (r .read-line .ensures .0) (o .order10 .given .1)
+    (refl, rw y at (rw x at (c .wire-bare .ensures)))
 
 returns-13 : tie.Need-returns-13
 unfolding followed printed
 returns-13 c =
-    let s = c .before .before .before .before .before .before .before .before .before .before in
-    let e = c .before .before .before .before .before .read-line .ensures .0 in
-    let f = c .before .before .before .order11 .given .1 in
-    answers (s .args .desk) (s .args .number) (s .args .line .now) (s .args .out .now) e f
+    let o = c .before .before .before in
+    let r = o .before .before in
+    let s = begun r in
+    answers (s .args .desk) (s .args .number) (s .args .line .now) (s .args .out .now) (r .read-line .ensures .0) (o .order11 .given .1)
     (refl, c .show-pins .ensures)
 
 pub answer-line-spec : {M : Type 1} → statement M

@@ -22,9 +22,9 @@ told-requires c κs = search needs
 
 returns : tie.Need-returns
 returns c =
-    let s = c .before .before .before .before .before in
-    called (s .args .desk) (s .args .out .now) (opening (s .args .seat) (s .args .job) (take (s .args .bytes) (s .args .map .now)))
-    (c .before .before .open .ensures) (c .told .ensures)
+    let o = c .before .before in
+    let s = o .before .before .before in
+    called (s .args .desk) (s .args .out .now) (opening (s .args .seat) (s .args .job) (take (s .args .bytes) (s .args .map .now))) (o .open .ensures) (c .told .ensures)
 
 pub open-spec : {M : Type 1} → statement M
 open-spec = tie.close (tie.spec slice-aggregate-open open-requires told-requires returns)

@@ -1,12 +1,18 @@
 -- `answer::show_pins` meets its contract. Assumes nothing.
-use mathlib.Core.Path.{sym, _∙_}
+use mathlib.Core.Path.{_≡_, sym, _∙_}
+use mathlib.Core.Bool.{true}
 use native.Mathlib.Omega.{arith}
 use borrow.Author.Needs.{needs}
 use borrow.Author.Tests.{not-true, not-false}
+use Rattle.desk.specs.Desk.{sound}
 use Rattle.desk.proofs.Sound.{used-within, standing-within}
 use Rattle.answer.proofs.Showing.{pins-broken, pins-above, pins-closed, pins-drawn}
 use Rattle.answer.proofs.show_pins.Statement.{statement}
 use Rattle.answer.proofs.show_pins.Tie as tie
+
+-- The desk was found sound.
+well : (c : tie.Else1) → sound (c .before .before .args .t1) ≡ true
+well c = sym (c .before .is-sound .ensures) ∙ not-false _ (c .if1 .left)
 
 is-sound-requires : tie.Need-is-sound-requires
 is-sound-requires c κs = search needs
@@ -16,16 +22,19 @@ print-verdict-requires c κs = search needs
 
 returns : tie.Need-returns
 returns c =
-    let s = c .before .before .before .before in
-    pins-broken (s .args .t1) (s .args .seat) (s .args .out .now) (sym (c .before .before .before .is-sound .ensures) ∙ not-true _ (c .before .before .if1 .taken)) (c .print-verdict .ensures)
+    let b = c .before .before in
+    let s = b .before .before in
+    pins-broken (s .args .t1) (s .args .seat) (s .args .out .now) (sym (b .before .is-sound .ensures) ∙ not-true _ (b .if1 .taken)) (c .print-verdict .ensures)
 
 print-verdict-requires-2 : tie.Need-print-verdict-requires-2
 print-verdict-requires-2 c κs = search needs
 
 returns-2 : tie.Need-returns-2
 returns-2 c =
-    let s = c .before .before .before .before .before in
-    pins-above (s .args .t1) (s .args .seat) (s .args .out .now) (sym (c .before .before .before .before .is-sound .ensures) ∙ not-false _ (c .before .before .before .if1 .left)) (c .before .before .if2 .taken) (c .print-verdict2 .ensures)
+    let a = c .before .before in
+    let e = a .before in
+    let s = e .before .before in
+    pins-above (s .args .t1) (s .args .seat) (s .args .out .now) (well e) (a .if2 .taken) (c .print-verdict2 .ensures)
 
 mul-s : tie.Need-mul-s
 mul-s c = search needs
@@ -38,29 +47,42 @@ print-closed-requires c κs = search needs
 
 returns-3 : tie.Need-returns-3
 returns-3 c =
-    let s = c .before .before .before .before .before .before .before .before in
-    pins-closed (s .args .t1) (s .args .seat) (s .args .out .now) (sym (c .before .before .before .before .before .before .before .is-sound .ensures) ∙ not-false _ (c .before .before .before .before .before .before .if1 .left)) (c .before .before .before .before .before .if2 .left) (not-true _ (c .before .before .if3 .taken)) (c .print-closed .ensures)
+    let o = c .before .before in
+    let a = o .before .before .before in
+    let e = a .before in
+    let s = e .before .before in
+    pins-closed (s .args .t1) (s .args .seat) (s .args .out .now) (well e) (a .if2 .left) (not-true _ (o .if3 .taken)) (c .print-closed .ensures)
 
 count-of-requires : tie.Need-count-of-requires
-count-of-requires c κs = used-within (c .before .before .before .before .before .before .before .args .t1) (sym (c .before .before .before .before .before .before .is-sound .ensures) ∙ not-false _ (c .before .before .before .before .before .if1 .left))
+count-of-requires c κs =
+    let e = c .before .before .before .before .before in
+    used-within (e .before .before .args .t1) (well e)
 
 feed-of-requires : tie.Need-feed-of-requires
 feed-of-requires c κs = search needs
 
 sub-print-drawn : tie.Need-sub-print-drawn
 sub-print-drawn c =
-    let s = c .before .before .before .before .before .before .before .before .before .before .before in
-    let e = (sym (c .before .before .before .before .before .before .before .before .before .before .is-sound .ensures) ∙ not-false _ (c .before .before .before .before .before .before .before .before .before .if1 .left)) in
-    omega (arith, c .before .before .before .count-of .ensures, standing-within (s .args .t1) e (s .args .seat) (c .before .before .before .before .before .before .before .before .if2 .left) (not-false _ (c .before .before .before .before .before .if3 .left)))
+    let n = c .before .before .before in
+    let o = n .before .before in
+    let a = o .before .before .before in
+    let e = a .before in
+    let s = e .before .before in
+    omega (arith, n .count-of .ensures, standing-within (s .args .t1) (well e) (s .args .seat) (a .if2 .left) (not-false _ (o .if3 .left)))
 
 print-drawn-requires : tie.Need-print-drawn-requires
 print-drawn-requires c κs = search needs
 
 returns-4 : tie.Need-returns-4
 returns-4 c =
-    let s = c .before .before .before .before .before .before .before .before .before .before .before .before .before in
-    pins-drawn (s .args .t1) (s .args .seat) (s .args .out .now) (sym (c .before .before .before .before .before .before .before .before .before .before .before .before .is-sound .ensures) ∙ not-false _ (c .before .before .before .before .before .before .before .before .before .before .before .if1 .left))
-    (c .before .before .before .before .before .before .before .before .before .before .if2 .left) (not-false _ (c .before .before .before .before .before .before .before .if3 .left)) (c .before .before .before .before .before .count-of .ensures) (c .before .before .before .feed-of .ensures) (c .print-drawn .ensures)
+    let f = c .before .before .before in
+    let n = f .before .before in
+    let o = n .before .before in
+    let a = o .before .before .before in
+    let e = a .before in
+    let s = e .before .before in
+    pins-drawn (s .args .t1) (s .args .seat) (s .args .out .now) (well e) (a .if2 .left) (not-false _ (o .if3 .left))
+    (n .count-of .ensures) (f .feed-of .ensures) (c .print-drawn .ensures)
 
 pub show-pins-spec : {M : Type 1} → statement M
 show-pins-spec =

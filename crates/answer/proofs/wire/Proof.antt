@@ -12,8 +12,9 @@ print-laid-requires c κs = search needs
 
 returns : tie.Need-returns
 returns c =
-    let s = c .before .before .before .before .before in
-    wire-done (s .args .desk) (s .args .out .now) (s .args .seat) (s .args .room) (c .before .before .before .before .wire .ensures) (c .print-laid .ensures)
+    let w = c .before .before .before .before in
+    let s = w .before in
+    wire-done (s .args .desk) (s .args .out .now) (s .args .seat) (s .args .room) (w .wire .ensures) (c .print-laid .ensures)
 
 pub wire-spec : {M : Type 1} → statement M
 wire-spec = tie.close (tie.spec wire-requires print-laid-requires returns)

@@ -26,9 +26,10 @@ print-laid-requires c κs = search needs
 
 returns : tie.Need-returns
 returns c =
-    let s = c .before .before .before .before .before .before .before in
+    let w = c .before .before in
+    let s = w .before .before .before .before .before in
     bare-done (take (s .args .across) (s .args .xs .now)) (take (s .args .up) (s .args .ys .now)) (s .args .room) (s .args .out .now)
-    (c .before .before .wire-bare .ensures) (c .print-laid .ensures)
+    (w .wire-bare .ensures) (c .print-laid .ensures)
 
 pub wire-bare-spec : {M : Type 1} → statement M
 wire-bare-spec =

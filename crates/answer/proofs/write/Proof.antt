@@ -15,7 +15,8 @@ array-borrow-prefix-buffer c = search needs
 
 slice-aggregate-write-into : tie.Need-slice-aggregate-write-into
 slice-aggregate-write-into c =
-    sym (length-take-le (c .before .before .args .room) (c .before .lent-bytes .result) (omega (arith, c .before .lent-bytes .ok)))
+    let b = c .before in
+    sym (length-take-le (b .before .args .room) (b .lent-bytes .result) (omega (arith, b .lent-bytes .ok)))
 
 write-into-requires : tie.Need-write-into-requires
 write-into-requires c κs = search needs
@@ -23,7 +24,9 @@ write-into-requires c κs = search needs
 returns : tie.Need-returns
 returns c =
     let h = c .before .write-into .ensures in
-    (h .0, rw (lent-first (c .before .before .before .before .before .args .room) (c .before .before .before .before .lent-bytes .ensures) (c .before .before .before .before .before .pre)) at (h .1))
+    let b = c .before .before .before .before in
+    let s = b .before in
+    (h .0, rw (lent-first (s .args .room) (b .lent-bytes .ensures) (s .pre)) at (h .1))
 
 pub write-spec : {M : Type 1} → statement M
 write-spec =

@@ -19,10 +19,11 @@ same-length c = search needs
 
 returns : tie.Need-returns
 returns c =
-    let s = c .before .before .before .before .before .before .before .before .before .before .before in
-    let w = c .before .before .before .before .before .before .before .before .write in
-    write-done (s .args .desk) (s .args .out .now) (s .args .seat) (s .args .buffer .now) (w .ensures .0) (w .ensures .1)
-    (sym (c .before .before .before .before .is-accepted .ensures) ∙ c .before .before .before .if1 .taken) (c .print-written .ensures)
+    let a = c .before .before .before in
+    let w = a .before .before .before .before .before in
+    let s = w .before .before .before in
+    write-done (s .args .desk) (s .args .out .now) (s .args .seat) (s .args .buffer .now) (w .write .ensures .0) (w .write .ensures .1)
+    (sym (a .before .is-accepted .ensures) ∙ a .if1 .taken) (c .print-written .ensures)
 
 print-verdict-requires : tie.Need-print-verdict-requires
 print-verdict-requires c κs = search needs
@@ -32,10 +33,11 @@ same-length-2 c = search needs
 
 returns-2 : tie.Need-returns-2
 returns-2 c =
-    let s = c .before .before .before .before .before .before .before .before .before .before in
-    let w = c .before .before .before .before .before .before .before .write in
-    write-refused (s .args .desk) (s .args .out .now) (s .args .seat) (s .args .buffer .now) (w .ensures .0)
-    (sym (c .before .before .before .is-accepted .ensures) ∙ c .before .before .if1 .left) (c .print-verdict .ensures)
+    let a = c .before .before in
+    let w = a .before .before .before .before .before in
+    let s = w .before .before .before in
+    write-refused (s .args .desk) (s .args .out .now) (s .args .seat) (s .args .buffer .now) (w .write .ensures .0)
+    (sym (a .before .is-accepted .ensures) ∙ a .if1 .left) (c .print-verdict .ensures)
 
 pub write-into-spec : {M : Type 1} → statement M
 write-into-spec =

@@ -37,8 +37,11 @@ loop-less c = search needs
 loop-again : tie.Need-loop-again Inv-loop μ-loop
 loop-again c =
     let h = c .before .before in
-    let a = h .before .args in
-    (search needs, feed-turn (a .xs .now) (a .ys .now) (omega arith) (omega arith) _ (h .loop .feed) (h .loop .pin) (omega arith) (h .loop .inv .1) (omega arith) _ (c .listed-pin .ensures))
+    let a = h .before .args in (
+      search needs,
+      feed-turn (a .xs .now) (a .ys .now) (omega arith) (omega arith) _ (h .loop .feed) (h .loop .pin) (omega arith) (h .loop .inv .1) (omega arith)
+          _ (c .listed-pin .ensures),
+    )
 
 returns : tie.Need-returns Inv-loop μ-loop
 returns c =

@@ -73,7 +73,8 @@ returns-4 c =
     let g = c .before in
     let e = g .before .before in
     let d = e .before .before .before in
-    c .refused4 .ensures ∙ turned _ _ _ PlaceTaken refl (two-near _ _ (right (d .before)) (d .if2 .left) (within (e .before) ∙ not-false _ (e .if3 .left)) (near (g .before) ∙ not-true _ (g .if4 .taken)))
+    c .refused4 .ensures ∙ turned _ _ _ PlaceTaken refl (two-near _ _ (right (d .before)) (d .if2 .left) (within (e .before) ∙ not-false _ (e .if3 .left))
+    (near (g .before) ∙ not-true _ (g .if4 .taken)))
 
 wire-feed-requires : tie.Need-wire-feed-requires
 wire-feed-requires c κs =

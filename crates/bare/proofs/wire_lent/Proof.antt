@@ -42,6 +42,7 @@ use Rattle.copper.specs.declared.Leg.{Leg}
 use Rattle.copper.proofs.Leg as T
 use Rattle.wiring.specs.declared.Laid.{Laid}
 use Rattle.wiring.specs.declared.Wiring.{Wiring}
+use Rattle.wiring.specs.Answer.{mostLegs}
 use Rattle.lent.specs.Lent.{filledWith}
 use Rattle.bare.specs.Bare.{bareOf}
 use Rattle.bare.proofs.Fitting.{bare-fits}
@@ -173,7 +174,7 @@ module _ {M : Type 1} (𝓤 : URA M) (H : Heap 𝓤) (A : Atoms 𝓤) (W : Given
     abbrev to-fill : Fill 𝓤 H A mem run .Ghost
     to-fill = (((κ″, tt), (q″, tt), tt, (d, (z, tt)), (w ∷ [], (sz ∷ [], tt))), tt)
 
-    fits : (d .wiring .legs ≤ 62) × (d .wiring .legs ≤ n)
+    fits : (d .wiring .legs ≤ mostLegs) × (d .wiring .legs ≤ n)
     fits = rw e (bare-fits (x .now) (y .now) n)
 
     goes-fill : ent 𝓤 (sep 𝓤 (sep 𝓤 (A .lft κ″ q″) (sem 𝓤 H A ftrue)) (sem 𝓤 H A Z)) (Fill 𝓤 H A mem run .pre to-fill)

@@ -23,30 +23,30 @@ returns c = sym (both-no _ (pin-above _ _ (c .before .pin-of .ensures) (c .if1 .
 take-back-requires : tie.Need-take-back-requires
 take-back-requires c κs = search needs
 
-can-make-requires : tie.Need-can-make-requires
-can-make-requires c κs = search needs
+feed-of-requires : tie.Need-feed-of-requires
+feed-of-requires c κs = search needs
+
+can-be-made-requires : tie.Need-can-be-made-requires
+can-be-made-requires c κs = c .feed-of .ensures
 
 returns-2 : tie.Need-returns-2
 returns-2 c =
-    let t = c .before .before in
+    let t = c .before .before .before in
     let p = t .before .before in
     let w : length (p .before .args .t1) ≡ mostPins = omega arith in
-    unmakeable _ w _ (p .pin-of .ensures) (t .take-back .ensures) (sym (c .before .can-make .ensures) ∙ not-true _ (c .if2 .taken))
-
-feed-of-requires : tie.Need-feed-of-requires
-feed-of-requires c κs = search needs
+    unmakeable _ w _ (p .pin-of .ensures) (t .take-back .ensures) (sym (c .before .can-be-made .ensures) ∙ not-true _ (c .if2 .taken))
 
 is-settled-requires : tie.Need-is-settled-requires
 is-settled-requires c κs = search needs
 
 returns-3 : tie.Need-returns-3
 returns-3 c =
-    let f = c .before .before in
-    let m = f .before in
-    let t = m .before .before in
+    let m = c .before .before in
+    let f = m .before .before in
+    let t = f .before in
     let p = t .before .before in
     let w : length (p .before .args .t1) ≡ mostPins = omega arith in
-    unsettled _ w _ (p .pin-of .ensures) (t .take-back .ensures) (sym (m .before .can-make .ensures) ∙ not-false _ (m .if2 .left))
+    unsettled _ w _ (p .pin-of .ensures) (t .take-back .ensures) (sym (m .before .can-be-made .ensures) ∙ not-false _ (m .if2 .left))
     (ap (λ (feed : List Spot). settled feed (p .pin-of .result)) (sym (f .feed-of .ensures)) ∙ sym (c .before .is-settled .ensures) ∙ not-true _ (c .if3 .taken))
 
 make-requires : tie.Need-make-requires
@@ -70,12 +70,12 @@ same-pin-requires c κs = search needs
 returns-4 : tie.Need-returns-4
 returns-4 c =
     let s = c .before .before .before .before in
-    let f = s .before .before in
-    let m = f .before in
-    let t = m .before .before in
+    let m = s .before .before in
+    let f = m .before .before in
+    let t = f .before in
     let p = t .before .before in
     let w : length (p .before .args .t1) ≡ mostPins = omega arith in
-    remade _ w _ (p .pin-of .ensures) (t .take-back .ensures) (sym (m .before .can-make .ensures) ∙ not-false _ (m .if2 .left))
+    remade _ w _ (p .pin-of .ensures) (t .take-back .ensures) (sym (m .before .can-be-made .ensures) ∙ not-false _ (m .if2 .left))
     (ap (λ (feed : List Spot). settled feed (p .pin-of .result)) (sym (f .feed-of .ensures)) ∙ sym (s .before .is-settled .ensures) ∙ not-false _ (s .if3 .left))
     (omega arith) _ (c .before .before .before .make .ensures) (c .same-pin .ensures)
 
@@ -86,9 +86,9 @@ can-take-back-spec =
     pin-of-requires
     returns
     take-back-requires
-    can-make-requires
-    returns-2
     feed-of-requires
+    can-be-made-requires
+    returns-2
     is-settled-requires
     returns-3
     make-requires

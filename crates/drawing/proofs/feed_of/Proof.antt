@@ -4,16 +4,17 @@ use mathlib.Core.Path.{_≡_, refl}
 use Prim.Native.Nat.{_≤_, _<_, _-_}
 use native.Mathlib.Omega.{arith}
 use lib.ListN.{length, take, length-set}
+use Rattle.feed.specs.Feeds.{mostPins}
 use Rattle.drawing.specs.Pins.{feedOf}
 use Rattle.drawing.proofs.Loops.{feed-next, feed-end}
 use Rattle.drawing.proofs.feed_of.Statement.{statement}
 use Rattle.drawing.proofs.feed_of.Tie as tie
 
 abbrev Inv-loop : tie.InvT-loop
-Inv-loop pins spots₀ i₀ spots i = (i ≤ 32) × (length spots ≡ 32) × (take i spots ≡ take i (feedOf pins))
+Inv-loop pins spots₀ i₀ spots i = (i ≤ mostPins) × (length spots ≡ mostPins) × (take i spots ≡ take i (feedOf pins))
 
 abbrev μ-loop : tie.MeasureT-loop
-μ-loop pins spots₀ i₀ spots i = 32 - i
+μ-loop pins spots₀ i₀ spots i = mostPins - i
 
 loop-holds : tie.Need-loop-holds Inv-loop μ-loop
 loop-holds c = (omega arith, refl, refl)
@@ -41,8 +42,9 @@ loop-less c = omega arith
 
 loop-again : tie.Need-loop-again Inv-loop μ-loop
 loop-again c =
-    let h : c .before .before .before .loop .i < length (c .before .before .before .before .args .t1) = omega arith in
-    (omega arith, rw length-set (omega arith), rw (c .spot-of .ensures) (feed-next _ _ h _ (omega arith) (c .before .before .before .loop .inv .2)))
+    let l = c .before .before .before in
+    let h : l .loop .i < length (l .before .args .t1) = omega arith in
+    (omega arith, rw length-set (omega arith), rw (c .spot-of .ensures) (feed-next _ _ h _ (omega arith) (l .loop .inv .2)))
 
 returns : tie.Need-returns Inv-loop μ-loop
 returns c =

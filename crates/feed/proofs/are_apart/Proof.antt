@@ -24,16 +24,16 @@ mul-spot c = search needs
 array-copy-out-spot : tie.Need-array-copy-out-spot Inv-loop μ-loop
 array-copy-out-spot c = search needs
 
-add-meets-any : tie.Need-add-meets-any Inv-loop μ-loop
-add-meets-any c = search needs
+add-too-near-any : tie.Need-add-too-near-any Inv-loop μ-loop
+add-too-near-any c = search needs
 
-meets-any-requires : tie.Need-meets-any-requires Inv-loop μ-loop
-meets-any-requires c κs = search needs
+too-near-any-requires : tie.Need-too-near-any-requires Inv-loop μ-loop
+too-near-any-requires c κs = search needs
 
 returns : tie.Need-returns Inv-loop μ-loop
 returns c =
     let h = c .before .before .before .before in
-    sym (apart-stop (h .before .args .t1) (h .loop .pin) (omega arith) (c .before .meets-any .ensures) (c .if1 .taken)) ∙ h .loop .inv .1
+    sym (apart-stop (h .before .args .t1) (h .loop .pin) (omega arith) (c .before .too-near-any .ensures) (c .if1 .taken)) ∙ h .loop .inv .1
 
 add-pin : tie.Need-add-pin Inv-loop μ-loop
 add-pin c = search needs
@@ -44,7 +44,7 @@ loop-less c = search needs
 loop-again : tie.Need-loop-again Inv-loop μ-loop
 loop-again c =
     let h = c .before .before .before .before in
-    (search needs, sym (apart-next (h .before .args .t1) (h .loop .pin) (omega arith) (c .before .meets-any .ensures) (c .if1 .left)) ∙ h .loop .inv .1)
+    (search needs, sym (apart-next (h .before .args .t1) (h .loop .pin) (omega arith) (c .before .too-near-any .ensures) (c .if1 .left)) ∙ h .loop .inv .1)
 
 returns-2 : tie.Need-returns-2 Inv-loop μ-loop
 returns-2 c =
@@ -60,8 +60,8 @@ are-apart-spec =
     loop-holds
     mul-spot
     array-copy-out-spot
-    add-meets-any
-    meets-any-requires
+    add-too-near-any
+    too-near-any-requires
     returns
     add-pin
     loop-less

@@ -4,12 +4,12 @@ use Rattle.feed.specs.Feeds.{crowded}
 use Rattle.feed.proofs.is_crowded.Statement.{statement}
 use Rattle.feed.proofs.is_crowded.Tie as tie
 
-meets-other-requires : tie.Need-meets-other-requires
-meets-other-requires c κs = search needs
+too-near-other-requires : tie.Need-too-near-other-requires
+too-near-other-requires c κs = search needs
 
 returns : tie.Need-returns
 unfolding crowded
-returns c = c .meets-other .ensures
+returns c = c .too-near-other .ensures
 
 pub is-crowded-spec : {M : Type 1} → statement M
-is-crowded-spec = tie.close (tie.spec meets-other-requires returns)
+is-crowded-spec = tie.close (tie.spec too-near-other-requires returns)

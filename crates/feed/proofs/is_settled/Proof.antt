@@ -21,12 +21,12 @@ returns : tie.Need-returns
 unfolding settled
 returns c = sym (both-no _ (sym (c .before .is-within .ensures) ∙ not-true _ (c .if1 .taken)))
 
-meets-other-requires : tie.Need-meets-other-requires
-meets-other-requires c κs = search needs
+too-near-other-requires : tie.Need-too-near-other-requires
+too-near-other-requires c κs = search needs
 
 returns-2 : tie.Need-returns-2
 unfolding settled
-returns-2 c = ap not (c .meets-other .ensures) ∙ sym (both-yes _ (sym (c .before .before .is-within .ensures) ∙ not-false _ (c .before .if1 .left)))
+returns-2 c = ap not (c .too-near-other .ensures) ∙ sym (both-yes _ (sym (c .before .before .is-within .ensures) ∙ not-false _ (c .before .if1 .left)))
 
 pub is-settled-spec : {M : Type 1} → statement M
 is-settled-spec =
@@ -36,5 +36,5 @@ is-settled-spec =
     array-copy-out-spot
     is-within-requires
     returns
-    meets-other-requires
+    too-near-other-requires
     returns-2)

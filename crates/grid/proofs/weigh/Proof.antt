@@ -2,14 +2,16 @@
 use borrow.Author.Needs.{needs}
 use mathlib.Core.Path.{_≡_, ap, ap₂, _∙_}
 use mathlib.Core.Bool.{true}
-use lib.IntN.{ℤ, pos, negℤ, _+ℤ_}
+use Prim.Native.Nat.{ℕ, _+_}
+use lib.IntN.{pos, negℤ}
 use mir.Syntax.{w32}
 use mir.Val.{SFits}
+use mir.Facts.{toZ-ofZ}
 use Rattle.refusal.proofs.Tests.{both-left, both-right}
 use Rattle.grid.specs.declared.Place.{Place}
 use Rattle.grid.specs.Place.{inside, onBoard, difference, larger}
 use Rattle.grid.specs.Weight.{weightOf, distanceOf}
-use Rattle.grid.proofs.Signed.{Small, I32, rd, held, sum-fits, minus-fits, small-fits, sum-rd, minus-rd}
+use Rattle.grid.proofs.Signed.{Small, I32, rd, held, sum-fits, minus-fits, small-mag, small-fits, minus-rd}
 use Rattle.grid.proofs.Board.{difference-small, larger-small}
 use Rattle.grid.proofs.weigh.Statement.{statement}
 use Rattle.grid.proofs.weigh.Tie as tie
@@ -26,10 +28,6 @@ unfolding inside
 hold a p q e =
     record { x = record { sfits = p }; y = record { sfits = q }; on-x = both-left _ _ e; on-y = both-right (onBoard (a .x)) _ e }
 
--- What the callee asks of two numbers that are read.
-asked : {a b : ℤ} → SFits w32 a → SFits w32 b → onBoard a ≡ true → onBoard b ≡ true → (onBoard (rd a) ≡ true) × (onBoard (rd b) ≡ true)
-asked {a} {b} fa fb p q = (rw (held a (fa .sfits)) p, rw (held b (fb .sfits)) q)
-
 one : (c : tie.Start) → I32 (c .args .a .x) → I32 (c .args .a .y) → Held (c .args .a)
 one c p q = hold (c .args .a) p q (c .pre .0)
 
@@ -37,21 +35,10 @@ two : (c : tie.Start) → I32 (c .args .b .x) → I32 (c .args .b .y) → Held (
 two c p q = hold (c .args .b) p q (c .pre .1)
 
 apart-requires : tie.Need-apart-requires
-apart-requires c κs =
-    let g = c .before .struct-told .given in
-    let h = c .struct-told2 .given in
-    let a = one (c .before .before) (g .0 .1) (g .1 .0 .1) in
-    let b = two (c .before .before) (h .0 .1) (h .1 .0 .1) in
-    asked (a .x) (b .x) (a .on-x) (b .on-x)
+apart-requires c κs = search needs
 
 apart-requires-2 : tie.Need-apart-requires-2
-apart-requires-2 c κs =
-    let g = c .before .struct-told3 .given in
-    let h = c .struct-told4 .given in
-    let s = c .before .before .before .before .before in
-    let a = one s (g .0 .1) (g .1 .0 .1) in
-    let b = two s (h .0 .1) (h .1 .0 .1) in
-    asked (a .y) (b .y) (a .on-y) (b .on-y)
+apart-requires-2 c κs = search needs
 
 larger-of-requires : tie.Need-larger-of-requires
 larger-of-requires c κs = search needs
@@ -68,11 +55,11 @@ unfolding start
 other c = let h = c .before .struct-told6 .given in two (start c) (h .0 .1) (h .1 .0 .1)
 
 -- What the three calls gave.
-dx : (c : tie.After-larger-of) → c .before .before .before .before .before .before .apart .result ≡ pos (difference (start c .args .a .x) (start c .args .b .x))
+dx : (c : tie.After-larger-of) → c .before .before .before .before .before .before .apart .result ≡ difference (start c .args .a .x) (start c .args .b .x)
 unfolding start
 dx c = rw (held _ (first c .x .sfits), held _ (other c .x .sfits)) at (c .before .before .before .before .before .before .apart .ensures)
 
-dy : (c : tie.After-larger-of) → c .before .before .before .apart2 .result ≡ pos (difference (start c .args .a .y) (start c .args .b .y))
+dy : (c : tie.After-larger-of) → c .before .before .before .apart2 .result ≡ difference (start c .args .a .y) (start c .args .b .y)
 unfolding start
 dy c = rw (held _ (first c .y .sfits), held _ (other c .y .sfits)) at (c .before .before .before .apart2 .ensures)
 
@@ -80,36 +67,44 @@ right : (c : tie.After-larger-of) → c .larger-of .result ≡ larger (start c .
 unfolding start
 right c = rw (held _ (first c .x .sfits), held _ (other c .x .sfits)) at (c .larger-of .ensures)
 
-dx-small : (c : tie.After-larger-of) → Small (c .before .before .before .before .before .before .apart .result)
+dx-small : (c : tie.After-larger-of) → Small (pos (c .before .before .before .before .before .before .apart .result))
 dx-small c = rw (dx c) (difference-small (first c .x) (other c .x) (first c .on-x) (other c .on-x))
 
-dy-small : (c : tie.After-larger-of) → Small (c .before .before .before .apart2 .result)
+dy-small : (c : tie.After-larger-of) → Small (pos (c .before .before .before .apart2 .result))
 dy-small c = rw (dy c) (difference-small (first c .y) (other c .y) (first c .on-y) (other c .on-y))
 
 right-small : (c : tie.After-larger-of) → Small (c .larger-of .result)
 right-small c = rw (right c) (larger-small (first c .x) (other c .x) (first c .on-x) (other c .on-x))
 
 add-t6 : tie.Need-add-t6
-add-t6 c = search (needs, sum-fits, dx-small c, dy-small c)
+add-t6 c = search (needs, small-mag _ (dx-small c), small-mag _ (dy-small c))
 
-sub-t7 : tie.Need-sub-t7
-sub-t7 c = search (needs, minus-fits, dy-small c)
+cast-t7 : tie.Need-cast-t7
+cast-t7 c = search (needs, small-mag _ (dx-small c), small-mag _ (dy-small c))
 
-sub-t8 : tie.Need-sub-t8
-sub-t8 c = search (needs, minus-fits, right-small c)
+cast-t8 : tie.Need-cast-t8
+cast-t8 c = search (needs, small-fits, dy-small c)
+
+sub-t9 : tie.Need-sub-t9
+sub-t9 c = rw (toZ-ofZ (small-fits _ (dy-small c))) (minus-fits _ (dy-small c))
+
+sub-t10 : tie.Need-sub-t10
+sub-t10 c = search (needs, minus-fits, right-small c)
 
 returns : tie.Need-returns
 unfolding weightOf distanceOf start
 returns c =
-    let fx : SFits w32 (c .before .before .before .before .before .before .apart .result) = small-fits _ (dx-small c) in
-    let fy : SFits w32 (c .before .before .before .apart2 .result) = small-fits _ (dy-small c) in
+    let n : ℕ = c .before .before .before .before .before .before .apart .result in
+    let m : ℕ = c .before .before .before .apart2 .result in
+    let fs : SFits w32 (pos (n + m)) = sum-fits (pos n) (pos m) (dx-small c) (dy-small c) in
+    let fy : SFits w32 (pos m) = small-fits _ (dy-small c) in
     let fr : SFits w32 (c .larger-of .result) = small-fits _ (right-small c) in
-    let e = sum-rd fx fy (dx-small c) (dy-small c) ∙ ap₂ _+ℤ_ (dx c) (dy c) in
-    let f = minus-rd fy (dy-small c) ∙ ap negℤ (dy c) in
+    let e : rd (pos (n + m)) ≡ pos (distanceOf (start c .args .a) (start c .args .b)) = toZ-ofZ fs ∙ ap pos (ap₂ _+_ (dx c) (dy c)) in
+    let f = minus-rd fy (dy-small c) ∙ ap (λ (k : ℕ). negℤ (pos k)) (dy c) in
     let g = minus-rd fr (right-small c) ∙ ap negℤ (right c) in
     rw (e, f, g)
 
 pub weigh-spec : {M : Type 1} → statement M
 weigh-spec =
     tie.close
-    (tie.spec apart-requires apart-requires-2 larger-of-requires add-t6 sub-t7 sub-t8 returns)
+    (tie.spec apart-requires apart-requires-2 larger-of-requires add-t6 cast-t7 cast-t8 sub-t9 sub-t10 returns)

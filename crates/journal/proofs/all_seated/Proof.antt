@@ -32,17 +32,19 @@ loop-less c = omega arith
 
 loop-again : tie.Need-loop-again Inv-loop μ-loop
 loop-again c =
-    let a = c .before .before .before .before .before .args in
-    let o = c .before .before .before .before .loop in
+    let t = c .before .before .before in
+    let o = t .before .loop in
+    let a = t .before .before .args in
     let f : a .used ≤ length (a .t1) = omega arith in
-    (omega arith, o .inv .1 ∙ rw (next (a .t1) (a .used) (o .i) f (c .before .before .before .loop-test .taken)) (seated-yes _ _ (c .if1 .taken)))
+    (omega arith, o .inv .1 ∙ rw (next (a .t1) (a .used) (o .i) f (t .loop-test .taken)) (seated-yes _ _ (c .if1 .taken)))
 
 returns : tie.Need-returns Inv-loop μ-loop
 returns c =
-    let a = c .before .before .before .before .before .args in
-    let o = c .before .before .before .before .loop in
+    let t = c .before .before .before in
+    let o = t .before .loop in
+    let a = t .before .before .args in
     let f : a .used ≤ length (a .t1) = omega arith in
-    sym (o .inv .1 ∙ rw (next (a .t1) (a .used) (o .i) f (c .before .before .before .loop-test .taken)) (seated-no _ _ (c .if1 .left)))
+    sym (o .inv .1 ∙ rw (next (a .t1) (a .used) (o .i) f (t .loop-test .taken)) (seated-no _ _ (c .if1 .left)))
 
 returns-2 : tie.Need-returns-2 Inv-loop μ-loop
 returns-2 c =

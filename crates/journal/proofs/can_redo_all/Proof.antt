@@ -5,7 +5,7 @@ use native.Mathlib.Omega.{arith}
 use borrow.Author.Needs.{needs}
 use lib.ListN.{length, take, drop}
 use Rattle.drawing.specs.Edits.{makeable, made}
-use Rattle.journal.specs.Journal.{own, replayable}
+use Rattle.journal.specs.Journal.{own, makeableAll}
 use Rattle.journal.proofs.Passing.{next-own, next-other, own-left}
 use Rattle.journal.proofs.Turns.{pass-skip, pass-step, pass-stop, pass-end}
 use Rattle.drawing.proofs.Making.{makeable-number}
@@ -13,7 +13,9 @@ use Rattle.journal.proofs.can_redo_all.Statement.{statement}
 use Rattle.journal.proofs.can_redo_all.Tie as tie
 
 abbrev Inv-loop : tie.InvT-loop
-Inv-loop used seat standing journal q₀ skip₀ i₀ q skip i = (i ≤ used) × (replayable q₀ (drop skip₀ (own seat (take used journal))) ≡ replayable q (drop skip (own seat (drop i (take used journal)))))
+Inv-loop used seat standing journal q₀ skip₀ i₀ q skip i =
+    (i ≤ used)
+    × (makeableAll q₀ (drop skip₀ (own seat (take used journal))) ≡ makeableAll q (drop skip (own seat (drop i (take used journal)))))
 
 abbrev μ-loop : tie.MeasureT-loop
 μ-loop used seat standing journal q₀ skip₀ i₀ q skip i = used - i
@@ -38,10 +40,12 @@ loop-less c = omega arith
 
 loop-again : tie.Need-loop-again Inv-loop μ-loop
 loop-again c =
-    let a = c .before .before .before .before .before .before .args in
-    let o = c .before .before .before .before .before .loop in
+    let t = c .before .before .before .before in
+    let o = t .before .loop in
+    let a = t .before .before .args in
     let f : a .used ≤ length (a .t2) = omega arith in
-    (omega arith, o .inv .1 ∙ pass-skip makeable made (o .q) (o .skip) (next-own (a .t2) (a .used) (o .i) f (a .seat) (c .before .before .before .before .loop-test .taken) (c .before .if1 .taken)) (c .if2 .taken))
+    let n = next-own (a .t2) (a .used) (o .i) f (a .seat) (t .loop-test .taken) (c .before .if1 .taken) in
+    (omega arith, o .inv .1 ∙ pass-skip makeable made (o .q) (o .skip) n (c .if2 .taken))
 
 can-make-requires : tie.Need-can-make-requires Inv-loop μ-loop
 can-make-requires c κs = search needs
@@ -54,19 +58,26 @@ loop-less-2 c = omega arith
 
 loop-again-2 : tie.Need-loop-again-2 Inv-loop μ-loop
 loop-again-2 c =
-    let a = c .before .before .before .before .before .before .before .before .before .args in
-    let o = c .before .before .before .before .before .before .before .before .loop in
-    let f : a .used ≤ length (a .t2) = omega arith in (
+    let s = c .before .before .before in
+    let t = s .before .before .before .before in
+    let o = t .before .loop in
+    let a = t .before .before .args in
+    let f : a .used ≤ length (a .t2) = omega arith in
+    let n = next-own (a .t2) (a .used) (o .i) f (a .seat) (t .loop-test .taken) (s .before .if1 .taken) in (
       omega arith,
-      o .inv .1 ∙ pass-step makeable made (o .q) (o .skip) (next-own (a .t2) (a .used) (o .i) f (a .seat) (c .before .before .before .before .before .before .before .loop-test .taken) (c .before .before .before .before .if1 .taken)) (c .before .before .before .if2 .left) (c .before .before .can-make .ensures) (c .before .if3 .taken) (c .make .ensures),
+      o .inv .1
+          ∙ pass-step makeable made (o .q) (o .skip) n (s .if2 .left) (c .before .before .can-make .ensures) (c .before .if3 .taken) (c .make .ensures),
     )
 
 returns : tie.Need-returns Inv-loop μ-loop
 returns c =
-    let a = c .before .before .before .before .before .before .before .before .args in
-    let o = c .before .before .before .before .before .before .before .loop in
+    let s = c .before .before in
+    let t = s .before .before .before .before in
+    let o = t .before .loop in
+    let a = t .before .before .args in
     let f : a .used ≤ length (a .t2) = omega arith in
-    sym (o .inv .1 ∙ pass-stop makeable made (o .q) (o .skip) (next-own (a .t2) (a .used) (o .i) f (a .seat) (c .before .before .before .before .before .before .loop-test .taken) (c .before .before .before .if1 .taken)) (c .before .before .if2 .left) (c .before .can-make .ensures) (c .if3 .left))
+    let n = next-own (a .t2) (a .used) (o .i) f (a .seat) (t .loop-test .taken) (s .before .if1 .taken) in
+    sym (o .inv .1 ∙ pass-stop makeable made (o .q) (o .skip) n (s .if2 .left) (c .before .can-make .ensures) (c .if3 .left))
 
 loop-less-3 : tie.Need-loop-less-3 Inv-loop μ-loop
 loop-less-3 c = omega arith

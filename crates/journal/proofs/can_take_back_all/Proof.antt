@@ -15,7 +15,9 @@ use Rattle.journal.proofs.can_take_back_all.Statement.{statement}
 use Rattle.journal.proofs.can_take_back_all.Tie as tie
 
 abbrev Inv-loop : tie.InvT-loop
-Inv-loop used seat owned standing journal q₀ later₀ i₀ q later i = (i ≤ used) × (takeableAll q₀ (reverse (take standing (own seat (take used journal)))) ≡ takeableAll q (drop later (reverse (own seat (take i journal)))))
+Inv-loop used seat owned standing journal q₀ later₀ i₀ q later i =
+    (i ≤ used)
+    × (takeableAll q₀ (reverse (take standing (own seat (take used journal)))) ≡ takeableAll q (drop later (reverse (own seat (take i journal)))))
 
 abbrev μ-loop : tie.MeasureT-loop
 μ-loop used seat owned standing journal q₀ later₀ i₀ q later i = i
@@ -43,10 +45,12 @@ loop-less c = omega arith
 
 loop-again : tie.Need-loop-again Inv-loop μ-loop
 loop-again c =
-    let a = c .before .before .before .before .before .before .args in
-    let o = c .before .before .before .before .before .loop in
+    let t = c .before .before .before .before in
+    let o = t .before .loop in
+    let a = t .before .before .args in
     let f : o .i ≤ length (a .t2) = omega arith in
-    (omega arith, o .inv .1 ∙ pass-skip takeable unmade (o .q) (o .later) (back-own (a .t2) (a .seat) (o .i) (c .before .before .before .before .loop-test .taken) f (c .before .if1 .taken)) (c .if2 .taken))
+    let n = back-own (a .t2) (a .seat) (o .i) (t .loop-test .taken) f (c .before .if1 .taken) in
+    (omega arith, o .inv .1 ∙ pass-skip takeable unmade (o .q) (o .later) n (c .if2 .taken))
 
 can-take-back-requires : tie.Need-can-take-back-requires Inv-loop μ-loop
 can-take-back-requires c κs = search needs
@@ -59,19 +63,26 @@ loop-less-2 c = omega arith
 
 loop-again-2 : tie.Need-loop-again-2 Inv-loop μ-loop
 loop-again-2 c =
-    let a = c .before .before .before .before .before .before .before .before .before .args in
-    let o = c .before .before .before .before .before .before .before .before .loop in
-    let f : o .i ≤ length (a .t2) = omega arith in (
+    let s = c .before .before .before in
+    let t = s .before .before .before .before in
+    let o = t .before .loop in
+    let a = t .before .before .args in
+    let f : o .i ≤ length (a .t2) = omega arith in
+    let n = back-own (a .t2) (a .seat) (o .i) (t .loop-test .taken) f (s .before .if1 .taken) in (
       omega arith,
-      o .inv .1 ∙ pass-step takeable unmade (o .q) (o .later) (back-own (a .t2) (a .seat) (o .i) (c .before .before .before .before .before .before .before .loop-test .taken) f (c .before .before .before .before .if1 .taken)) (c .before .before .before .if2 .left) (c .before .before .can-take-back .ensures) (c .before .if3 .taken) (c .take-back .ensures),
+      o .inv .1
+          ∙ pass-step takeable unmade (o .q) (o .later) n (s .if2 .left) (c .before .before .can-take-back .ensures) (c .before .if3 .taken) (c .take-back .ensures),
     )
 
 returns : tie.Need-returns Inv-loop μ-loop
 returns c =
-    let a = c .before .before .before .before .before .before .before .before .args in
-    let o = c .before .before .before .before .before .before .before .loop in
+    let s = c .before .before in
+    let t = s .before .before .before .before in
+    let o = t .before .loop in
+    let a = t .before .before .args in
     let f : o .i ≤ length (a .t2) = omega arith in
-    sym (o .inv .1 ∙ pass-stop takeable unmade (o .q) (o .later) (back-own (a .t2) (a .seat) (o .i) (c .before .before .before .before .before .before .loop-test .taken) f (c .before .before .before .if1 .taken)) (c .before .before .if2 .left) (c .before .can-take-back .ensures) (c .if3 .left))
+    let n = back-own (a .t2) (a .seat) (o .i) (t .loop-test .taken) f (s .before .if1 .taken) in
+    sym (o .inv .1 ∙ pass-stop takeable unmade (o .q) (o .later) n (s .if2 .left) (c .before .can-take-back .ensures) (c .if3 .left))
 
 loop-less-3 : tie.Need-loop-less-3 Inv-loop μ-loop
 loop-less-3 c = omega arith

@@ -3,6 +3,7 @@ use Prim.Native.Nat.{_-_, _<_, _≤_}
 use native.Mathlib.Omega.{arith}
 use borrow.Author.Needs.{needs}
 use lib.ListN.{length, take}
+use Rattle.journal.specs.Journal.{mostRecords}
 use Rattle.journal.proofs.Dropping.{Dropping, drop-start, drop-keep, drop-past, drop-other, drop-end}
 use Rattle.journal.proofs.compact.Statement.{statement}
 use Rattle.journal.proofs.compact.Tie as tie
@@ -45,13 +46,14 @@ loop-less c = omega arith
 
 loop-again : tie.Need-loop-again Inv-loop μ-loop
 loop-again c =
-    let a = c .before .before .before .before .before .before .before .args in
-    let o = c .before .before .before .before .before .loop in
+    let t = c .before .before .before .before in
+    let o = t .before .loop in
+    let a = t .before .before .before .args in
     let f : a .used ≤ length (a .t1) = omega arith in
-    let w : o .written < 256 = omega arith in (
+    let w : o .written < mostRecords = omega arith in (
       omega arith,
       omega arith,
-      drop-keep (a .t1) (a .used) (a .seat) (a .keep) (o .i) (o .out) (o .written) (o .left) f (c .before .before .before .before .loop-test .taken) (o .inv .2) w (c .before .if1 .taken) (c .if2 .taken),
+      drop-keep (a .t1) (a .used) (a .seat) (a .keep) (o .i) (o .out) (o .written) (o .left) f (t .loop-test .taken) (o .inv .2) w (c .before .if1 .taken) (c .if2 .taken),
     )
 
 loop-less-2 : tie.Need-loop-less-2 Inv-loop μ-loop
@@ -59,12 +61,13 @@ loop-less-2 c = omega arith
 
 loop-again-2 : tie.Need-loop-again-2 Inv-loop μ-loop
 loop-again-2 c =
-    let a = c .before .before .before .before .before .before .before .args in
-    let o = c .before .before .before .before .before .loop in
+    let t = c .before .before .before .before in
+    let o = t .before .loop in
+    let a = t .before .before .before .args in
     let f : a .used ≤ length (a .t1) = omega arith in (
       omega arith,
       omega arith,
-      drop-past (a .t1) (a .used) (a .seat) (a .keep) (o .i) (o .out) (o .written) (o .left) f (c .before .before .before .before .loop-test .taken) (o .inv .2) (c .before .if1 .taken) (c .if2 .left),
+      drop-past (a .t1) (a .used) (a .seat) (a .keep) (o .i) (o .out) (o .written) (o .left) f (t .loop-test .taken) (o .inv .2) (c .before .if1 .taken) (c .if2 .left),
     )
 
 mul-out-2 : tie.Need-mul-out-2 Inv-loop μ-loop
@@ -81,13 +84,14 @@ loop-less-3 c = omega arith
 
 loop-again-3 : tie.Need-loop-again-3 Inv-loop μ-loop
 loop-again-3 c =
-    let a = c .before .before .before .before .before .before .args in
-    let o = c .before .before .before .before .loop in
+    let t = c .before .before .before in
+    let o = t .before .loop in
+    let a = t .before .before .before .args in
     let f : a .used ≤ length (a .t1) = omega arith in
-    let w : o .written < 256 = omega arith in (
+    let w : o .written < mostRecords = omega arith in (
       omega arith,
       omega arith,
-      drop-other (a .t1) (a .used) (a .seat) (a .keep) (o .i) (o .out) (o .written) (o .left) f (c .before .before .before .loop-test .taken) (o .inv .2) w (c .if1 .left),
+      drop-other (a .t1) (a .used) (a .seat) (a .keep) (o .i) (o .out) (o .written) (o .left) f (t .loop-test .taken) (o .inv .2) w (c .if1 .left),
     )
 
 returns : tie.Need-returns Inv-loop μ-loop

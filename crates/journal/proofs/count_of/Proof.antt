@@ -9,7 +9,8 @@ use Rattle.journal.proofs.count_of.Statement.{statement}
 use Rattle.journal.proofs.count_of.Tie as tie
 
 abbrev Inv-loop : tie.InvT-loop
-Inv-loop used seat journal count₀ i₀ count i = (i ≤ used) × (count ≤ i) × (count + length (own seat (drop i (take used journal))) ≡ length (own seat (take used journal)))
+Inv-loop used seat journal count₀ i₀ count i =
+    (i ≤ used) × (count ≤ i) × (count + length (own seat (drop i (take used journal))) ≡ length (own seat (take used journal)))
 
 abbrev μ-loop : tie.MeasureT-loop
 μ-loop used seat journal count₀ i₀ count i = used - i
@@ -34,26 +35,24 @@ loop-less c = omega arith
 
 loop-again : tie.Need-loop-again Inv-loop μ-loop
 loop-again c =
-    let a = c .before .before .before .before .before .args in
-    let o = c .before .before .before .before .loop in
-    let f : a .used ≤ length (a .t1) = omega arith in (
-      omega arith,
-      omega arith,
-      omega (arith, o .inv .2, ap length (next-own (a .t1) (a .used) (o .i) f (a .seat) (c .before .before .before .loop-test .taken) (c .if1 .taken))),
-    )
+    let t = c .before .before .before in
+    let o = t .before .loop in
+    let a = t .before .before .args in
+    let f : a .used ≤ length (a .t1) = omega arith in
+    let n = next-own (a .t1) (a .used) (o .i) f (a .seat) (t .loop-test .taken) (c .if1 .taken) in
+    (omega arith, omega arith, omega (arith, o .inv .2, ap length n))
 
 loop-less-2 : tie.Need-loop-less-2 Inv-loop μ-loop
 loop-less-2 c = omega arith
 
 loop-again-2 : tie.Need-loop-again-2 Inv-loop μ-loop
 loop-again-2 c =
-    let a = c .before .before .before .before .before .args in
-    let o = c .before .before .before .before .loop in
-    let f : a .used ≤ length (a .t1) = omega arith in (
-      omega arith,
-      omega arith,
-      omega (arith, o .inv .2, ap length (next-other (a .t1) (a .used) (o .i) f (a .seat) (c .before .before .before .loop-test .taken) (c .if1 .left))),
-    )
+    let t = c .before .before .before in
+    let o = t .before .loop in
+    let a = t .before .before .args in
+    let f : a .used ≤ length (a .t1) = omega arith in
+    let n = next-other (a .t1) (a .used) (o .i) f (a .seat) (t .loop-test .taken) (c .if1 .left) in
+    (omega arith, omega arith, omega (arith, o .inv .2, ap length n))
 
 returns : tie.Need-returns Inv-loop μ-loop
 returns c =

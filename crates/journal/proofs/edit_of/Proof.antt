@@ -13,7 +13,9 @@ use Rattle.journal.proofs.edit_of.Statement.{statement}
 use Rattle.journal.proofs.edit_of.Tie as tie
 
 abbrev Inv-loop : tie.InvT-loop
-Inv-loop used seat later journal left₀ i₀ left i = (i ≤ used) × (getD (reverse (own seat (take used journal))) later noEdit ≡ getD (reverse (own seat (take i journal))) left noEdit)
+Inv-loop used seat later journal left₀ i₀ left i =
+    (i ≤ used)
+    × (getD (reverse (own seat (take used journal))) later noEdit ≡ getD (reverse (own seat (take i journal))) left noEdit)
 
 abbrev μ-loop : tie.MeasureT-loop
 μ-loop used seat later journal left₀ i₀ left i = i
@@ -32,10 +34,11 @@ array-copy-out-sought c = omega arith
 
 returns : tie.Need-returns Inv-loop μ-loop
 returns c =
-    let a = c .before .before .before .before .before .before .args in
-    let o = c .before .before .before .before .before .loop in
+    let t = c .before .before .before .before in
+    let o = t .before .loop in
+    let a = t .before .before .args in
     let f : o .i ≤ length (a .t1) = omega arith in
-    sym (o .inv .1 ∙ rw (back-own (a .t1) (a .seat) (o .i) (c .before .before .before .before .loop-test .taken) f (c .before .if1 .taken), c .if2 .taken))
+    sym (o .inv .1 ∙ rw (back-own (a .t1) (a .seat) (o .i) (t .loop-test .taken) f (c .before .if1 .taken), c .if2 .taken))
 
 sub-left : tie.Need-sub-left Inv-loop μ-loop
 sub-left c = omega arith
@@ -45,21 +48,27 @@ loop-less c = omega arith
 
 loop-again : tie.Need-loop-again Inv-loop μ-loop
 loop-again c =
-    let a = c .before .before .before .before .before .before .args in
-    let o = c .before .before .before .before .before .loop in
+    let t = c .before .before .before .before in
+    let o = t .before .loop in
+    let a = t .before .before .args in
     let f : o .i ≤ length (a .t1) = omega arith in
-    let h : 0 < o .left = omega arith in
-    (omega arith, o .inv .1 ∙ rw (back-own (a .t1) (a .seat) (o .i) (c .before .before .before .before .loop-test .taken) f (c .before .if1 .taken)) (getD-one (o .left) (getD (a .t1) (o .i - 1) blank .edit) (reverse (own (a .seat) (take (o .i - 1) (a .t1)))) noEdit h))
+    let h : 0 < o .left = omega arith in (
+      omega arith,
+      o .inv .1
+          ∙ rw (back-own (a .t1) (a .seat) (o .i) (t .loop-test .taken) f (c .before .if1 .taken))
+          (getD-one (o .left) (getD (a .t1) (o .i - 1) blank .edit) (reverse (own (a .seat) (take (o .i - 1) (a .t1)))) noEdit h),
+    )
 
 loop-less-2 : tie.Need-loop-less-2 Inv-loop μ-loop
 loop-less-2 c = omega arith
 
 loop-again-2 : tie.Need-loop-again-2 Inv-loop μ-loop
 loop-again-2 c =
-    let a = c .before .before .before .before .before .args in
-    let o = c .before .before .before .before .loop in
+    let t = c .before .before .before in
+    let o = t .before .loop in
+    let a = t .before .before .args in
     let f : o .i ≤ length (a .t1) = omega arith in
-    (omega arith, o .inv .1 ∙ rw (back-other (a .t1) (a .seat) (o .i) (c .before .before .before .loop-test .taken) f (c .if1 .left)))
+    (omega arith, o .inv .1 ∙ rw (back-other (a .t1) (a .seat) (o .i) (t .loop-test .taken) f (c .if1 .left)))
 
 no-edit-requires : tie.Need-no-edit-requires Inv-loop μ-loop
 no-edit-requires c κs = search needs

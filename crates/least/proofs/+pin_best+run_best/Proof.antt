@@ -1,5 +1,6 @@
 -- `least::pin_best` and `least::run_best` meet their contracts: the pin's function asks the runs that lead on from it, a run's the pin at its
--- far end. The measure is twice the number of pins not yet visited, and one more for a run. Assumes nothing.
+-- far end. The measure is twice the number of pins not yet visited, and one more for a run. A need looks back by letters: o is the state at the start, s that of
+-- the loop. Assumes nothing.
 use mathlib.Core.Path.{refl}
 use mathlib.Core.Logic.{⊎-elim}
 use Prim.Native.Nat.{ℕ, _+_, _-_, _*_, _<_}
@@ -64,25 +65,48 @@ pin-best-element-copy-out-if1 : (t : ℕ) → pin-best-lts.Need-element-copy-out
 pin-best-element-copy-out-if1 t c = room _ _ _ _ _ _ _ _ _ _ (c .before .loop .inv) (c .loop-test .taken)
 
 pin-best-run-best-requires : (t : ℕ) → pin-best-lts.Need-run-best-requires (pin-calls t) (pin-best-at t) pin-best.Post pin-best-Inv-loop pin-best-μ-loop
-pin-best-run-best-requires t c κs = (omega (arith, c .before .before .before .before .pre .0, c .before .before .loop-test .taken, c .before .before .before .loop .inv .from), asks _ _ _ _ _ _ _ _ _ _ (c .before .before .before .loop .inv) (c .before .before .loop-test .taken) (c .if1 .taken))
+pin-best-run-best-requires t c κs =
+    let k = c .before .before in
+    let s = k .before in
+    let o = s .before in
+    (omega (arith, o .pre .0, k .loop-test .taken, s .loop .inv .from), asks _ _ _ _ _ _ _ _ _ _ (s .loop .inv) (k .loop-test .taken) (c .if1 .taken))
 
 pin-best-mul-lower : (t : ℕ) → pin-best-lts.Need-mul-lower (pin-calls t) (pin-best-at t) pin-best.Post pin-best-Inv-loop pin-best-μ-loop
-pin-best-mul-lower t c = record { fits = omega (arith, room _ _ _ _ _ _ _ _ _ _ (c .before .before .before .before .loop .inv) (c .before .before .before .loop-test .taken)) }
+pin-best-mul-lower t c =
+    let k = c .before .before .before in
+    let s = k .before in
+    record { fits = omega (arith, room _ _ _ _ _ _ _ _ _ _ (s .loop .inv) (k .loop-test .taken)) }
 
 pin-best-array-write-lower : (t : ℕ) → pin-best-lts.Need-array-write-lower (pin-calls t) (pin-best-at t) pin-best.Post pin-best-Inv-loop pin-best-μ-loop
-pin-best-array-write-lower t c = room _ _ _ _ _ _ _ _ _ _ (c .before .before .before .before .loop .inv) (c .before .before .before .loop-test .taken)
+pin-best-array-write-lower t c =
+    let k = c .before .before .before in
+    let s = k .before in
+    room _ _ _ _ _ _ _ _ _ _ (s .loop .inv) (k .loop-test .taken)
 
 pin-best-mul-upper : (t : ℕ) → pin-best-lts.Need-mul-upper (pin-calls t) (pin-best-at t) pin-best.Post pin-best-Inv-loop pin-best-μ-loop
-pin-best-mul-upper t c = record { fits = omega (arith, room _ _ _ _ _ _ _ _ _ _ (c .before .before .before .before .loop .inv) (c .before .before .before .loop-test .taken)) }
+pin-best-mul-upper t c =
+    let k = c .before .before .before in
+    let s = k .before in
+    record { fits = omega (arith, room _ _ _ _ _ _ _ _ _ _ (s .loop .inv) (k .loop-test .taken)) }
 
 pin-best-array-write-upper : (t : ℕ) → pin-best-lts.Need-array-write-upper (pin-calls t) (pin-best-at t) pin-best.Post pin-best-Inv-loop pin-best-μ-loop
-pin-best-array-write-upper t c = room _ _ _ _ _ _ _ _ _ _ (c .before .before .before .before .loop .inv) (c .before .before .before .loop-test .taken)
+pin-best-array-write-upper t c =
+    let k = c .before .before .before in
+    let s = k .before in
+    room _ _ _ _ _ _ _ _ _ _ (s .loop .inv) (k .loop-test .taken)
 
 pin-best-add-weighed : (t : ℕ) → pin-best-lts.Need-add-weighed (pin-calls t) (pin-best-at t) pin-best.Post pin-best-Inv-loop pin-best-μ-loop
-pin-best-add-weighed t c = record { fits = adds _ _ _ _ _ _ _ _ _ _ (c .before .before .before .before .before .loop .inv) (c .before .before .before .before .loop-test .taken) (c .before .before .if1 .taken) _ (c .before .run-best .ensures) }
+pin-best-add-weighed t c =
+    let a = c .before .before in
+    let k = a .before .before in
+    let s = k .before in
+    record { fits = adds _ _ _ _ _ _ _ _ _ _ (s .loop .inv) (k .loop-test .taken) (a .if1 .taken) _ (c .before .run-best .ensures) }
 
 pin-best-add-run : (t : ℕ) → pin-best-lts.Need-add-run (pin-calls t) (pin-best-at t) pin-best.Post pin-best-Inv-loop pin-best-μ-loop
-pin-best-add-run t c = record { fits = omega (arith, room _ _ _ _ _ _ _ _ _ _ (c .before .before .before .loop .inv) (c .before .before .loop-test .taken)) }
+pin-best-add-run t c =
+    let k = c .before .before in
+    let s = k .before in
+    record { fits = omega (arith, room _ _ _ _ _ _ _ _ _ _ (s .loop .inv) (k .loop-test .taken)) }
 
 pin-best-loop-less : (t : ℕ) → pin-best-lts.Need-loop-less (pin-calls t) (pin-best-at t) pin-best.Post pin-best-Inv-loop pin-best-μ-loop
 pin-best-loop-less t c = omega (arith, c .before .before .loop-test .taken)
@@ -98,31 +122,76 @@ pin-best-first-tally-requires : (t : ℕ) → pin-best-lts.Need-first-tally-requ
 pin-best-first-tally-requires t c κs = pin-in _ _ _ _ _ (c .before .before .pre .1)
 
 pin-best-weigh-requires : (t : ℕ) → pin-best-lts.Need-weigh-requires (pin-calls t) (pin-best-at t) pin-best.Post pin-best-Inv-loop pin-best-μ-loop
-pin-best-weigh-requires t c κs = weighs _ _ _ _ _ _ _ _ _ _ (c .before .before .before .before .loop .inv) (c .before .before .before .loop-test .left) _ _ (c .before .before .first-tally .ensures)
+pin-best-weigh-requires t c κs =
+    let d = c .before .before in
+    let k = d .before in
+    let s = k .before in
+    weighs _ _ _ _ _ _ _ _ _ _ (s .loop .inv) (k .loop-test .left) _ _ (d .first-tally .ensures)
 
 pin-best-is-bent-into-requires : (t : ℕ) → pin-best-lts.Need-is-bent-into-requires (pin-calls t) (pin-best-at t) pin-best.Post pin-best-Inv-loop pin-best-μ-loop
 pin-best-is-bent-into-requires t c κs = pin-in _ _ _ _ _ (c .before .before .before .before .before .before .pre .1)
 
 pin-best-add-t30 : (t : ℕ) → pin-best-lts.Need-add-t30 (pin-calls t) (pin-best-at t) pin-best.Post pin-best-Inv-loop pin-best-μ-loop
-pin-best-add-t30 t c = record { fits = fits-one _ _ _ _ _ _ _ _ _ _ (c .before .before .before .before .before .before .before .before .loop .inv) (c .before .before .before .before .before .before .before .loop-test .left) _ _ (c .before .before .before .before .before .before .first-tally .ensures) (c .before .before .before .weigh .ensures) }
+pin-best-add-t30 t c =
+    let w = c .before .before .before in
+    let d = w .before .before .before in
+    let k = d .before in
+    let s = k .before in
+    record { fits = fits-one _ _ _ _ _ _ _ _ _ _ (s .loop .inv) (k .loop-test .left) _ _ (d .first-tally .ensures) (w .weigh .ensures) }
 
 pin-best-returns : (t : ℕ) → pin-best-lts.Need-returns (pin-calls t) (pin-best-at t) pin-best.Post pin-best-Inv-loop pin-best-μ-loop
-pin-best-returns t c = answer-straight _ _ _ _ _ _ _ _ _ _ (c .before .before .before .before .before .before .before .before .loop .inv) (c .before .before .before .before .before .before .before .loop-test .left) _ _ (c .before .before .before .before .before .before .first-tally .ensures) (c .before .before .before .weigh .ensures) _ (c .before .before .is-bent-into .ensures) (c .before .if2 .taken)
+pin-best-returns t c =
+    let f = c .before .before in
+    let w = f .before in
+    let d = w .before .before .before in
+    let k = d .before in
+    let s = k .before in
+    answer-straight _ _ _ _ _ _ _ _ _ _ (s .loop .inv) (k .loop-test .left) _ _ (d .first-tally .ensures) (w .weigh .ensures)
+    _ (f .is-bent-into .ensures) (c .before .if2 .taken)
 
 pin-best-first-tally-requires-2 : (t : ℕ) → pin-best-lts.Need-first-tally-requires-2 (pin-calls t) (pin-best-at t) pin-best.Post pin-best-Inv-loop pin-best-μ-loop
 pin-best-first-tally-requires-2 t c κs = pin-in _ _ _ _ _ (c .before .before .before .before .before .before .before .before .pre .1)
 
 pin-best-weigh-requires-2 : (t : ℕ) → pin-best-lts.Need-weigh-requires-2 (pin-calls t) (pin-best-at t) pin-best.Post pin-best-Inv-loop pin-best-μ-loop
-pin-best-weigh-requires-2 t c κs = weighs _ _ _ _ _ _ _ _ _ _ (c .before .before .before .before .before .before .before .before .before .before .loop .inv) (c .before .before .before .before .before .before .before .before .before .loop-test .left) _ _ (c .before .before .first-tally2 .ensures)
+pin-best-weigh-requires-2 t c κs =
+    let h = c .before .before in
+    let k = h .before .before .before .before .before .before .before in
+    let s = k .before in
+    weighs _ _ _ _ _ _ _ _ _ _ (s .loop .inv) (k .loop-test .left) _ _ (h .first-tally2 .ensures)
 
 pin-best-add-t33 : (t : ℕ) → pin-best-lts.Need-add-t33 (pin-calls t) (pin-best-at t) pin-best.Post pin-best-Inv-loop pin-best-μ-loop
-pin-best-add-t33 t c = record { fits = fits-one _ _ _ _ _ _ _ _ _ _ (c .before .before .before .before .before .before .before .before .before .before .before .before .loop .inv) (c .before .before .before .before .before .before .before .before .before .before .before .loop-test .left) _ _ (c .before .before .before .before .before .before .before .before .before .before .first-tally .ensures) (c .before .before .before .before .before .before .before .weigh .ensures) }
+pin-best-add-t33 t c =
+    let w = c .before .before .before .before .before .before .before in
+    let d = w .before .before .before in
+    let k = d .before in
+    let s = k .before in
+    record { fits = fits-one _ _ _ _ _ _ _ _ _ _ (s .loop .inv) (k .loop-test .left) _ _ (d .first-tally .ensures) (w .weigh .ensures) }
 
 pin-best-add-t34 : (t : ℕ) → pin-best-lts.Need-add-t34 (pin-calls t) (pin-best-at t) pin-best.Post pin-best-Inv-loop pin-best-μ-loop
-pin-best-add-t34 t c = record { fits = fits-two _ _ _ _ _ _ _ _ _ _ (c .before .before .before .before .before .before .before .before .before .before .before .before .before .loop .inv) (c .before .before .before .before .before .before .before .before .before .before .before .before .loop-test .left) _ _ (c .before .before .before .before .before .before .before .before .before .before .before .first-tally .ensures) (c .before .before .before .before .before .before .before .before .weigh .ensures) _ _ (c .before .before .before .before .before .first-tally2 .ensures) (c .before .before .weigh2 .ensures) }
+pin-best-add-t34 t c =
+    let e = c .before .before in
+    let h = e .before .before .before in
+    let w = h .before .before .before in
+    let d = w .before .before .before in
+    let k = d .before in
+    let s = k .before in
+    record {
+      fits = fits-two _ _ _ _ _ _ _ _ _ _ (s .loop .inv) (k .loop-test .left) _ _ (d .first-tally .ensures) (w .weigh .ensures)
+          _ _ (h .first-tally2 .ensures) (e .weigh2 .ensures);
+    }
 
 pin-best-returns-2 : (t : ℕ) → pin-best-lts.Need-returns-2 (pin-calls t) (pin-best-at t) pin-best.Post pin-best-Inv-loop pin-best-μ-loop
-pin-best-returns-2 t c = answer-bent _ _ _ _ _ _ _ _ _ _ (c .before .before .before .before .before .before .before .before .before .before .before .before .before .loop .inv) (c .before .before .before .before .before .before .before .before .before .before .before .before .loop-test .left) _ _ (c .before .before .before .before .before .before .before .before .before .before .before .first-tally .ensures) (c .before .before .before .before .before .before .before .before .weigh .ensures) _ _ (c .before .before .before .before .before .first-tally2 .ensures) (c .before .before .weigh2 .ensures) _ (c .before .before .before .before .before .before .before .is-bent-into .ensures) (c .before .before .before .before .before .before .if2 .left)
+pin-best-returns-2 t c =
+    let e = c .before .before in
+    let h = e .before .before .before in
+    let b = h .before in
+    let f = b .before in
+    let w = f .before in
+    let d = w .before .before .before in
+    let k = d .before in
+    let s = k .before in
+    answer-bent _ _ _ _ _ _ _ _ _ _ (s .loop .inv) (k .loop-test .left) _ _ (d .first-tally .ensures) (w .weigh .ensures)
+    _ _ (h .first-tally2 .ensures) (e .weigh2 .ensures) _ (f .is-bent-into .ensures) (b .if2 .left)
 
 run-best-add-pin-best : (t : ℕ) → run-best-lts.Need-add-pin-best (run-calls t) (run-best-at t) run-best.Post
 run-best-add-pin-best t c = record { fits = omega (arith, c .pre .1 .upto, c .pre .1 .tree .few) }
@@ -137,13 +206,26 @@ run-best-mark-requires-2 : (t : ℕ) → run-best-lts.Need-mark-requires-2 (run-
 run-best-mark-requires-2 t c κs = omega (arith, c .before .before .pre .1 .upto, c .before .before .pre .1 .tree .few)
 
 run-best-add-t11 : (t : ℕ) → run-best-lts.Need-add-t11 (run-calls t) (run-best-at t) run-best.Post
-run-best-add-t11 t c = record { fits = fits-lower _ _ _ _ _ _ (c .before .before .before .before .pre .1) _ (c .before .before .before .pin-best .ensures) _ (c .before .before .mark .ensures) }
+run-best-add-t11 t c =
+    let m = c .before .before in
+    let p = m .before in
+    let o = p .before in
+    record { fits = fits-lower _ _ _ _ _ _ (o .pre .1) _ (p .pin-best .ensures) _ (m .mark .ensures) }
 
 run-best-add-t12 : (t : ℕ) → run-best-lts.Need-add-t12 (run-calls t) (run-best-at t) run-best.Post
-run-best-add-t12 t c = record { fits = fits-upper _ _ _ _ _ _ (c .before .before .before .before .before .pre .1) _ (c .before .before .before .before .pin-best .ensures) _ (c .before .before .mark2 .ensures) }
+run-best-add-t12 t c =
+    let n = c .before .before in
+    let p = n .before .before in
+    let o = p .before in
+    record { fits = fits-upper _ _ _ _ _ _ (o .pre .1) _ (p .pin-best .ensures) _ (n .mark2 .ensures) }
 
 run-best-returns : (t : ℕ) → run-best-lts.Need-returns (run-calls t) (run-best-at t) run-best.Post
-run-best-returns t c = run-answer _ _ _ _ _ _ (c .before .before .before .before .before .pre .1) _ (c .before .before .before .before .pin-best .ensures) _ _ (c .before .before .before .mark .ensures) (c .before .before .mark2 .ensures)
+run-best-returns t c =
+    let n = c .before .before in
+    let m = n .before in
+    let p = m .before in
+    let o = p .before in
+    run-answer _ _ _ _ _ _ (o .pre .1) _ (p .pin-best .ensures) _ _ (m .mark .ensures) (n .mark2 .ensures)
 
 pub +pin-best+run-best-spec : {M : Type 1} → statement M
 +pin-best+run-best-spec =

@@ -1,5 +1,6 @@
 -- `least::weigh` meets its contract: what it finds is told by one step of the definition, and its sums fit by the bounds of costs.
--- The measure is the number of runs to come. Assumes nothing.
+-- The measure is the number of runs to come. A need looks back by letters: o is the state at the start, a and b those after the first two tests.
+-- Assumes nothing.
 use mathlib.Core.Path.{_∙_}
 use Prim.Native.Nat.{ℕ, _-_, _<_}
 use native.Mathlib.Omega.{arith}
@@ -35,11 +36,14 @@ calls t =
 weigh-owed-by-requires : (t : ℕ) → weigh-lts.Need-owed-by-requires (calls t) (weigh-at t) weigh.Post
 weigh-owed-by-requires t c κs = owed-fair _ _ _ _ _ _ _ _ _ _ (c .before .pre .1)
 
-weigh-mul-t19 : (t : ℕ) → weigh-lts.Need-mul-t19 (calls t) (weigh-at t) weigh.Post
-weigh-mul-t19 t c = record { fits = omega (arith, c .owed-by .ensures, owed-fits _ _ _ _ _ _ _ _ _ _ (c .before .before .pre .1)) }
+weigh-mul-t20 : (t : ℕ) → weigh-lts.Need-mul-t20 (calls t) (weigh-at t) weigh.Post
+weigh-mul-t20 t c = record { fits = omega (arith, c .owed-by .ensures, owed-fits _ _ _ _ _ _ _ _ _ _ (c .before .before .pre .1)) }
 
 weigh-returns : (t : ℕ) → weigh-lts.Need-returns (calls t) (weigh-at t) weigh.Post
 weigh-returns t c = found-end _ _ _ _ _ _ _ _ _ _ (c .before .before .pre .1) (c .before .if1 .taken) _ (c .owed-by .ensures)
+
+weigh-add-next : (t : ℕ) → weigh-lts.Need-add-next (calls t) (weigh-at t) weigh.Post
+weigh-add-next t c = search needs
 
 weigh-mul-if2 : (t : ℕ) → weigh-lts.Need-mul-if2 (calls t) (weigh-at t) weigh.Post
 weigh-mul-if2 t c = search needs
@@ -47,23 +51,26 @@ weigh-mul-if2 t c = search needs
 weigh-element-copy-out-if2 : (t : ℕ) → weigh-lts.Need-element-copy-out-if2 (calls t) (weigh-at t) weigh.Post
 weigh-element-copy-out-if2 t c = search needs
 
-weigh-add-weigh : (t : ℕ) → weigh-lts.Need-add-weigh (calls t) (weigh-at t) weigh.Post
-weigh-add-weigh t c = search needs
-
 weigh-weigh-requires : (t : ℕ) → weigh-lts.Need-weigh-requires (calls t) (weigh-at t) weigh.Post
-weigh-weigh-requires t c κs = (omega (arith, c .before .before .before .pre .0, c .before .before .if1 .left), asks-past _ _ _ _ _ _ _ _ _ _ (c .before .before .before .pre .1) (c .before .before .if1 .left) (c .if2 .taken))
+weigh-weigh-requires t c κs =
+    let a = c .before .before in
+    let o = a .before in
+    (omega (arith, o .pre .0, a .if1 .left), asks-past _ _ _ _ _ _ _ _ _ _ (o .pre .1) (a .if1 .left) (c .if2 .taken))
 
 weigh-returns-2 : (t : ℕ) → weigh-lts.Need-returns-2 (calls t) (weigh-at t) weigh.Post
-weigh-returns-2 t c = c .weigh .ensures ∙ found-past _ _ _ _ _ _ _ _ _ _ (c .before .before .before .before .pre .1) (c .before .before .before .if1 .left) (c .before .if2 .taken)
+weigh-returns-2 t c =
+    let a = c .before .before .before in
+    let o = a .before in
+    c .weigh .ensures ∙ found-past _ _ _ _ _ _ _ _ _ _ (o .pre .1) (a .if1 .left) (c .before .if2 .taken)
 
 weigh-next-tally-requires : (t : ℕ) → weigh-lts.Need-next-tally-requires (calls t) (weigh-at t) weigh.Post
 weigh-next-tally-requires t c κs = run-in _ _ _ _ _ _ _ _ _ _ (c .before .before .before .pre .1) (c .before .before .if1 .left)
 
-weigh-add-weigh-2 : (t : ℕ) → weigh-lts.Need-add-weigh-2 (calls t) (weigh-at t) weigh.Post
-weigh-add-weigh-2 t c = search needs
-
 weigh-weigh-requires-2 : (t : ℕ) → weigh-lts.Need-weigh-requires-2 (calls t) (weigh-at t) weigh.Post
-weigh-weigh-requires-2 t c κs = (omega (arith, c .before .before .before .before .pre .0, c .before .before .before .if1 .left), asks-on _ _ _ _ _ _ _ _ _ _ (c .before .before .before .before .pre .1) (c .before .before .before .if1 .left) (c .before .if2 .left) _ _ (c .next-tally .ensures))
+weigh-weigh-requires-2 t c κs =
+    let a = c .before .before .before in
+    let o = a .before in
+    (omega (arith, o .pre .0, a .if1 .left), asks-on _ _ _ _ _ _ _ _ _ _ (o .pre .1) (a .if1 .left) (c .before .if2 .left) _ _ (c .next-tally .ensures))
 
 weigh-mul-first : (t : ℕ) → weigh-lts.Need-mul-first (calls t) (weigh-at t) weigh.Post
 weigh-mul-first t c = search needs
@@ -72,40 +79,90 @@ weigh-element-copy-out-first : (t : ℕ) → weigh-lts.Need-element-copy-out-fir
 weigh-element-copy-out-first t c = search needs
 
 weigh-add-first : (t : ℕ) → weigh-lts.Need-add-first (calls t) (weigh-at t) weigh.Post
-weigh-add-first t c = record { fits = lower-fits _ _ _ _ _ _ _ _ _ _ (c .before .before .before .before .before .before .before .pre .1) (c .before .before .before .before .before .before .if1 .left) (c .before .before .before .before .if2 .left) _ _ (c .before .before .before .next-tally .ensures) (c .before .before .weigh2 .ensures) }
+weigh-add-first t c =
+    let e = c .before .before in
+    let d = e .before in
+    let b = d .before in
+    let a = b .before .before in
+    let o = a .before in
+    record { fits = lower-fits _ _ _ _ _ _ _ _ _ _ (o .pre .1) (a .if1 .left) (b .if2 .left) _ _ (d .next-tally .ensures) (e .weigh2 .ensures) }
 
 weigh-is-bent-requires : (t : ℕ) → weigh-lts.Need-is-bent-requires (calls t) (weigh-at t) weigh.Post
-weigh-is-bent-requires t c κs = run-in _ _ _ _ _ _ _ _ _ _ (c .before .before .before .before .before .before .before .pre .1) (c .before .before .before .before .before .before .if1 .left)
+weigh-is-bent-requires t c κs =
+    let a = c .before .before .before .before .before .before in
+    let o = a .before in
+    run-in _ _ _ _ _ _ _ _ _ _ (o .pre .1) (a .if1 .left)
 
 weigh-returns-3 : (t : ℕ) → weigh-lts.Need-returns-3 (calls t) (weigh-at t) weigh.Post
-weigh-returns-3 t c = found-straight _ _ _ _ _ _ _ _ _ _ (c .before .before .before .before .before .before .before .before .before .pre .1) (c .before .before .before .before .before .before .before .before .if1 .left) (c .before .before .before .before .before .before .if2 .left) _ _ _ (c .before .is-bent .ensures) (c .if3 .taken) (c .before .before .before .before .before .next-tally .ensures) (c .before .before .before .before .weigh2 .ensures)
+weigh-returns-3 t c =
+    let e = c .before .before .before .before in
+    let d = e .before in
+    let b = d .before in
+    let a = b .before .before in
+    let o = a .before in
+    found-straight _ _ _ _ _ _ _ _ _ _ (o .pre .1) (a .if1 .left) (b .if2 .left)
+    _ _ _ (c .before .is-bent .ensures) (c .if3 .taken) (d .next-tally .ensures) (e .weigh2 .ensures)
 
 weigh-next-tally-requires-2 : (t : ℕ) → weigh-lts.Need-next-tally-requires-2 (calls t) (weigh-at t) weigh.Post
-weigh-next-tally-requires-2 t c κs = run-in _ _ _ _ _ _ _ _ _ _ (c .before .before .before .before .before .before .before .before .before .pre .1) (c .before .before .before .before .before .before .before .before .if1 .left)
-
-weigh-add-weigh-3 : (t : ℕ) → weigh-lts.Need-add-weigh-3 (calls t) (weigh-at t) weigh.Post
-weigh-add-weigh-3 t c = record { fits = omega (arith, run-in _ _ _ _ _ _ _ _ _ _ (c .before .before .before .before .before .before .before .before .before .before .pre .1) (c .before .before .before .before .before .before .before .before .before .if1 .left)) }
+weigh-next-tally-requires-2 t c κs =
+    let a = c .before .before .before .before .before .before .before .before in
+    let o = a .before in
+    run-in _ _ _ _ _ _ _ _ _ _ (o .pre .1) (a .if1 .left)
 
 weigh-weigh-requires-3 : (t : ℕ) → weigh-lts.Need-weigh-requires-3 (calls t) (weigh-at t) weigh.Post
-weigh-weigh-requires-3 t c κs = (omega (arith, c .before .before .before .before .before .before .before .before .before .before .pre .0, c .before .before .before .before .before .before .before .before .before .if1 .left), asks-on _ _ _ _ _ _ _ _ _ _ (c .before .before .before .before .before .before .before .before .before .before .pre .1) (c .before .before .before .before .before .before .before .before .before .if1 .left) (c .before .before .before .before .before .before .before .if2 .left) _ _ (c .next-tally2 .ensures))
+weigh-weigh-requires-3 t c κs =
+    let b = c .before .before .before .before .before .before .before in
+    let a = b .before .before in
+    let o = a .before in
+    (omega (arith, o .pre .0, a .if1 .left), asks-on _ _ _ _ _ _ _ _ _ _ (o .pre .1) (a .if1 .left) (b .if2 .left) _ _ (c .next-tally2 .ensures))
 
 weigh-mul-second : (t : ℕ) → weigh-lts.Need-mul-second (calls t) (weigh-at t) weigh.Post
-weigh-mul-second t c = record { fits = omega (arith, run-in _ _ _ _ _ _ _ _ _ _ (c .before .before .before .before .before .before .before .before .before .before .before .pre .1) (c .before .before .before .before .before .before .before .before .before .before .if1 .left)) }
+weigh-mul-second t c =
+    let a = c .before .before .before .before .before .before .before .before .before .before in
+    let o = a .before in
+    record { fits = omega (arith, run-in _ _ _ _ _ _ _ _ _ _ (o .pre .1) (a .if1 .left)) }
 
 weigh-element-copy-out-second : (t : ℕ) → weigh-lts.Need-element-copy-out-second (calls t) (weigh-at t) weigh.Post
-weigh-element-copy-out-second t c = run-in _ _ _ _ _ _ _ _ _ _ (c .before .before .before .before .before .before .before .before .before .before .before .pre .1) (c .before .before .before .before .before .before .before .before .before .before .if1 .left) .0
+weigh-element-copy-out-second t c =
+    let a = c .before .before .before .before .before .before .before .before .before .before in
+    let o = a .before in
+    run-in _ _ _ _ _ _ _ _ _ _ (o .pre .1) (a .if1 .left) .0
 
 weigh-add-second : (t : ℕ) → weigh-lts.Need-add-second (calls t) (weigh-at t) weigh.Post
-weigh-add-second t c = record { fits = upper-fits _ _ _ _ _ _ _ _ _ _ (c .before .before .before .before .before .before .before .before .before .before .before .before .before .pre .1) (c .before .before .before .before .before .before .before .before .before .before .before .before .if1 .left) (c .before .before .before .before .before .before .before .before .before .before .if2 .left) _ _ (c .before .before .before .next-tally2 .ensures) (c .before .before .weigh3 .ensures) }
+weigh-add-second t c =
+    let i = c .before .before in
+    let h = i .before in
+    let b = h .before .before .before .before .before .before .before in
+    let a = b .before .before in
+    let o = a .before in
+    record { fits = upper-fits _ _ _ _ _ _ _ _ _ _ (o .pre .1) (a .if1 .left) (b .if2 .left) _ _ (h .next-tally2 .ensures) (i .weigh3 .ensures) }
 
 weigh-lesser-requires : (t : ℕ) → weigh-lts.Need-lesser-requires (calls t) (weigh-at t) weigh.Post
 weigh-lesser-requires t c κs = search needs
 
 weigh-add-t31 : (t : ℕ) → weigh-lts.Need-add-t31 (calls t) (weigh-at t) weigh.Post
-weigh-add-t31 t c = record { fits = weighed-fits _ _ _ _ _ _ _ _ _ _ (c .before .before .before .before .before .before .before .before .before .before .before .before .before .before .before .before .pre .1) (c .before .before .before .before .before .before .before .before .before .before .before .before .before .before .before .if1 .left) (c .before .before .before .before .before .before .before .before .before .before .before .before .before .if2 .left) _ _ _ _ (c .before .before .before .before .before .before .before .before .before .before .before .weigh2 .ensures) (c .before .before .before .before .before .weigh3 .ensures) }
+weigh-add-t31 t c =
+    let i = c .before .before .before .before .before in
+    let e = i .before .before .before .before .before .before in
+    let b = e .before .before in
+    let a = b .before .before in
+    let o = a .before in
+    record { fits = weighed-fits _ _ _ _ _ _ _ _ _ _ (o .pre .1) (a .if1 .left) (b .if2 .left) _ _ _ _ (e .weigh2 .ensures) (i .weigh3 .ensures) }
 
 weigh-returns-4 : (t : ℕ) → weigh-lts.Need-returns-4 (calls t) (weigh-at t) weigh.Post
-weigh-returns-4 t c = found-bent _ _ _ _ _ _ _ _ _ _ (c .before .before .before .before .before .before .before .before .before .before .before .before .before .before .before .before .pre .1) (c .before .before .before .before .before .before .before .before .before .before .before .before .before .before .before .if1 .left) (c .before .before .before .before .before .before .before .before .before .before .before .before .before .if2 .left) _ _ _ _ _ _ (c .before .before .before .before .before .before .before .before .is-bent .ensures) (c .before .before .before .before .before .before .before .if3 .left) (c .before .before .before .before .before .before .before .before .before .before .before .before .next-tally .ensures) (c .before .before .before .before .before .before .before .before .before .before .before .weigh2 .ensures) (c .before .before .before .before .before .before .next-tally2 .ensures) (c .before .before .before .before .before .weigh3 .ensures) (c .before .before .lesser .ensures)
+weigh-returns-4 t c =
+    let l = c .before .before in
+    let i = l .before .before .before in
+    let h = i .before in
+    let g = h .before in
+    let f = g .before in
+    let e = f .before .before .before in
+    let d = e .before in
+    let b = d .before in
+    let a = b .before .before in
+    let o = a .before in
+    found-bent _ _ _ _ _ _ _ _ _ _ (o .pre .1) (a .if1 .left) (b .if2 .left)
+    _ _ _ _ _ _ (f .is-bent .ensures) (g .if3 .left) (d .next-tally .ensures) (e .weigh2 .ensures) (h .next-tally2 .ensures) (i .weigh3 .ensures) (l .lesser .ensures)
 
 pub +weigh-spec : {M : Type 1} → statement M
 +weigh-spec =
@@ -113,15 +170,14 @@ pub +weigh-spec : {M : Type 1} → statement M
     (λ t.
     weigh-lts.spec (calls t) (weigh-at t) weigh.Post
     (weigh-owed-by-requires t)
-    (weigh-mul-t19 t)
+    (weigh-mul-t20 t)
     (weigh-returns t)
+    (weigh-add-next t)
     (weigh-mul-if2 t)
     (weigh-element-copy-out-if2 t)
-    (weigh-add-weigh t)
     (weigh-weigh-requires t)
     (weigh-returns-2 t)
     (weigh-next-tally-requires t)
-    (weigh-add-weigh-2 t)
     (weigh-weigh-requires-2 t)
     (weigh-mul-first t)
     (weigh-element-copy-out-first t)
@@ -129,7 +185,6 @@ pub +weigh-spec : {M : Type 1} → statement M
     (weigh-is-bent-requires t)
     (weigh-returns-3 t)
     (weigh-next-tally-requires-2 t)
-    (weigh-add-weigh-3 t)
     (weigh-weigh-requires-3 t)
     (weigh-mul-second t)
     (weigh-element-copy-out-second t)

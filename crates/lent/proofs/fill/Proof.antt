@@ -52,7 +52,7 @@ use Rattle.copper.proofs.Leg as T
 use Rattle.copper.proofs.Leg.Laws as T′
 use Rattle.tree.proofs.Loops.{filled, filled-none}
 use Rattle.wiring.specs.declared.Laid.{Laid}
-use Rattle.wiring.specs.Answer.{noLeg}
+use Rattle.wiring.specs.Answer.{mostLegs, noLeg}
 use Rattle.lent.proofs.Filling.{filled-many, leg-more, legs-all}
 use Rattle.wiring.proofs.Laid as S
 use Rattle.wiring.proofs.Laid.Laws as S′
@@ -92,7 +92,7 @@ module _ {M : Type 1} (𝓤 : URA M) (H : Heap 𝓤) (A : Atoms 𝓤) (mem : Mem
   got d i r = exE 𝓤 _ (λ ws. snd∗ 𝓤 (sem 𝓤 H A (lasts leg′.ended tt (d, (i, tt)) ws)) (fact 𝓤 (r ≡ getD (d .legs) i noLeg)))
 
 module _ {M : Type 1} (𝓤 : URA M) (H : Heap 𝓤) (A : Atoms 𝓤) (W : Given 𝓤 H A) (mem : Memory → SProp 𝓤) (run : Routine → Fun 𝓤) (κ : Lft) (q : Share) (b o : ℕ) (γ : GName) (lent : List Leg) (d : Laid)
-    (room : Room T.the-row (length lent)) (gd : Is S.the-row d (LL.vals S.the-type S′.the-laws d)) (fits : (d .wiring .legs ≤ 62) × (d .wiring .legs ≤ length lent)) (long : length (d .legs) ≡ 62) where
+    (room : Room T.the-row (length lent)) (gd : Is S.the-row d (LL.vals S.the-type S′.the-laws d)) (fits : (d .wiring .legs ≤ mostLegs) × (d .wiring .legs ≤ length lent)) (long : length (d .legs) ≡ mostLegs) where
   abbrev k : ℕ
   k = d .wiring .legs
 
@@ -146,7 +146,7 @@ module _ {M : Type 1} (𝓤 : URA M) (H : Heap 𝓤) (A : Atoms 𝓤) (W : Given
   abbrev to-leg : ℕ → LegAt 𝓤 H A mem run .Ghost
   to-leg i = ((tt, tt, tt, (d, (i, tt)), (mach ∷ [], (vint w64 i ∷ [], tt))), tt)
 
-  goes-leg : (i : ℕ) → i < 62 → i < 2 ^ 64 → ent 𝓤 (emp 𝓤) (LegAt 𝓤 H A mem run .pre (to-leg i))
+  goes-leg : (i : ℕ) → i < mostLegs → i < 2 ^ 64 → ent 𝓤 (emp 𝓤) (LegAt 𝓤 H A mem run .pre (to-leg i))
   goes-leg i l g = qed W [] ∵ says ! l $ nothing ! $ owned ! usize (Is usize) (uint-makes 𝓤 H A W w64) i _ (refl, g) $ fjoin ! $
       owned ! S.the-row (Is S.the-row) ((LL.makes S.the-type S′.the-plain) 𝓤 H A) d _ gd $ fjoin ! $ nothing ! $ done !
 
@@ -196,7 +196,7 @@ module _ {M : Type 1} (𝓤 : URA M) (H : Heap 𝓤) (A : Atoms 𝓤) (W : Given
               assigns ! (bin ! (load ! (from ! (stop !)) (look ! 12 refl)) (load ! (from ! (stop !)) (look ! 14 refl)) tt) (from ! (stop !)) (init ! 10 refl (tt, tt)) $
               rewrite ! 10 (λ (t : Bool). ‵ (fat fullShare tyBool l₅ 0 (vbool t))) h refl $ stays ! (load ! (from ! (stop !)) (look ! 10 refl)) $
               -- the leg is got
-              use0 W (raw (LegAt 𝓤 H A mem run .pre (to-leg (i .0)))) (goes-leg (i .0) under62 i-fits) $
+              use0 W (raw (LegAt 𝓤 H A mem run .pre (to-leg (i .0)))) (goes-leg (i .0) under-most i-fits) $
               calls-at ! (fmOf 𝓤 H (W .laws) 𝓣) (LegAt 𝓤 H A mem run) known-leg (to-leg (i .0)) (and-then ! (load ! (from ! (stop !)) (look ! 19 refl)) (and-then ! (load ! (from ! (stop !)) (look ! 13 refl)) (no-more !))) (λ w.
               use1 W (later (some (λ (r : Leg). (‵ ftrue ⊛ ‵ (T.the-row .own r (w ∷ []))) ⊛ raw (ensured 𝓤 H A leg′.ended (leg′.clauses 𝓤 H A mem run) tt (d, (i .0, tt)) tt r)))) (id⊢ 𝓤 _) $ await ! tt $ pick ! (λ r.
               split ! $ move ! (1 ∷ []) $ use1 W (raw (fact 𝓤 (r ≡ getD (d .legs) (i .0) noLeg))) (got 𝓤 H A mem run d (i .0) r) $ heard ! (r ≡ getD (d .legs) (i .0) noLeg) (λ e. split ! $ drop ! $
@@ -217,20 +217,20 @@ module _ {M : Type 1} (𝓤 : URA M) (H : Heap 𝓤) (A : Atoms 𝓤) (W : Given
               less : i .0 < k
               less = omega (arith, ltb-true, h)
 
-              under62 : i .0 < 62
-              under62 = omega (arith, less, fits .0)
+              under-most : i .0 < mostLegs
+              under-most = omega (arith, less, fits .0)
 
               i-fits : i .0 < 2 ^ 64
-              i-fits = omega (arith, under62)
+              i-fits = omega (arith, under-most)
 
               next-fits : i .0 + 1 < 2 ^ 64
-              next-fits = omega (arith, under62)
+              next-fits = omega (arith, under-most)
 
               in-lent : i .0 < length lent
               in-lent = omega (arith, less, fits .1)
 
               in-legs : i .0 < length (d .legs)
-              in-legs = omega (arith, under62, long)
+              in-legs = omega (arith, under-most, long)
 
               within : i .0 < length (mix (i .0))
               within = omega (arith, in-lent, mix-many (i .0) (i .1))
@@ -284,7 +284,7 @@ module _ {M : Type 1} (𝓤 : URA M) (H : Heap 𝓤) (A : Atoms 𝓤) (W : Given
   fill-walks : (𝓣 : Tables 𝓤 H) → Triple 𝓤 (𝓣 .C #count-of) (CountOf 𝓤 H A mem run) → Triple 𝓤 (𝓣 .C #leg-at) (LegAt 𝓤 H A mem run) → Walks 𝓤 H A f.ended stayed (WpFn 𝓤 H (𝓣 .C) (𝓣 .Λ) code.function) (f.clauses 𝓤 H A mem run)
   fill-walks 𝓣 known-count known-leg = walked 𝓤 H A f.ended stayed (f.clauses 𝓤 H A mem run) (WpFn 𝓤 H (𝓣 .C) (𝓣 .Λ) code.function)
       (λ κs. (LL.vals S.the-type S′.the-laws, (slice-vals, tt))) (λ κs. (LL.tells S.the-type S′.the-laws, (mut-slice-tells (named 0) (κs .0) T.the-row, tt)))
-      (λ κs qs bounds a g are. needs 𝓤 ((a .0 .wiring .legs ≤ 62) × (a .0 .wiring .legs ≤ length (a .1 .0 .now))) _ (λ fits.
+      (λ κs qs bounds a g are. needs 𝓤 ((a .0 .wiring .legs ≤ mostLegs) × (a .0 .wiring .legs ≤ length (a .1 .0 .now))) _ (λ fits.
       walk 𝓤 H A W mem run (κs .0) (qs .0) (a .1 .0 .ptr .0) (a .1 .0 .ptr .1) (a .1 .0 .name) (a .1 .0 .now) (a .0) (are .1 .0 .0 .1) (are .0) fits (sym (length-map (a .0 .legs) _) ∙ LL.owed S.the-type S′.the-laws (a .0) _ (are .0) .1 .0 .1 .0 .1) 𝓣 known-count known-leg))
 
 fill-meets : {M : Type 1} (𝓤 : URA M) (H : Heap 𝓤) (A : Atoms 𝓤) → Given 𝓤 H A → (mem : Memory → SProp 𝓤) (run : Routine → Fun 𝓤) (𝓣 : Tables 𝓤 H)

@@ -27,10 +27,12 @@ print-map-requires c κs = search needs
 returns : tie.Need-returns
 returns c =
     let w = c .before .before .before .before in
-    let o = w .before .before .before .before in
+    let a = w .before .before in
+    let o = a .before .before in
     let s = o .before .before .before .before in
+    let y = sym (a .before .is-accepted .ensures) ∙ a .if1 .taken in
     printed (s .args .out .now)
-    (answer-wired (s .args .map .now) (o .before .before .job-of-map .ensures) (o .before .empty .ensures) (o .«open» .ensures) (w .wire .ensures) (sym (w .before .before .before .is-accepted .ensures) ∙ w .before .before .if1 .taken))
+    (answer-wired (s .args .map .now) (o .before .before .job-of-map .ensures) (o .before .empty .ensures) (o .«open» .ensures) (w .wire .ensures) y)
     (c .print-map .ensures .0 .0)
     (c .print-map .ensures .0 .1)
     (c .print-map .ensures .1)
@@ -40,10 +42,12 @@ print-verdict-requires c κs = search needs
 
 returns-2 : tie.Need-returns-2
 returns-2 c =
-    let o = c .before .before .before .before in
+    let a = c .before .before in
+    let o = a .before .before in
     let s = o .before .before .before .before in
+    let n = sym (a .before .is-accepted .ensures) ∙ a .if1 .left in
     printed (s .args .out .now)
-    (answer-refused (s .args .map .now) (o .before .before .job-of-map .ensures) (o .before .empty .ensures) (o .«open» .ensures) (sym (c .before .before .before .is-accepted .ensures) ∙ c .before .before .if1 .left))
+    (answer-refused (s .args .map .now) (o .before .before .job-of-map .ensures) (o .before .empty .ensures) (o .«open» .ensures) n)
     (c .print-verdict .ensures .0 .0)
     (omega (arith, c .print-verdict .ensures .0 .1))
     (c .print-verdict .ensures .1)

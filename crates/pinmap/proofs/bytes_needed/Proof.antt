@@ -3,6 +3,7 @@
 use Prim.Native.Nat.{_-_, _<_, _≤_}
 use native.Mathlib.Omega.{arith}
 use lib.ListN.{length, getD}
+use Rattle.feed.specs.Feeds.{mostPins}
 use Rattle.drawing.specs.Pins.{absent}
 use Rattle.pinmap.proofs.Written.{Counted, counted-start, counted-next, counted-end, pin-length}
 use Rattle.pinmap.proofs.bytes_needed.Statement.{statement}
@@ -12,7 +13,7 @@ abbrev Inv-loop : tie.InvT-loop
 Inv-loop pins bytes₀ i₀ bytes i = Counted pins bytes i
 
 abbrev μ-loop : tie.MeasureT-loop
-μ-loop pins bytes₀ i₀ bytes i = 32 - i
+μ-loop pins bytes₀ i₀ bytes i = mostPins - i
 
 loop-holds : tie.Need-loop-holds Inv-loop μ-loop
 loop-holds c = counted-start _
@@ -27,7 +28,9 @@ bytes-of-requires : tie.Need-bytes-of-requires Inv-loop μ-loop
 bytes-of-requires c κs = tt
 
 add-bytes : tie.Need-add-bytes Inv-loop μ-loop
-add-bytes c = omega (arith, pin-length 0 0 (getD (c .before .before .before .before .args .t1) (c .before .before .before .loop .i) absent), c .bytes-of .ensures 0 0)
+add-bytes c =
+    let l = c .before .before .before in
+    omega (arith, pin-length 0 0 (getD (l .before .args .t1) (l .loop .i) absent), c .bytes-of .ensures 0 0)
 
 add-i : tie.Need-add-i Inv-loop μ-loop
 add-i c = omega arith
@@ -37,8 +40,9 @@ loop-less c = omega arith
 
 loop-again : tie.Need-loop-again Inv-loop μ-loop
 loop-again c =
-    let h : c .before .before .before .loop .i < length (c .before .before .before .before .args .t1) = omega arith in
-    counted-next _ _ _ (c .before .before .before .loop .inv) h (omega arith) (c .bytes-of .ensures)
+    let l = c .before .before .before in
+    let h : l .loop .i < length (l .before .args .t1) = omega arith in
+    counted-next _ _ _ (l .loop .inv) h (omega arith) (c .bytes-of .ensures)
 
 returns : tie.Need-returns Inv-loop μ-loop
 returns c =

@@ -1,7 +1,6 @@
 -- `pinmap::judge` meets its contract: its tests are the rows of a record's refusals, in their order. Assumes nothing.
 use borrow.Author.Needs.{needs}
-use borrow.Author.Tests.{leb-false}
-use mathlib.Core.Path.{refl, sym, _∙_}
+use mathlib.Core.Path.{refl}
 use Rattle.pinmap.specs.Record.{judged}
 use Rattle.pinmap.proofs.Turns.{row-met, row-passed}
 use Rattle.pinmap.proofs.judge.Statement.{statement}
@@ -21,7 +20,8 @@ has-pin-above-requires c κs = search needs
 returns-2 : tie.Need-returns-2
 unfolding judged
 returns-2 c =
-    row-passed _ (c .before .before .before .has-other-job .ensures) (c .before .before .if1 .left)
+    let j = c .before .before in
+    row-passed _ (j .before .has-other-job .ensures) (j .if1 .left)
     (row-met _ (c .before .has-pin-above .ensures) (c .if2 .taken))
 
 is-not-blank-requires : tie.Need-is-not-blank-requires
@@ -30,8 +30,10 @@ is-not-blank-requires c κs = search needs
 returns-3 : tie.Need-returns-3
 unfolding judged
 returns-3 c =
-    row-passed _ (c .before .before .before .before .before .has-other-job .ensures) (c .before .before .before .before .if1 .left)
-    (row-passed _ (c .before .before .before .has-pin-above .ensures) (c .before .before .if2 .left)
+    let p = c .before .before in
+    let j = p .before .before in
+    row-passed _ (j .before .has-other-job .ensures) (j .if1 .left)
+    (row-passed _ (p .before .has-pin-above .ensures) (p .if2 .left)
     (row-met _ (c .before .is-not-blank .ensures) (c .if3 .taken)))
 
 is-outside-requires : tie.Need-is-outside-requires
@@ -40,9 +42,12 @@ is-outside-requires c κs = search needs
 returns-4 : tie.Need-returns-4
 unfolding judged
 returns-4 c =
-    row-passed _ (c .before .before .before .before .before .before .before .has-other-job .ensures) (c .before .before .before .before .before .before .if1 .left)
-    (row-passed _ (c .before .before .before .before .before .has-pin-above .ensures) (c .before .before .before .before .if2 .left)
-    (row-passed _ (c .before .before .before .is-not-blank .ensures) (c .before .before .if3 .left)
+    let b = c .before .before in
+    let p = b .before .before in
+    let j = p .before .before in
+    row-passed _ (j .before .has-other-job .ensures) (j .if1 .left)
+    (row-passed _ (p .before .has-pin-above .ensures) (p .if2 .left)
+    (row-passed _ (b .before .is-not-blank .ensures) (b .if3 .left)
     (row-met _ (c .before .is-outside .ensures) (c .if4 .taken))))
 
 is-not-above-requires : tie.Need-is-not-above-requires
@@ -51,33 +56,47 @@ is-not-above-requires c κs = search needs
 returns-5 : tie.Need-returns-5
 unfolding judged
 returns-5 c =
-    row-passed _ (c .before .before .before .before .before .before .before .before .before .has-other-job .ensures) (c .before .before .before .before .before .before .before .before .if1 .left)
-    (row-passed _ (c .before .before .before .before .before .before .before .has-pin-above .ensures) (c .before .before .before .before .before .before .if2 .left)
-    (row-passed _ (c .before .before .before .before .before .is-not-blank .ensures) (c .before .before .before .before .if3 .left)
-    (row-passed _ (c .before .before .before .is-outside .ensures) (c .before .before .if4 .left)
+    let o = c .before .before in
+    let b = o .before .before in
+    let p = b .before .before in
+    let j = p .before .before in
+    row-passed _ (j .before .has-other-job .ensures) (j .if1 .left)
+    (row-passed _ (p .before .has-pin-above .ensures) (p .if2 .left)
+    (row-passed _ (b .before .is-not-blank .ensures) (b .if3 .left)
+    (row-passed _ (o .before .is-outside .ensures) (o .if4 .left)
     (row-met _ (c .before .is-not-above .ensures) (c .if5 .taken)))))
 
 has-place-taken-requires : tie.Need-has-place-taken-requires
-has-place-taken-requires c κs = leb-false _ _ (sym (c .before .before .before .before .before .before .before .has-pin-above .ensures) ∙ c .before .before .before .before .before .before .if2 .left)
+has-place-taken-requires c κs = search needs
 
 returns-6 : tie.Need-returns-6
 unfolding judged
 returns-6 c =
-    row-passed _ (c .before .before .before .before .before .before .before .before .before .before .before .has-other-job .ensures) (c .before .before .before .before .before .before .before .before .before .before .if1 .left)
-    (row-passed _ (c .before .before .before .before .before .before .before .before .before .has-pin-above .ensures) (c .before .before .before .before .before .before .before .before .if2 .left)
-    (row-passed _ (c .before .before .before .before .before .before .before .is-not-blank .ensures) (c .before .before .before .before .before .before .if3 .left)
-    (row-passed _ (c .before .before .before .before .before .is-outside .ensures) (c .before .before .before .before .if4 .left)
-    (row-passed _ (c .before .before .before .is-not-above .ensures) (c .before .before .if5 .left)
+    let n = c .before .before in
+    let o = n .before .before in
+    let b = o .before .before in
+    let p = b .before .before in
+    let j = p .before .before in
+    row-passed _ (j .before .has-other-job .ensures) (j .if1 .left)
+    (row-passed _ (p .before .has-pin-above .ensures) (p .if2 .left)
+    (row-passed _ (b .before .is-not-blank .ensures) (b .if3 .left)
+    (row-passed _ (o .before .is-outside .ensures) (o .if4 .left)
+    (row-passed _ (n .before .is-not-above .ensures) (n .if5 .left)
     (row-met _ (c .before .has-place-taken .ensures) (c .if6 .taken))))))
 
 returns-7 : tie.Need-returns-7
 unfolding judged
 returns-7 c =
-    row-passed _ (c .before .before .before .before .before .before .before .before .before .before .before .has-other-job .ensures) (c .before .before .before .before .before .before .before .before .before .before .if1 .left)
-    (row-passed _ (c .before .before .before .before .before .before .before .before .before .has-pin-above .ensures) (c .before .before .before .before .before .before .before .before .if2 .left)
-    (row-passed _ (c .before .before .before .before .before .before .before .is-not-blank .ensures) (c .before .before .before .before .before .before .if3 .left)
-    (row-passed _ (c .before .before .before .before .before .is-outside .ensures) (c .before .before .before .before .if4 .left)
-    (row-passed _ (c .before .before .before .is-not-above .ensures) (c .before .before .if5 .left)
+    let n = c .before .before in
+    let o = n .before .before in
+    let b = o .before .before in
+    let p = b .before .before in
+    let j = p .before .before in
+    row-passed _ (j .before .has-other-job .ensures) (j .if1 .left)
+    (row-passed _ (p .before .has-pin-above .ensures) (p .if2 .left)
+    (row-passed _ (b .before .is-not-blank .ensures) (b .if3 .left)
+    (row-passed _ (o .before .is-outside .ensures) (o .if4 .left)
+    (row-passed _ (n .before .is-not-above .ensures) (n .if5 .left)
     (row-passed _ (c .before .has-place-taken .ensures) (c .if6 .left) refl)))))
 
 pub judge-spec : {M : Type 1} → statement M

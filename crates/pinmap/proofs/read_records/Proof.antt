@@ -49,22 +49,31 @@ pin-with-requires c κs = search needs
 
 mul-pins : tie.Need-mul-pins Inv-loop μ-loop
 mul-pins c =
-    let L = c .before .before .before .before .before .before .before .before .loop in
-    let p = turn-pin _ _ (L .pins) (L .next) (L .number) (L .inv) (c .before .before .before .before .before .before .before .loop-test .taken)
-    (c .before .before .before .before .before .read-record .ensures) (c .before .before .before .before .judge .ensures) (c .before .before .before .is-accepted .ensures) (c .before .before .if1 .taken) in
+    let i = c .before .before in
+    let j = i .before .before in
+    let t = j .before .before .before in
+    let L = t .before .loop in
+    let p = turn-pin _ _ (L .pins) (L .next) (L .number) (L .inv) (t .loop-test .taken)
+    (j .before .read-record .ensures) (j .judge .ensures) (i .before .is-accepted .ensures) (i .if1 .taken) in
     omega arith
 
 array-set-from-pins : tie.Need-array-set-from-pins Inv-loop μ-loop
 array-set-from-pins c =
-    let L = c .before .before .before .before .before .before .before .before .loop in
-    turn-pin _ _ (L .pins) (L .next) (L .number) (L .inv) (c .before .before .before .before .before .before .before .loop-test .taken)
-    (c .before .before .before .before .before .read-record .ensures) (c .before .before .before .before .judge .ensures) (c .before .before .before .is-accepted .ensures) (c .before .before .if1 .taken)
+    let i = c .before .before in
+    let j = i .before .before in
+    let t = j .before .before .before in
+    let L = t .before .loop in
+    turn-pin _ _ (L .pins) (L .next) (L .number) (L .inv) (t .loop-test .taken)
+    (j .before .read-record .ensures) (j .judge .ensures) (i .before .is-accepted .ensures) (i .if1 .taken)
 
 add-next : tie.Need-add-next Inv-loop μ-loop
 add-next c =
-    let L = c .before .before .before .before .before .before .before .before .loop in
-    let p = turn-pin _ _ (L .pins) (L .next) (L .number) (L .inv) (c .before .before .before .before .before .before .before .loop-test .taken)
-    (c .before .before .before .before .before .read-record .ensures) (c .before .before .before .before .judge .ensures) (c .before .before .before .is-accepted .ensures) (c .before .before .if1 .taken) in
+    let i = c .before .before in
+    let j = i .before .before in
+    let t = j .before .before .before in
+    let L = t .before .loop in
+    let p = turn-pin _ _ (L .pins) (L .next) (L .number) (L .inv) (t .loop-test .taken)
+    (j .before .read-record .ensures) (j .judge .ensures) (i .before .is-accepted .ensures) (i .if1 .taken) in
     omega arith
 
 add-number : tie.Need-add-number Inv-loop μ-loop
@@ -75,19 +84,25 @@ loop-less c = omega arith
 
 loop-again : tie.Need-loop-again Inv-loop μ-loop
 loop-again c =
-    let L = c .before .before .before .before .before .before .before .before .loop in
-    turn-goes _ _ (L .pins) (L .next) (L .number) (L .inv) (c .before .before .before .before .before .before .before .loop-test .taken)
-    (c .before .before .before .before .before .read-record .ensures) (c .before .before .before .before .judge .ensures) (c .before .before .before .is-accepted .ensures) (c .before .before .if1 .taken) (c .pin-with .ensures)
+    let i = c .before .before in
+    let j = i .before .before in
+    let t = j .before .before .before in
+    let L = t .before .loop in
+    turn-goes _ _ (L .pins) (L .next) (L .number) (L .inv) (t .loop-test .taken)
+    (j .before .read-record .ensures) (j .judge .ensures) (i .before .is-accepted .ensures) (i .if1 .taken) (c .pin-with .ensures)
 
 refuse-requires : tie.Need-refuse-requires Inv-loop μ-loop
 refuse-requires c κs = search needs
 
 returns : tie.Need-returns Inv-loop μ-loop
 returns c =
-    let L = c .before .before .before .before .before .before .before .loop in
+    let i = c .before in
+    let j = i .before .before in
+    let t = j .before .before .before in
+    let L = t .before .loop in
     c .refuse .ensures
-    ∙ turn-stops _ _ (L .pins) (L .next) (L .number) (L .inv) (c .before .before .before .before .before .before .loop-test .taken)
-    (c .before .before .before .before .read-record .ensures) (c .before .before .before .judge .ensures) (c .before .before .is-accepted .ensures) (c .before .if1 .left)
+    ∙ turn-stops _ _ (L .pins) (L .next) (L .number) (L .inv) (t .loop-test .taken)
+    (j .before .read-record .ensures) (j .judge .ensures) (i .before .is-accepted .ensures) (i .if1 .left)
 
 returns-2 : tie.Need-returns-2 Inv-loop μ-loop
 returns-2 c = let L = c .before .loop in ends _ _ (L .pins) (L .next) (L .number) (L .inv) (c .loop-test .left)

@@ -25,10 +25,14 @@ same-length c = search needs
 
 returns-2 : tie.Need-returns-2
 returns-2 c =
-    let A = c .before .before .before .before .before .before .before .args in
-    let e = c .before .before .before .before .before .bytes-needed .ensures (A .job) in
-    let h = c .before .before .before .before .if1 .left in
-    (answer-written (A .pins) (A .job) (A .buffer .now) e h, c .before .before .write-records .ensures ∙ buffer-written (A .pins) (A .job) (A .buffer .now) e h)
+    let w = c .before .before in
+    let b = w .before .before in
+    let A = b .before .before .before .args in
+    let e = b .before .bytes-needed .ensures (A .job) in
+    let h = b .if1 .left in (
+      answer-written (A .pins) (A .job) (A .buffer .now) e h,
+      w .write-records .ensures ∙ buffer-written (A .pins) (A .job) (A .buffer .now) e h,
+    )
 
 pub write-map-spec : {M : Type 1} → statement M
 write-map-spec =

@@ -25,7 +25,11 @@ part-write-record-start : tie.Need-part-write-record-start
 part-write-record-start c = search needs
 
 part-write-record-end : tie.Need-part-write-record-end
-part-write-record-end c = let e = there-length (c .before .before .before .before .args .job) (c .before .before .before .before .args .pin) (c .before .before .before .before .args .q) (c .before .s .given .1) in omega arith
+part-write-record-end c =
+    let s = c .before in
+    let A = s .before .before .before .args in
+    let e = there-length (A .job) (A .pin) (A .q) (s .s .given .1) in
+    omega arith
 
 write-record-requires : tie.Need-write-record-requires
 write-record-requires c κs = search needs
@@ -38,13 +42,16 @@ same-length c = search needs
 
 returns-2 : tie.Need-returns-2
 returns-2 c =
-    let A = c .before .before .before .before .before .before .before .before .args in
-    let h = c .before .before .before .before .before .s .given .0 .0 in
+    let w = c .before .before in
+    let s = w .before .before .before in
+    let A = s .before .before .before .args in
+    let e = s .s .given .1 in
+    let h = s .s .given .0 .0 in
     let n = record-length (A .job) (A .pin) h in
-    let k = there-length (A .job) (A .pin) (A .q) (c .before .before .before .before .before .s .given .1) in
+    let k = there-length (A .job) (A .pin) (A .q) e in
     let p : A .at + recordSize ≤ length (A .buffer .now) = omega arith in
-    rw (there-bytes (A .job) (A .pin) (A .q) (c .before .before .before .before .before .s .given .1))
-    (omega arith, rw (c .before .before .write-record .ensures) (part-put (A .buffer .now) (recordBytes (A .job) (A .pin) h) (A .at) n p))
+    rw (there-bytes (A .job) (A .pin) (A .q) e)
+    (omega arith, rw (w .write-record .ensures) (part-put (A .buffer .now) (recordBytes (A .job) (A .pin) h) (A .at) n p))
 
 pub write-pin-spec : {M : Type 1} → statement M
 write-pin-spec =

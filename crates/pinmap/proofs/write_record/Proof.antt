@@ -38,16 +38,22 @@ write-number-requires-2 c κs = rw (c .before .before .before .before .write-num
 
 same-length : tie.Need-same-length
 same-length c =
-    ap length (c .before .before .write-number2 .ensures) ∙ put-length _ 8 _ ∙ ap length (c .before .before .before .before .before .before .before .write-number .ensures) ∙ put-length _ 4 _ ∙ simp length-set
+    let y = c .before .before in
+    let x = y .before .before .before .before .before in
+    ap length (y .write-number2 .ensures) ∙ put-length _ 8 _ ∙ ap length (x .write-number .ensures) ∙ put-length _ 4 _ ∙ simp length-set
 
 returns : tie.Need-returns
 returns c =
-    let g = c .before .before .before .before .before .before .before .before .struct-told .given in
-    let A = c .before .before .before .before .before .before .before .before .before .before .before .before .args in
+    let y = c .before .before in
+    let x = y .before .before .before .before .before in
+    let t = x .before in
+    let s = t .before .before .before .before in
+    let g = t .struct-told .given in
+    let A = s .args in
     let h = A .held in
-    let ex = rw (held (h .place .x) (g .0 .1)) at (c .before .before .before .before .before .before .before .write-number .ensures) in
-    let ey = rw (held (h .place .y) (g .1 .0 .1)) at (c .before .before .write-number2 .ensures) in
-    ey ∙ ap (λ l. putAt l 8 (h .place .y)) ex ∙ record-stored (A .part .now) (A .job) (A .pin) h (c .before .before .before .before .before .before .before .before .before .before .before .before .pre .0)
+    let ex = rw (held (h .place .x) (g .0 .1)) at (x .write-number .ensures) in
+    let ey = rw (held (h .place .y) (g .1 .0 .1)) at (y .write-number2 .ensures) in
+    ey ∙ ap (λ l. putAt l 8 (h .place .y)) ex ∙ record-stored (A .part .now) (A .job) (A .pin) h (s .pre .0)
 
 pub write-record-spec : {M : Type 1} → statement M
 write-record-spec =

@@ -3,6 +3,7 @@
 use Prim.Native.Nat.{_-_, _<_, _≤_}
 use native.Mathlib.Omega.{arith}
 use lib.ListN.{length}
+use Rattle.feed.specs.Feeds.{mostPins}
 use Rattle.pinmap.proofs.Written.{Storing, storing-start, storing-room, storing-next, storing-end}
 use Rattle.pinmap.proofs.write_records.Statement.{statement}
 use Rattle.pinmap.proofs.write_records.Tie as tie
@@ -11,7 +12,7 @@ abbrev Inv-loop : tie.InvT-loop
 Inv-loop job buffer₀ pins at₀ i₀ buffer at i = Storing job pins buffer₀ buffer at i
 
 abbrev μ-loop : tie.MeasureT-loop
-μ-loop job buffer₀ pins at₀ i₀ buffer at i = 32 - i
+μ-loop job buffer₀ pins at₀ i₀ buffer at i = mostPins - i
 
 loop-holds : tie.Need-loop-holds Inv-loop μ-loop
 loop-holds c = storing-start _ _ _ (c .before .pre)
@@ -37,10 +38,13 @@ loop-less c = omega arith
 
 loop-again : tie.Need-loop-again Inv-loop μ-loop
 loop-again c =
-    let A = c .before .before .before .before .before .before .before .before .args in
-    let L = c .before .before .before .before .before .before .loop in
+    let w = c .before .before in
+    let l = w .before .before .before .before in
+    let A = l .before .before .args in
+    let L = l .loop in
     let h : L .i < length (A .t1) = omega arith in
-    storing-next (A .job) (A .t1) (A .buffer .now) (L .buffer) (L .at) (L .i) (L .inv) h (omega arith) (c .before .before .write-pin .ensures .0) (c .before .before .write-pin .ensures .1)
+    let e = w .write-pin .ensures in
+    storing-next (A .job) (A .t1) (A .buffer .now) (L .buffer) (L .at) (L .i) (L .inv) h (omega arith) (e .0) (e .1)
 
 same-length : tie.Need-same-length Inv-loop μ-loop
 same-length c = c .before .loop .inv .same

@@ -11,13 +11,18 @@ wrapping-add-usize-requires : tie.Need-wrapping-add-usize-requires
 wrapping-add-usize-requires c κs = search needs
 
 slice-aggregate-play-line : tie.Need-slice-aggregate-play-line
-slice-aggregate-play-line c = sym (length-take-le (c .before .before .before .before .args .session .kept) (c .before .before .before .before .args .line .now) (omega arith))
+slice-aggregate-play-line c =
+    let s = c .before .before .before .before in
+    sym (length-take-le (s .args .session .kept) (s .args .line .now) (omega arith))
 
 play-line-requires : tie.Need-play-line-requires
 play-line-requires c κs = search needs
 
 returns : tie.Need-returns
-returns c = (line-ended (c .before .before .before .before .before .before .args .session) (c .before .before .before .before .before .before .args .line .now) (c .before .before .before .before .before .before .args .out .now) (c .play-line .ensures .0) (c .before .before .before .wrapping-add-usize .ensures) (c .play-line .ensures .1), refl)
+returns c =
+    let n = c .before .before .before in
+    let s = n .before .before .before in
+    (line-ended (s .args .session) (s .args .line .now) (s .args .out .now) (c .play-line .ensures .0) (n .wrapping-add-usize .ensures) (c .play-line .ensures .1), refl)
 
 pub end-line-spec : {M : Type 1} → statement M
 end-line-spec =

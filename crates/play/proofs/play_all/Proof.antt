@@ -18,7 +18,9 @@ loop-holds : tie.Need-loop-holds Inv-loop μ-loop
 loop-holds c = (c .pre .0, by-none (logOf (c .args .session) (c .args .line .now) (c .args .out .now)) (c .pre .1))
 
 play-some-requires : tie.Need-play-some-requires Inv-loop μ-loop
-play-some-requires c κs = (c .before .before .before .before .before .loop .inv .0, not-true _ (c .before .before .if1 .taken))
+play-some-requires c κs =
+    let i = c .before .before in
+    (i .before .before .before .loop .inv .0, not-true _ (i .if1 .taken))
 
 sub-turns : tie.Need-sub-turns Inv-loop μ-loop
 sub-turns c = omega arith
@@ -27,7 +29,9 @@ loop-less : tie.Need-loop-less Inv-loop μ-loop
 loop-less c = omega arith
 
 loop-again : tie.Need-loop-again Inv-loop μ-loop
-loop-again c = (c .play-some .ensures .1, by-both (c .before .before .before .before .before .before .loop .inv .1) (not-true _ (c .before .before .before .if1 .taken)) (c .play-some .ensures .0))
+loop-again c =
+    let i = c .before .before .before in
+    (c .play-some .ensures .1, by-both (i .before .before .before .loop .inv .1) (not-true _ (i .if1 .taken)) (c .play-some .ensures .0))
 
 returns : tie.Need-returns Inv-loop μ-loop
 returns c = c .before .before .before .loop .inv .1

@@ -1,10 +1,14 @@
 -- `play::play_some` meets its contract. Assumes nothing.
 use native.Mathlib.Omega.{arith}
 use borrow.Author.Needs.{needs}
-use Rattle.play.specs.Log.{logOf}
+use Rattle.play.specs.Log.{Log, logOf}
 use Rattle.play.proofs.Coming.{by-window, by-end}
 use Rattle.play.proofs.play_some.Statement.{statement}
 use Rattle.play.proofs.play_some.Tie as tie
+
+-- The log as the call finds it.
+abbrev log : tie.Start → Log
+log s = logOf (s .args .session) (s .args .line .now) (s .args .out .now)
 
 buffer-requires : tie.Need-buffer-requires
 buffer-requires c κs = search needs
@@ -25,7 +29,9 @@ end-input-requires : tie.Need-end-input-requires
 end-input-requires c κs = search needs
 
 returns : tie.Need-returns
-returns c = (by-end (logOf (c .before .before .before .before .before .before .before .before .before .before .before .args .session) (c .before .before .before .before .before .before .before .before .before .before .before .args .line .now) (c .before .before .before .before .before .before .before .before .before .before .before .args .out .now)) (c .end-input .ensures .0), omega (arith, c .end-input .ensures .1, c .before .before .before .before .before .before .before .before .before .before .before .pre))
+returns c =
+    let s = c .before .before .before .before .before .before .before .before .before .before .before in
+    (by-end (log s) (c .end-input .ensures .0), omega (arith, c .end-input .ensures .1, s .pre))
 
 array-share-prefix-window : tie.Need-array-share-prefix-window
 array-share-prefix-window c = search needs
@@ -37,7 +43,9 @@ play-window-requires : tie.Need-play-window-requires
 play-window-requires c κs = search needs
 
 returns-2 : tie.Need-returns-2
-returns-2 c = (by-window (logOf (c .before .before .before .before .before .before .before .before .before .before .before .args .session) (c .before .before .before .before .before .before .before .before .before .before .before .args .line .now) (c .before .before .before .before .before .before .before .before .before .before .before .args .out .now)) _ (c .before .before .before .before .before .before .before .before .before .before .before .pre .1) (c .play-window .ensures .0), c .play-window .ensures .1)
+returns-2 c =
+    let s = c .before .before .before .before .before .before .before .before .before .before .before in
+    (by-window (log s) _ (s .pre .1) (c .play-window .ensures .0), c .play-window .ensures .1)
 
 pub play-some-spec : {M : Type 1} → statement M
 play-some-spec =

@@ -23,7 +23,9 @@ newline-requires : tie.Need-newline-requires Inv-loop μ-loop
 newline-requires c κs = omega arith
 
 take-in-requires : tie.Need-take-in-requires Inv-loop μ-loop
-take-in-requires c κs = (c .before .before .before .before .loop .inv .0, c .before .before .newline .ensures .1 .0, c .before .before .newline .ensures .1 .1)
+take-in-requires c κs =
+    let n = c .before .before in
+    (n .before .before .loop .inv .0, n .newline .ensures .1 .0, n .newline .ensures .1 .1)
 
 add-at : tie.Need-add-at Inv-loop μ-loop
 add-at c = omega (arith, c .before .before .before .newline .ensures)
@@ -32,10 +34,18 @@ loop-less : tie.Need-loop-less Inv-loop μ-loop
 loop-less c = omega (arith, c .before .before .before .newline .ensures)
 
 loop-again : tie.Need-loop-again Inv-loop μ-loop
-loop-again c = (c .take-in .ensures .1, window-more (c .before .before .before .before .before .loop .s) (c .before .before .before .before .before .loop .line) (c .before .before .before .before .before .loop .out) (c .before .before .before .before .before .before .before .args .window .now) (c .before .before .before .before .before .loop .at) (c .before .before .before .before .before .loop .inv .0) (omega arith) (c .before .before .before .newline .ensures .0) (c .take-in .ensures .0) (c .before .before .before .before .before .loop .inv .1))
+loop-again c =
+    let n = c .before .before .before in
+    let l = n .before .before in
+    let s = l .before .before in
+    let h = window-more (l .loop .s) (l .loop .line) (l .loop .out) (s .args .window .now) (l .loop .at) (l .loop .inv .0) (omega arith) in
+    (c .take-in .ensures .1, h (n .newline .ensures .0) (c .take-in .ensures .0) (l .loop .inv .1))
 
 returns : tie.Need-returns Inv-loop μ-loop
-returns c = (window-done (c .before .loop .s) (c .before .loop .line) (c .before .loop .out) (c .before .before .before .args .window .now) (c .loop-test .left) (c .before .loop .inv .1), c .before .loop .inv .0)
+returns c =
+    let l = c .before in
+    let s = l .before .before in
+    (window-done (l .loop .s) (l .loop .line) (l .loop .out) (s .args .window .now) (c .loop-test .left) (l .loop .inv .1), l .loop .inv .0)
 
 pub play-window-spec : {M : Type 1} → statement M
 play-window-spec =

@@ -7,7 +7,9 @@ use Rattle.play.proofs.send.Statement.{statement}
 use Rattle.play.proofs.send.Tie as tie
 
 slice-aggregate-write-all : tie.Need-slice-aggregate-write-all
-slice-aggregate-write-all c = sym (length-take-le (c .before .before .args .bytes) (c .before .before .args .out .now) (omega arith))
+slice-aggregate-write-all c =
+    let s = c .before .before in
+    sym (length-take-le (s .args .bytes) (s .args .out .now) (omega arith))
 
 write-all-requires : tie.Need-write-all-requires
 write-all-requires c κs = search needs

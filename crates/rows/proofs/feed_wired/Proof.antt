@@ -8,12 +8,12 @@ use Rattle.feed.specs.declared.Spot.{Spot}
 use Rattle.drawing.proofs.Rules.{lawful-parts}
 use Rattle.wiring.specs.Answer.{wiringOf, turnedAway}
 use Rattle.rows.specs.Found.{lookAtFound, laidIn}
-use Rattle.rows.proofs.Rows.{closing-passed, taken, turned}
+use Rattle.rows.proofs.Rows.{naming-passed, taken, turned}
 use Rattle.rows.proofs.feed_wired.Statement.{statement}
 use Rattle.rows.proofs.feed_wired.Tie as tie
 
-turned-closing-requires : tie.Need-turned-closing-requires
-turned-closing-requires c κs = search needs
+turned-naming-requires : tie.Need-turned-naming-requires
+turned-naming-requires c κs = search needs
 
 is-accepted-requires : tie.Need-is-accepted-requires
 is-accepted-requires c κs = search needs
@@ -24,9 +24,10 @@ feed-of-requires c κs = search needs
 wire-feed-requires : tie.Need-wire-feed-requires
 unfolding NoneHolds
 wire-feed-requires c κs =
-    let n = closing-passed (lookAtFound (c .before .before .before .before .before .before .args .found) [] 0) (c .before .before .before .before .before .turned-closing .ensures) (sym (c .before .before .before .before .is-accepted .ensures) ∙ c .before .before .before .if1 .taken) in
-    let k = c .before .before .before .before .before .before .pre (n .0) (not-false _ (n .1 .1 .0)) in
-    let h = lawful-parts _ k in
+    let d = c .before .before .before in
+    let t = d .before .before in
+    let n = naming-passed (lookAtFound (t .before .args .found) [] 0) (t .turned-naming .ensures) (sym (d .before .is-accepted .ensures) ∙ d .if1 .taken) in
+    let h = lawful-parts _ (t .before .pre (n .0) (not-false _ (n .1 .1 .0))) in
     rw (c .feed-of .ensures) (h .board, h .apart)
 
 refused-requires : tie.Need-refused-requires
@@ -34,17 +35,24 @@ refused-requires c κs = search needs
 
 returns : tie.Need-returns
 unfolding laidIn
-returns c = taken (c .before .before .before .before .before .before .turned-closing .ensures) _ (sym (c .before .before .before .before .before .is-accepted .ensures) ∙ c .before .before .before .before .if1 .taken) (c .wire-feed .ensures ∙ ap (λ (f : List Spot). wiringOf f (c .before .before .before .before .before .before .before .args .room)) (c .before .feed-of .ensures))
+returns c =
+    let d = c .before .before .before .before in
+    let t = d .before .before in
+    taken (t .turned-naming .ensures) _ (sym (d .before .is-accepted .ensures) ∙ d .if1 .taken)
+    (c .wire-feed .ensures ∙ ap (λ (f : List Spot). wiringOf f (t .before .args .room)) (c .before .feed-of .ensures))
 
 returns-2 : tie.Need-returns-2
 unfolding laidIn
-returns-2 c = turned (c .before .before .before .turned-closing .ensures) _ (sym (c .before .before .is-accepted .ensures) ∙ c .before .if1 .left) (c .refused .ensures ∙ ap turnedAway (c .before .before .before .turned-closing .ensures))
+returns-2 c =
+    let d = c .before in
+    let e = d .before .before .turned-naming .ensures in
+    turned e _ (sym (d .before .is-accepted .ensures) ∙ d .if1 .left) (c .refused .ensures ∙ ap turnedAway e)
 
 pub feed-wired-spec : {M : Type 1} → statement M
 feed-wired-spec =
     tie.close
     (tie.spec
-    turned-closing-requires
+    turned-naming-requires
     is-accepted-requires
     feed-of-requires
     wire-feed-requires

@@ -20,11 +20,16 @@ no-pins-requires c κs = search needs
 
 returns : tie.Need-returns
 unfolding readingIn
-returns c = taken (c .before .before .before .turned-opening .ensures) _ (sym (c .before .before .is-accepted .ensures) ∙ c .before .if1 .taken) (c .read-map .ensures)
+returns c =
+    let d = c .before in
+    taken (d .before .before .turned-opening .ensures) _ (sym (d .before .is-accepted .ensures) ∙ d .if1 .taken) (c .read-map .ensures)
 
 returns-2 : tie.Need-returns-2
 unfolding readingIn
-returns-2 c = turned (c .before .before .before .turned-opening .ensures) _ (sym (c .before .before .is-accepted .ensures) ∙ c .before .if1 .left) (λ i. record { verdict = c .before .before .before .turned-opening .ensures i; pins = c .no-pins .ensures i })
+returns-2 c =
+    let d = c .before in
+    let e = d .before .before .turned-opening .ensures in
+    turned e _ (sym (d .before .is-accepted .ensures) ∙ d .if1 .left) (λ i. record { verdict = e i; pins = c .no-pins .ensures i })
 
 pub map-read-spec : {M : Type 1} → statement M
 map-read-spec =

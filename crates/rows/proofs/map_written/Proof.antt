@@ -7,8 +7,8 @@ use Rattle.rows.proofs.Rows.{taken, turned}
 use Rattle.rows.proofs.map_written.Statement.{statement}
 use Rattle.rows.proofs.map_written.Tie as tie
 
-turned-closing-requires : tie.Need-turned-closing-requires
-turned-closing-requires c κs = search needs
+turned-naming-requires : tie.Need-turned-naming-requires
+turned-naming-requires c κs = search needs
 
 is-accepted-requires : tie.Need-is-accepted-requires
 is-accepted-requires c κs = search needs
@@ -21,17 +21,25 @@ same-length c = search needs
 
 returns : tie.Need-returns
 unfolding writingIn bufferIn
-returns c = (taken (c .before .before .before .before .before .before .before .before .turned-closing .ensures) _ (sym (c .before .before .before .before .before .before .before .is-accepted .ensures) ∙ c .before .before .before .before .before .before .if1 .taken) (c .before .before .write-map .ensures .0), taken (c .before .before .before .before .before .before .before .before .turned-closing .ensures) _ (sym (c .before .before .before .before .before .before .before .is-accepted .ensures) ∙ c .before .before .before .before .before .before .if1 .taken) (c .before .before .write-map .ensures .1))
+returns c =
+    let w = c .before .before .write-map .ensures in
+    let d = c .before .before .before .before .before .before in
+    let e = d .before .before .turned-naming .ensures in
+    let y = sym (d .before .is-accepted .ensures) ∙ d .if1 .taken in
+    (taken e _ y (w .0), taken e _ y (w .1))
 
 returns-2 : tie.Need-returns-2
 unfolding writingIn bufferIn
-returns-2 c = (turned (c .before .before .turned-closing .ensures) _ (sym (c .before .is-accepted .ensures) ∙ c .if1 .left) (ap (λ (w : Verdict). record { verdict = w; bytes = 0 }) (c .before .before .turned-closing .ensures)), turned (c .before .before .turned-closing .ensures) _ (sym (c .before .is-accepted .ensures) ∙ c .if1 .left) refl)
+returns-2 c =
+    let e = c .before .before .turned-naming .ensures in
+    let n = sym (c .before .is-accepted .ensures) ∙ c .if1 .left in
+    (turned e _ n (ap (λ (w : Verdict). record { verdict = w; bytes = 0 }) e), turned e _ n refl)
 
 pub map-written-spec : {M : Type 1} → statement M
 map-written-spec =
     tie.close
     (tie.spec
-    turned-closing-requires
+    turned-naming-requires
     is-accepted-requires
     write-map-requires
     same-length

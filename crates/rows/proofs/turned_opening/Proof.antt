@@ -1,12 +1,21 @@
 -- `rows::turned_opening` meets its contract. Assumes nothing.
 use borrow.Author.Needs.{needs}
-use mathlib.Core.Path.{ap, sym, _∙_}
+use mathlib.Core.Path.{_≡_, ap, sym, _∙_}
 use borrow.Author.Tests.{eq-eqb, ne-eqb, le-leb, lt-leb}
-use Rattle.seats.specs.Seats.{jobAmong}
+use Rattle.seats.specs.Seats.{jobAmong, jobsIn}
 use Rattle.rows.specs.Refusals.{turnedOpening}
 use Rattle.rows.proofs.Rows.{hit, miss, empty-read}
 use Rattle.rows.proofs.turned_opening.Statement.{statement}
 use Rattle.rows.proofs.turned_opening.Tie as tie
+
+-- Where the function began, seen from after its last call.
+abbrev start : tie.After-job-among → tie.Start
+start c = c .before .before .before .before .before .before .before .before
+
+-- Whether the job is open at another seat.
+among : (c : tie.After-job-among)
+    → c .job-among .result ≡ jobAmong (start c .args .job) (jobsIn (start c .args .seats))
+among c = c .job-among .ensures ∙ ap (jobAmong (start c .args .job)) (c .before .jobs-of .ensures)
 
 returns : tie.Need-returns
 unfolding turnedOpening
@@ -22,7 +31,12 @@ returns-3 c = miss _ (c .before .before .before .before .if1 .left) (miss _ (lt-
 
 returns-4 : tie.Need-returns-4
 unfolding turnedOpening
-returns-4 c = miss _ (c .before .before .before .before .before .if1 .left) (miss _ (lt-leb _ _ (c .before .before .before .if2 .left)) (miss _ (c .before .if3 .left) (hit _ _ (eq-eqb _ _ (c .if4 .taken)))))
+returns-4 c =
+    let d = c .before .before .before in
+    miss _ (d .before .before .if1 .left)
+    (miss _ (lt-leb _ _ (d .if2 .left))
+    (miss _ (c .before .if3 .left)
+    (hit _ _ (eq-eqb _ _ (c .if4 .taken)))))
 
 jobs-of-requires : tie.Need-jobs-of-requires
 jobs-of-requires c κs = search needs
@@ -32,11 +46,28 @@ job-among-requires c κs = search needs
 
 returns-5 : tie.Need-returns-5
 unfolding turnedOpening
-returns-5 c = miss _ (c .before .before .before .before .before .before .before .before .if1 .left) (miss _ (lt-leb _ _ (c .before .before .before .before .before .before .if2 .left)) (miss _ (c .before .before .before .before .if3 .left) (miss _ (ne-eqb _ _ (c .before .before .before .if4 .left)) (hit _ _ (sym (c .before .job-among .ensures ∙ ap (jobAmong (c .before .before .before .before .before .before .before .before .before .args .job)) (c .before .before .jobs-of .ensures)) ∙ c .if5 .taken)))))
+returns-5 c =
+    let f = c .before .before .before in
+    let e = f .before in
+    let d = e .before .before in
+    miss _ (d .before .before .if1 .left)
+    (miss _ (lt-leb _ _ (d .if2 .left))
+    (miss _ (e .if3 .left)
+    (miss _ (ne-eqb _ _ (f .if4 .left))
+    (hit _ _ (sym (among (c .before)) ∙ c .if5 .taken)))))
 
 returns-6 : tie.Need-returns-6
 unfolding turnedOpening
-returns-6 c = miss _ (c .before .before .before .before .before .before .before .before .if1 .left) (miss _ (lt-leb _ _ (c .before .before .before .before .before .before .if2 .left)) (miss _ (c .before .before .before .before .if3 .left) (miss _ (ne-eqb _ _ (c .before .before .before .if4 .left)) (miss _ (sym (c .before .job-among .ensures ∙ ap (jobAmong (c .before .before .before .before .before .before .before .before .before .args .job)) (c .before .before .jobs-of .ensures)) ∙ c .if5 .left) (empty-read (c .before .before .before .before .before .before .before .before .before .args .job))))))
+returns-6 c =
+    let f = c .before .before .before in
+    let e = f .before in
+    let d = e .before .before in
+    miss _ (d .before .before .if1 .left)
+    (miss _ (lt-leb _ _ (d .if2 .left))
+    (miss _ (e .if3 .left)
+    (miss _ (ne-eqb _ _ (f .if4 .left))
+    (miss _ (sym (among (c .before)) ∙ c .if5 .left)
+    (empty-read (d .before .before .before .args .job))))))
 
 pub turned-opening-spec : {M : Type 1} → statement M
 turned-opening-spec =

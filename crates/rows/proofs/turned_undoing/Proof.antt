@@ -6,28 +6,38 @@ use borrow.Author.Tests.{eq-eqb, ne-eqb}
 use Rattle.refusal.proofs.Rows.{firstOf}
 use Rattle.rows.specs.Refusals.{turnedUndoing}
 use Rattle.rows.specs.Found.{lookAtFound}
-use Rattle.rows.proofs.Rows.{hit, miss, refused, went, closing-stops, closing-goes}
+use Rattle.rows.proofs.Rows.{hit, miss, refused, went, naming-stops, naming-goes}
 use Rattle.rows.proofs.turned_undoing.Statement.{statement}
 use Rattle.rows.proofs.turned_undoing.Tie as tie
 
-turned-closing-requires : tie.Need-turned-closing-requires
-turned-closing-requires c κs = search needs
+turned-naming-requires : tie.Need-turned-naming-requires
+turned-naming-requires c κs = search needs
 
 is-accepted-requires : tie.Need-is-accepted-requires
 is-accepted-requires c κs = search needs
 
 returns : tie.Need-returns
 unfolding firstOf turnedUndoing
-returns c = closing-stops (lookAtFound (c .before .before .before .args .found) [] 0) (c .before .before .turned-closing .ensures) _ (refused _ (c .before .is-accepted .ensures) (c .if1 .taken))
+returns c =
+    let t = c .before .before in
+    naming-stops (lookAtFound (t .before .args .found) [] 0) (t .turned-naming .ensures) _ (refused _ (c .before .is-accepted .ensures) (c .if1 .taken))
 
 returns-2 : tie.Need-returns-2
 unfolding firstOf turnedUndoing
-returns-2 c = closing-goes (lookAtFound (c .before .before .before .before .before .before .args .found) [] 0) (c .before .before .before .before .before .turned-closing .ensures) (went _ (c .before .before .before .before .is-accepted .ensures) (c .before .before .before .if1 .left)) (hit _ _ (eq-eqb _ _ (c .if2 .taken)))
+returns-2 c =
+    let d = c .before .before .before in
+    let t = d .before .before in
+    naming-goes (lookAtFound (t .before .args .found) [] 0) (t .turned-naming .ensures) (went _ (d .before .is-accepted .ensures) (d .if1 .left))
+    (hit _ _ (eq-eqb _ _ (c .if2 .taken)))
 
 returns-3 : tie.Need-returns-3
 unfolding firstOf turnedUndoing
-returns-3 c = closing-goes (lookAtFound (c .before .before .before .before .before .before .args .found) [] 0) (c .before .before .before .before .before .turned-closing .ensures) (went _ (c .before .before .before .before .is-accepted .ensures) (c .before .before .before .if1 .left)) (miss _ (ne-eqb _ _ (c .if2 .left)) refl)
+returns-3 c =
+    let d = c .before .before .before in
+    let t = d .before .before in
+    naming-goes (lookAtFound (t .before .args .found) [] 0) (t .turned-naming .ensures) (went _ (d .before .is-accepted .ensures) (d .if1 .left))
+    (miss _ (ne-eqb _ _ (c .if2 .left)) refl)
 
 pub turned-undoing-spec : {M : Type 1} → statement M
 turned-undoing-spec =
-    tie.close (tie.spec turned-closing-requires is-accepted-requires returns returns-2 returns-3)
+    tie.close (tie.spec turned-naming-requires is-accepted-requires returns returns-2 returns-3)

@@ -4,16 +4,17 @@ use mathlib.Core.Path.{_≡_, refl, sym, _∙_}
 use Prim.Native.Nat.{_≤_, _<_, _-_}
 use native.Mathlib.Omega.{arith}
 use lib.ListN.{length, drop}
+use Rattle.journal.specs.Journal.{mostSeats}
 use Rattle.seats.specs.Seats.{jobAmong}
 use Rattle.seats.proofs.Jobs.{among-hit, among-miss, among-end}
 use Rattle.seats.proofs.job_among.Statement.{statement}
 use Rattle.seats.proofs.job_among.Tie as tie
 
 abbrev Inv-loop : tie.InvT-loop
-Inv-loop job from jobs i₀ i = (i ≤ 8) × (jobAmong job (drop i₀ jobs) ≡ jobAmong job (drop i jobs))
+Inv-loop job from jobs i₀ i = (i ≤ mostSeats) × (jobAmong job (drop i₀ jobs) ≡ jobAmong job (drop i jobs))
 
 abbrev μ-loop : tie.MeasureT-loop
-μ-loop job from jobs i₀ i = 8 - i
+μ-loop job from jobs i₀ i = mostSeats - i
 
 loop-holds : tie.Need-loop-holds Inv-loop μ-loop
 loop-holds c = (omega arith, refl)
@@ -29,8 +30,9 @@ same-job-requires c κs = tt
 
 returns : tie.Need-returns Inv-loop μ-loop
 returns c =
-    let h : c .before .before .before .loop .i < length (c .before .before .before .before .args .t2) = omega arith in
-    sym (c .before .before .before .loop .inv .1 ∙ among-hit _ _ h _ (c .before .same-job .ensures) (c .if1 .taken))
+    let b = c .before .before .before in
+    let h : b .loop .i < length (b .before .args .t2) = omega arith in
+    sym (b .loop .inv .1 ∙ among-hit _ _ h _ (c .before .same-job .ensures) (c .if1 .taken))
 
 add-i : tie.Need-add-i Inv-loop μ-loop
 add-i c = omega arith
@@ -40,8 +42,9 @@ loop-less c = omega arith
 
 loop-again : tie.Need-loop-again Inv-loop μ-loop
 loop-again c =
-    let h : c .before .before .before .loop .i < length (c .before .before .before .before .args .t2) = omega arith in
-    (omega arith, c .before .before .before .loop .inv .1 ∙ among-miss _ _ h _ (c .before .same-job .ensures) (c .if1 .left))
+    let b = c .before .before .before in
+    let h : b .loop .i < length (b .before .args .t2) = omega arith in
+    (omega arith, b .loop .inv .1 ∙ among-miss _ _ h _ (c .before .same-job .ensures) (c .if1 .left))
 
 returns-2 : tie.Need-returns-2 Inv-loop μ-loop
 returns-2 c =

@@ -4,16 +4,17 @@ use mathlib.Core.Path.{_≡_, refl, sym, _∙_}
 use Prim.Native.Nat.{_≤_, _<_, _-_}
 use native.Mathlib.Omega.{arith}
 use lib.ListN.{length, drop}
+use Rattle.journal.specs.Journal.{mostSeats}
 use Rattle.seats.specs.Seats.{jobsApart}
 use Rattle.seats.proofs.Jobs.{apart-next, apart-stop, apart-end}
 use Rattle.seats.proofs.jobs_apart.Statement.{statement}
 use Rattle.seats.proofs.jobs_apart.Tie as tie
 
 abbrev Inv-loop : tie.InvT-loop
-Inv-loop jobs i₀ i = (i ≤ 8) × (jobsApart jobs ≡ jobsApart (drop i jobs))
+Inv-loop jobs i₀ i = (i ≤ mostSeats) × (jobsApart jobs ≡ jobsApart (drop i jobs))
 
 abbrev μ-loop : tie.MeasureT-loop
-μ-loop jobs i₀ i = 8 - i
+μ-loop jobs i₀ i = mostSeats - i
 
 loop-holds : tie.Need-loop-holds Inv-loop μ-loop
 loop-holds c = (omega arith, refl)
@@ -31,16 +32,24 @@ job-among-requires : tie.Need-job-among-requires Inv-loop μ-loop
 job-among-requires c κs = omega arith
 
 returns : tie.Need-returns Inv-loop μ-loop
-returns c = let h : c .before .before .before .loop .i < length (c .before .before .before .before .args .t1) = omega arith in sym (c .before .before .before .loop .inv .1 ∙ apart-stop _ _ h (c .before .job-among .ensures) (c .if1 .taken))
+returns c =
+    let b = c .before .before .before in
+    let h : b .loop .i < length (b .before .args .t1) = omega arith in
+    sym (b .loop .inv .1 ∙ apart-stop _ _ h (c .before .job-among .ensures) (c .if1 .taken))
 
 loop-less : tie.Need-loop-less Inv-loop μ-loop
 loop-less c = omega arith
 
 loop-again : tie.Need-loop-again Inv-loop μ-loop
-loop-again c = let h : c .before .before .before .loop .i < length (c .before .before .before .before .args .t1) = omega arith in (omega arith, c .before .before .before .loop .inv .1 ∙ apart-next _ _ h (c .before .job-among .ensures) (c .if1 .left))
+loop-again c =
+    let b = c .before .before .before in
+    let h : b .loop .i < length (b .before .args .t1) = omega arith in
+    (omega arith, b .loop .inv .1 ∙ apart-next _ _ h (c .before .job-among .ensures) (c .if1 .left))
 
 returns-2 : tie.Need-returns-2 Inv-loop μ-loop
-returns-2 c = let h : length (c .before .before .args .t1) ≤ c .before .loop .i = omega arith in sym (c .before .loop .inv .1 ∙ apart-end _ _ h)
+returns-2 c =
+    let h : length (c .before .before .args .t1) ≤ c .before .loop .i = omega arith in
+    sym (c .before .loop .inv .1 ∙ apart-end _ _ h)
 
 pub jobs-apart-spec : {M : Type 1} → statement M
 jobs-apart-spec =

@@ -5,16 +5,17 @@ use mathlib.Core.List.{map}
 use Prim.Native.Nat.{_≤_, _<_, _-_}
 use native.Mathlib.Omega.{arith}
 use lib.ListN.{length, take, length-set}
+use Rattle.journal.specs.Journal.{mostSeats}
 use Rattle.seats.specs.Seats.{jobOf}
 use Rattle.seats.proofs.Jobs.{jobs-next, jobs-end}
 use Rattle.seats.proofs.jobs_of.Statement.{statement}
 use Rattle.seats.proofs.jobs_of.Tie as tie
 
 abbrev Inv-loop : tie.InvT-loop
-Inv-loop seats jobs₀ i₀ jobs i = (i ≤ 8) × (length jobs ≡ 8) × (take i jobs ≡ take i (map jobOf seats))
+Inv-loop seats jobs₀ i₀ jobs i = (i ≤ mostSeats) × (length jobs ≡ mostSeats) × (take i jobs ≡ take i (map jobOf seats))
 
 abbrev μ-loop : tie.MeasureT-loop
-μ-loop seats jobs₀ i₀ jobs i = 8 - i
+μ-loop seats jobs₀ i₀ jobs i = mostSeats - i
 
 loop-holds : tie.Need-loop-holds Inv-loop μ-loop
 loop-holds c = (omega arith, refl, refl)
@@ -42,8 +43,10 @@ loop-less c = omega arith
 
 loop-again : tie.Need-loop-again Inv-loop μ-loop
 loop-again c =
-    let h : c .before .before .before .loop .i < length (c .before .before .before .before .args .t1) = omega arith in
-    (omega arith, rw length-set (omega arith), rw (c .job-of .ensures) (jobs-next (c .before .before .before .before .args .t1) _ _ (c .before .before .before .loop .inv .2) h (omega arith)))
+    let b = c .before .before .before in
+    let seats = b .before .args .t1 in
+    let h : b .loop .i < length seats = omega arith in
+    (omega arith, rw length-set (omega arith), rw (c .job-of .ensures) (jobs-next seats _ _ (b .loop .inv .2) h (omega arith)))
 
 returns : tie.Need-returns Inv-loop μ-loop
 returns c =

@@ -4,14 +4,14 @@ use Rattle.seats.proofs.Tests.{journal-over, journal-seated}
 use Rattle.seats.proofs.journal_is_sound.Statement.{statement}
 use Rattle.seats.proofs.journal_is_sound.Tie as tie
 
-returns : tie.Need-returns
-returns c = journal-over (c .before .args .journal) _ (c .if1 .taken)
-
 all-seated-requires : tie.Need-all-seated-requires
 all-seated-requires c κs = search needs
 
+returns : tie.Need-returns
+returns c = journal-seated (c .before .before .args .journal) _ (c .before .if1 .taken) (c .all-seated .ensures)
+
 returns-2 : tie.Need-returns-2
-returns-2 c = journal-seated (c .before .before .args .journal) _ (c .before .if1 .left) (c .all-seated .ensures)
+returns-2 c = journal-over (c .before .args .journal) _ (c .if1 .left)
 
 pub journal-is-sound-spec : {M : Type 1} → statement M
-journal-is-sound-spec = tie.close (tie.spec returns all-seated-requires returns-2)
+journal-is-sound-spec = tie.close (tie.spec all-seated-requires returns returns-2)

@@ -1,10 +1,16 @@
 -- `seats::undone` meets its contract. Assumes nothing.
 use borrow.Author.Needs.{needs}
+use mathlib.Core.List.{List}
 use lib.ListN.{take}
+use Rattle.drawing.specs.declared.Edit.{Edit}
 use Rattle.journal.specs.Journal.{own}
 use Rattle.seats.proofs.Found.{undo-finds}
 use Rattle.seats.proofs.undone.Statement.{statement}
 use Rattle.seats.proofs.undone.Tie as tie
+
+-- The edits of the seat.
+abbrev edits : tie.Start → List Edit
+edits s = own (s .args .seat) (take (s .args .used) (s .args .journal))
 
 count-of-requires : tie.Need-count-of-requires
 count-of-requires c κs = search needs
@@ -16,13 +22,19 @@ edit-of-requires : tie.Need-edit-of-requires
 edit-of-requires c κs = search needs
 
 take-back-requires : tie.Need-take-back-requires
-take-back-requires c κs = rw (undo-finds (own (c .before .before .before .args .seat) (take (c .before .before .before .args .used) (c .before .before .before .args .journal))) _ _ (c .before .before .count-of .ensures) (c .before .before .before .pre .1) (c .before .before .before .pre .2) (c .before .edit-of .ensures)) (c .before .before .before .pre .3)
+take-back-requires c κs =
+    let o = c .before .before in
+    let s = o .before in
+    rw (undo-finds (edits s) _ _ (o .count-of .ensures) (s .pre .1) (s .pre .2) (c .before .edit-of .ensures)) (s .pre .3)
 
 sub-t10 : tie.Need-sub-t10
 sub-t10 c = search needs
 
 returns : tie.Need-returns
-returns c = rw (c .take-back .ensures, undo-finds (own (c .before .before .before .before .args .seat) (take (c .before .before .before .before .args .used) (c .before .before .before .before .args .journal))) _ _ (c .before .before .before .count-of .ensures) (c .before .before .before .before .pre .1) (c .before .before .before .before .pre .2) (c .before .before .edit-of .ensures))
+returns c =
+    let o = c .before .before .before in
+    let s = o .before in
+    rw (c .take-back .ensures, undo-finds (edits s) _ _ (o .count-of .ensures) (s .pre .1) (s .pre .2) (c .before .before .edit-of .ensures))
 
 pub undone-spec : {M : Type 1} → statement M
 undone-spec =

@@ -6,15 +6,16 @@ use lib.ListN.{drop}
 use Rattle.shown.proofs.Lines.{count-more}
 use Rattle.shown.specs.Shown.{pinsThere}
 use Rattle.script.proofs.Steps.{spent}
+use Rattle.feed.specs.Feeds.{mostPins}
 use borrow.Author.Needs.{needs}
 use Rattle.shown.proofs.pins_there.Statement.{statement}
 use Rattle.shown.proofs.pins_there.Tie as tie
 
 abbrev Inv-loop : tie.InvT-loop
-Inv-loop feed count₀ pin₀ count pin = ((pin ≤ 32) × (count ≤ pin)) × (count + pinsThere (drop pin feed) ≡ pinsThere feed)
+Inv-loop feed count₀ pin₀ count pin = ((pin ≤ mostPins) × (count ≤ pin)) × (count + pinsThere (drop pin feed) ≡ pinsThere feed)
 
 abbrev μ-loop : tie.MeasureT-loop
-μ-loop feed count₀ pin₀ count pin = 32 - pin
+μ-loop feed count₀ pin₀ count pin = mostPins - pin
 
 loop-holds : tie.Need-loop-holds Inv-loop μ-loop
 loop-holds c = ((omega arith, omega arith), omega arith)

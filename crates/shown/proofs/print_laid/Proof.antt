@@ -43,7 +43,9 @@ returns-2 c =
     let a = c .before .before .before .before .print-wired .ensures in
     let b = c .before .before .put-runs .ensures in
     let d = c .put-legs .ensures in
-    let j = sym (c .before .before .before .before .before .before .before .before .before .is-accepted .ensures) ∙ not-false _ (c .before .before .before .before .before .before .before .before .if1 .left) in
+    let j =
+    sym (c .before .before .before .before .before .before .before .before .before .is-accepted .ensures)
+    ∙ not-false _ (c .before .before .before .before .before .before .before .before .if1 .left) in
     let h =
     line (s .out .now) (laidText (s .laid))
     (put-as (s .out .now) 0 (laid-accepted (s .laid) j)

@@ -39,7 +39,9 @@ returns-2 c =
     let w = s .wiring in
     let a = c .before .before .print-job .ensures in
     let b = c .put-runs .ensures in
-    let j = sym (c .before .before .before .before .before .before .is-accepted .ensures) ∙ not-false _ (c .before .before .before .before .before .if1 .left) in
+    let j =
+    sym (c .before .before .before .before .before .before .is-accepted .ensures)
+    ∙ not-false _ (c .before .before .before .before .before .if1 .left) in
     let h =
     line (s .out .now) (mapText (s .job) w)
     (put-as (s .out .now) 0 (map-accepted (s .job) w j)

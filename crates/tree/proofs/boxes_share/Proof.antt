@@ -20,8 +20,10 @@ returns c =
     let gb = c .before .before .before .before .before .before .before .before .before .struct-told2 .given in
     let gc = c .before .before .before .before .before .before .before .before .struct-told3 .given in
     let gd = c .before .before .before .before .before .before .before .struct-told4 .given in
-    both-arm (rw (held (a .a .x) (ga .0 .1), held (a .b .x) (gb .0 .1), held (a .c .x) (gc .0 .1), held (a .d .x) (gd .0 .1)) at (c .before .before .before .before .before .before .do-overlap .ensures))
-    (rw (held (a .a .y) (ga .1 .0 .1), held (a .b .y) (gb .1 .0 .1), held (a .c .y) (gc .1 .0 .1), held (a .d .y) (gd .1 .0 .1)) at (c .before .do-overlap2 .ensures)) (c .if1 .taken)
+    both-arm (rw (held (a .a .x) (ga .0 .1), held (a .b .x) (gb .0 .1), held (a .c .x) (gc .0 .1), held (a .d .x) (gd .0 .1))
+    at (c .before .before .before .before .before .before .do-overlap .ensures))
+    (rw (held (a .a .y) (ga .1 .0 .1), held (a .b .y) (gb .1 .0 .1), held (a .c .y) (gc .1 .0 .1), held (a .d .y) (gd .1 .0 .1))
+    at (c .before .do-overlap2 .ensures)) (c .if1 .taken)
 
 returns-2 : tie.Need-returns-2
 unfolding boxesShare
@@ -31,7 +33,8 @@ returns-2 c =
     let gb = c .before .before .before .before .before .before .before .before .before .struct-told2 .given in
     let gc = c .before .before .before .before .before .before .before .before .struct-told3 .given in
     let gd = c .before .before .before .before .before .before .before .struct-told4 .given in
-    both-stop _ (rw (held (a .a .x) (ga .0 .1), held (a .b .x) (gb .0 .1), held (a .c .x) (gc .0 .1), held (a .d .x) (gd .0 .1)) at (c .before .before .before .before .before .before .do-overlap .ensures)) (c .if1 .left)
+    both-stop _ (rw (held (a .a .x) (ga .0 .1), held (a .b .x) (gb .0 .1), held (a .c .x) (gc .0 .1), held (a .d .x) (gd .0 .1))
+    at (c .before .before .before .before .before .before .do-overlap .ensures)) (c .if1 .left)
 
 pub boxes-share-spec : {M : Type 1} → statement M
 boxes-share-spec = tie.close (tie.spec do-overlap-requires do-overlap-requires-2 returns returns-2)

@@ -19,7 +19,8 @@ returns c =
 returns-2 : tie.Need-returns-2
 returns-2 c =
     let f = c .before .before .before .fits in
-    overlap-else _ _ _ _ (rw (toZ-ofZ (f .a), toZ-ofZ (f .b), toZ-ofZ (f .c), toZ-ofZ (f .d)) at (c .before .before .is-under .ensures)) (rw (toZ-ofZ (f .a), toZ-ofZ (f .b), toZ-ofZ (f .c), toZ-ofZ (f .d)) at (c .before .is-under2 .ensures)) (c .if1 .left)
+    overlap-else _ _ _ _ (rw (toZ-ofZ (f .a), toZ-ofZ (f .b), toZ-ofZ (f .c), toZ-ofZ (f .d)) at (c .before .before .is-under .ensures))
+    (rw (toZ-ofZ (f .a), toZ-ofZ (f .b), toZ-ofZ (f .c), toZ-ofZ (f .d)) at (c .before .is-under2 .ensures)) (c .if1 .left)
 
 pub do-overlap-spec : {M : Type 1} → statement M
 do-overlap-spec = tie.close (tie.spec is-under-requires is-under-requires-2 returns returns-2)

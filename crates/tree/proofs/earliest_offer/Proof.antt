@@ -5,16 +5,17 @@ use native.Mathlib.Omega.{arith}
 use mathlib.Core.Path.{_≡_, sym, ap, _∙_}
 use Prim.Native.Nat.{_≤_, _-_}
 use lib.ListN.{drop}
+use Rattle.feed.specs.Feeds.{mostPins}
 use Rattle.tree.specs.Offers.{choiceFrom, choiceOf}
 use Rattle.tree.proofs.Loops.{choice-turn, choice-end}
 use Rattle.tree.proofs.earliest_offer.Statement.{statement}
 use Rattle.tree.proofs.earliest_offer.Tie as tie
 
 abbrev Inv-loop : tie.InvT-loop
-Inv-loop offers choice₀ pin₀ choice pin = (pin ≤ 32) × (choiceFrom choice pin (drop pin offers) ≡ choiceOf offers)
+Inv-loop offers choice₀ pin₀ choice pin = (pin ≤ mostPins) × (choiceFrom choice pin (drop pin offers) ≡ choiceOf offers)
 
 abbrev μ-loop : tie.MeasureT-loop
-μ-loop offers choice₀ pin₀ choice pin = 32 - pin
+μ-loop offers choice₀ pin₀ choice pin = mostPins - pin
 
 no-offer-requires : tie.Need-no-offer-requires Inv-loop μ-loop
 no-offer-requires c κs = search needs

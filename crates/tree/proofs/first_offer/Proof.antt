@@ -20,7 +20,8 @@ no-offer-requires-2 : tie.Need-no-offer-requires-2
 no-offer-requires-2 c κs = search needs
 
 returns-2 : tie.Need-returns-2
-returns-2 c = c .no-offer2 .ensures ∙ first-self _ _ _ _ (sym (c .before .before .before .is-there .ensures) ∙ not-false _ (c .before .before .if1 .left)) (c .before .if2 .taken)
+returns-2 c = c .no-offer2 .ensures ∙ first-self _ _ _ _ (sym (c .before .before .before .is-there .ensures)
+    ∙ not-false _ (c .before .before .if1 .left)) (c .before .if2 .taken)
 
 place-of-requires : tie.Need-place-of-requires
 place-of-requires c κs = search needs

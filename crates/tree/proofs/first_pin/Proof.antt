@@ -4,16 +4,17 @@ use native.Mathlib.Omega.{arith}
 use mathlib.Core.Path.{_≡_, refl, sym, _∙_}
 use Prim.Native.Nat.{_≤_, _-_}
 use lib.ListN.{drop}
+use Rattle.feed.specs.Feeds.{mostPins}
 use Rattle.tree.specs.Offers.{firstFrom}
 use Rattle.tree.proofs.Loops.{first-turn, first-found, first-none}
 use Rattle.tree.proofs.first_pin.Statement.{statement}
 use Rattle.tree.proofs.first_pin.Tie as tie
 
 abbrev Inv-loop : tie.InvT-loop
-Inv-loop feed pin₀ pin = (pin ≤ 32) × (firstFrom pin (drop pin feed) ≡ firstFrom 0 feed)
+Inv-loop feed pin₀ pin = (pin ≤ mostPins) × (firstFrom pin (drop pin feed) ≡ firstFrom 0 feed)
 
 abbrev μ-loop : tie.MeasureT-loop
-μ-loop feed pin₀ pin = 32 - pin
+μ-loop feed pin₀ pin = mostPins - pin
 
 loop-holds : tie.Need-loop-holds Inv-loop μ-loop
 loop-holds c = (search needs, refl)
@@ -46,7 +47,7 @@ loop-again c =
 returns-2 : tie.Need-returns-2 Inv-loop μ-loop
 returns-2 c =
     let h = c .before in
-    let e : h .loop .pin ≡ 32 = omega arith in
+    let e : h .loop .pin ≡ mostPins = omega arith in
     sym e ∙ sym (first-none (h .before .args .t1) (h .loop .pin) (omega arith)) ∙ h .loop .inv .1
 
 pub first-pin-spec : {M : Type 1} → statement M

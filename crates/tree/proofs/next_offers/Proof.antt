@@ -1,5 +1,6 @@
 -- `tree::next_offers` meets its contract: the array is filled from the front. Assumes nothing.
 use Rattle.grid.specs.declared.Place.{Place}
+use Rattle.feed.specs.Feeds.{mostPins}
 use Rattle.feed.proofs.Rules.{inside-at}
 use Rattle.tree.proofs.Filling.{next-fill, next-full}
 use borrow.Author.Needs.{needs}
@@ -12,10 +13,10 @@ use Rattle.tree.proofs.next_offers.Statement.{statement}
 use Rattle.tree.proofs.next_offers.Tie as tie
 
 abbrev Inv-loop : tie.InvT-loop
-Inv-loop near feed from offers₀ pin₀ offers pin = (pin ≤ 32) × (offers ≡ filled (nextOffers near from 0 feed offers₀) offers₀ pin)
+Inv-loop near feed from offers₀ pin₀ offers pin = (pin ≤ mostPins) × (offers ≡ filled (nextOffers near from 0 feed offers₀) offers₀ pin)
 
 abbrev μ-loop : tie.MeasureT-loop
-μ-loop near feed from offers₀ pin₀ offers pin = 32 - pin
+μ-loop near feed from offers₀ pin₀ offers pin = mostPins - pin
 
 place-at-requires : tie.Need-place-at-requires Inv-loop μ-loop
 place-at-requires c κs = search needs
@@ -54,8 +55,11 @@ loop-less c = search needs
 
 loop-again : tie.Need-loop-again Inv-loop μ-loop
 loop-again c =
-    let h = c .before .before .before .before in
-    (search needs, next-fill _ _ (h .before .before .args .t1) _ (h .loop .offers) (h .loop .pin) (omega arith) (h .loop .inv .1) _ (omega arith) (c .next-offer .ensures))
+    let h = c .before .before .before .before in (
+      search needs,
+      next-fill _ _ (h .before .before .args .t1) _ (h .loop .offers) (h .loop .pin) (omega arith) (h .loop .inv .1)
+          _ (omega arith) (c .next-offer .ensures),
+    )
 
 returns : tie.Need-returns Inv-loop μ-loop
 returns c =

@@ -6,12 +6,13 @@ use borrow.Author.Tests.{not-true, not-false}
 use Rattle.tree.proofs.Going.{Going, going-start, going-turn, going-stop, going-end}
 use Rattle.tree.proofs.take_runs.Statement.{statement}
 use Rattle.tree.proofs.take_runs.Tie as tie
+use Rattle.tree.specs.Trees.{mostRuns}
 
 abbrev Inv-loop : tie.InvT-loop
 Inv-loop feed offers₀ runs₀ count₀ offers runs count = Going feed offers₀ offers runs count
 
 abbrev μ-loop : tie.MeasureT-loop
-μ-loop feed offers₀ runs₀ count₀ offers runs count = 31 - count
+μ-loop feed offers₀ runs₀ count₀ offers runs count = mostRuns - count
 
 loop-holds : tie.Need-loop-holds Inv-loop μ-loop
 loop-holds c = going-start _ _
@@ -43,7 +44,8 @@ loop-again : tie.Need-loop-again Inv-loop μ-loop
 loop-again c =
     let d = c .before in
     let h = d .before .before .before .before .before in
-    going-turn (h .loop .inv) (d .before .before .before .earliest-offer .result) _ (d .before .before .before .earliest-offer .ensures) (not-false _ (d .if1 .left)) (omega arith) (c .next-offers .ensures)
+    going-turn (h .loop .inv) (d .before .before .before .earliest-offer .result) _ (d .before .before .before .earliest-offer .ensures)
+    (not-false _ (d .if1 .left)) (omega arith) (c .next-offers .ensures)
 
 returns-2 : tie.Need-returns-2 Inv-loop μ-loop
 returns-2 c = going-end (c .before .loop .inv) (omega arith)

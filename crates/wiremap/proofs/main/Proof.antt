@@ -6,14 +6,17 @@ use native.Mathlib.Omega.{arith}
 use borrow.Author.Needs.{needs}
 use lib.ListN.{length, replicate}
 use lib.Seq.{length-sets, length-take-le}
-use Rattle.script.specs.Text.{over, room}
+use Rattle.script.specs.Text.{over, answerBytes}
 use Rattle.mapped.specs.Mapped.{mapAnswer}
 use Rattle.wiremap.proofs.main.Statement.{statement}
 use Rattle.wiremap.proofs.main.Tie as tie
 
 -- What was printed lies within the buffer.
-within : (n : ℕ) (before after text : List ℕ) → n ≤ room → length before ≡ room → after ≡ over text before → n ≤ length after
+within : (n : ℕ) (before after text : List ℕ) → n ≤ answerBytes → length before ≡ answerBytes → after ≡ over text before → n ≤ length after
 within n before after text h k e = omega (arith, ap length e, length-sets before 0 text)
+
+window-requires : tie.Need-window-requires
+window-requires c κs = search needs
 
 slice-aggregate-read-full : tie.Need-slice-aggregate-read-full
 slice-aggregate-read-full c = search needs
@@ -31,7 +34,9 @@ map-answer-requires : tie.Need-map-answer-requires
 map-answer-requires c κs = search needs
 
 array-share-prefix-out : tie.Need-array-share-prefix-out
-array-share-prefix-out c = within (c .map-answer .result) (replicate room 0) (c .map-answer .last .1 .0) (mapAnswer _) (c .map-answer .ensures .0 .1) refl (c .map-answer .ensures .1)
+array-share-prefix-out c =
+    let m = c .map-answer in
+    within (m .result) (replicate answerBytes 0) (m .last .1 .0) (mapAnswer _) (m .ensures .0 .1) refl (m .ensures .1)
 
 slice-aggregate-write-all : tie.Need-slice-aggregate-write-all
 slice-aggregate-write-all c = sym (length-take-le _ _ (array-share-prefix-out (c .before)))
@@ -46,6 +51,7 @@ pub main-spec : {M : Type 1} → statement M
 main-spec =
     tie.close
     (tie.spec
+    window-requires
     slice-aggregate-read-full
     read-full-requires
     array-share-prefix-map

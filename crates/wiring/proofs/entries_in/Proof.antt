@@ -15,8 +15,11 @@ Inv-loop feed favoured mask runs count entries₀ at₀ entries at = (at ≤ cou
 abbrev μ-loop : tie.MeasureT-loop
 μ-loop feed favoured mask runs count entries₀ at₀ entries at = count - at
 
+no-run-requires : tie.Need-no-run-requires Inv-loop μ-loop
+no-run-requires c κs = search needs
+
 loop-holds : tie.Need-loop-holds Inv-loop μ-loop
-loop-holds c = (omega arith, entries-none _ _ _ _)
+loop-holds c = (omega arith, entries-none _ _ _ _ (c .no-run .ensures))
 
 shaped-in-requires : tie.Need-shaped-in-requires Inv-loop μ-loop
 shaped-in-requires c κs = search needs
@@ -45,6 +48,7 @@ entries-in-spec =
     (tie.spec
     Inv-loop
     μ-loop
+    no-run-requires
     loop-holds
     shaped-in-requires
     mul-entries

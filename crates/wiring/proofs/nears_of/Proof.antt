@@ -1,22 +1,22 @@
 -- `wiring::nears_of` meets its contract: the list is filled from the front. Assumes nothing.
-use mathlib.Core.Path.{refl}
+use mathlib.Core.Path.{_≡_, refl}
 use Prim.Native.Nat.{_-_}
-use Prim.Native.Nat.{ℕ}
-use lib.ListN.{take}
-use Rattle.wiring.specs.Reaching.{runAt, reachedFrom, nearsOf}
-use Rattle.wiring.proofs.Filling.{Values, values-none, values-turn, values-all}
+use Rattle.tree.specs.Trees.{mostRuns}
+use Rattle.tree.proofs.Loops.{filled, filled-none}
+use Rattle.wiring.specs.Reaching.{nearsOf}
+use Rattle.wiring.proofs.Filling.{values-turn, values-all}
 use borrow.Author.Needs.{needs}
 use Rattle.wiring.proofs.nears_of.Statement.{statement}
 use Rattle.wiring.proofs.nears_of.Tie as tie
 
 abbrev Inv-loop : tie.InvT-loop
-Inv-loop count runs nears₀ at₀ nears at = Values (λ (r : ℕ). reachedFrom 0 (take count runs) (runAt runs r .near)) 0 31 nears at
+Inv-loop count runs nears₀ at₀ nears at = nears ≡ filled (nearsOf runs count) nears₀ at
 
 abbrev μ-loop : tie.MeasureT-loop
-μ-loop count runs nears₀ at₀ nears at = 31 - at
+μ-loop count runs nears₀ at₀ nears at = mostRuns - at
 
 loop-holds : tie.Need-loop-holds Inv-loop μ-loop
-loop-holds c = values-none _ _ _ _ refl
+loop-holds c = filled-none _ _
 
 mul-run : tie.Need-mul-run Inv-loop μ-loop
 mul-run c = search needs
@@ -40,11 +40,14 @@ loop-less : tie.Need-loop-less Inv-loop μ-loop
 loop-less c = search needs
 
 loop-again : tie.Need-loop-again Inv-loop μ-loop
-loop-again c = values-turn _ _ _ _ _ _ (c .before .before .loop-test .taken) (c .reached-as .ensures) (c .before .before .before .loop .inv)
+unfolding nearsOf
+loop-again c =
+    let s = c .before .before .before in
+    values-turn _ _ _ 0 _ _ (s .loop .inv) refl _ (c .before .before .loop-test .taken) (c .reached-as .ensures)
 
 returns : tie.Need-returns Inv-loop μ-loop
 unfolding nearsOf
-returns c = values-all _ _ _ _ _ (c .loop-test .left) (c .before .loop .inv)
+returns c = values-all _ _ _ 0 _ _ (c .before .loop .inv) refl (c .loop-test .left)
 
 pub nears-of-spec : {M : Type 1} → statement M
 nears-of-spec =

@@ -28,7 +28,10 @@ add-result : tie.Need-add-result Inv-loop μ-loop
 add-result c = search needs
 
 returns : tie.Need-returns Inv-loop μ-loop
-returns c = search-hit _ _ _ _ (omega arith) (omega arith) (c .before .before .before .loop-test .taken) (c .if1 .taken) ∙ sym (c .before .before .before .before .loop .inv)
+returns c =
+    let k = c .before .before .before in
+    let s = k .before in
+    search-hit _ _ _ _ (omega arith) (omega arith) (k .loop-test .taken) (c .if1 .taken) ∙ sym (s .loop .inv)
 
 add-at : tie.Need-add-at Inv-loop μ-loop
 add-at c = search needs
@@ -37,7 +40,10 @@ loop-less : tie.Need-loop-less Inv-loop μ-loop
 loop-less c = search needs
 
 loop-again : tie.Need-loop-again Inv-loop μ-loop
-loop-again c = c .before .before .before .before .loop .inv ∙ search-miss _ _ _ _ (omega arith) (omega arith) (c .before .before .before .loop-test .taken) (c .if1 .left)
+loop-again c =
+    let k = c .before .before .before in
+    let s = k .before in
+    s .loop .inv ∙ search-miss _ _ _ _ (omega arith) (omega arith) (k .loop-test .taken) (c .if1 .left)
 
 returns-2 : tie.Need-returns-2 Inv-loop μ-loop
 returns-2 c = search-end _ _ _ _ (omega arith) (omega arith) (c .loop-test .left) ∙ sym (c .before .loop .inv)

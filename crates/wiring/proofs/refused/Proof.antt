@@ -4,12 +4,15 @@ use borrow.Author.Needs.{needs}
 use Rattle.wiring.proofs.refused.Statement.{statement}
 use Rattle.wiring.proofs.refused.Tie as tie
 
+no-run-requires : tie.Need-no-run-requires
+no-run-requires c κs = search needs
+
 no-leg-requires : tie.Need-no-leg-requires
 no-leg-requires c κs = search needs
 
 returns : tie.Need-returns
 unfolding turnedAway runEntries legEntries
-returns c = rw (c .no-leg .ensures)
+returns c = rw (c .before .no-run .ensures, c .no-leg .ensures)
 
 pub refused-spec : {M : Type 1} → statement M
-refused-spec = tie.close (tie.spec no-leg-requires returns)
+refused-spec = tie.close (tie.spec no-run-requires no-leg-requires returns)

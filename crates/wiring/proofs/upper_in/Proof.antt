@@ -7,6 +7,9 @@ use Rattle.wiring.proofs.upper_in.Tie as tie
 sub-marked : tie.Need-sub-marked
 sub-marked c = search needs
 
+sub-marked-2 : tie.Need-sub-marked-2
+sub-marked-2 c = search needs
+
 shr-marked : tie.Need-shr-marked
 shr-marked c = search needs
 
@@ -17,4 +20,4 @@ returns-2 : tie.Need-returns-2
 returns-2 c = upper-unmarked _ (c .before .args .mask) (c .before .args .run) (c .if1 .left)
 
 pub upper-in-spec : {M : Type 1} → statement M
-upper-in-spec = tie.close (tie.spec sub-marked shr-marked returns returns-2)
+upper-in-spec = tie.close (tie.spec sub-marked sub-marked-2 shr-marked returns returns-2)

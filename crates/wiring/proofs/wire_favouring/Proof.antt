@@ -16,34 +16,70 @@ refused-requires : tie.Need-refused-requires
 refused-requires c κs = search needs
 
 returns : tie.Need-returns
-returns c = c .refused .ensures ∙ wire-refused _ (omega (arith, c .before .before .before .before .good)) (c .before .before .before .before .pre .0) (c .before .before .before .before .pre .1) (c .before .before .before .before .args .favoured) (c .before .before .before .before .args .room) _ (c .before .before .before .tree-of .ensures) _ (c .before .before .is-accepted .ensures) (c .before .if1 .taken)
+returns c =
+    let s = c .before in
+    let o = s .before .before .before in
+    c .refused .ensures
+    ∙ wire-refused _ (omega (arith, o .good)) (o .pre .0) (o .pre .1) (o .args .favoured) (o .args .room)
+    _ (s .before .before .tree-of .ensures) _ (s .before .is-accepted .ensures) (s .if1 .taken)
 
-xs-of-requires : tie.Need-xs-of-requires
-xs-of-requires c κs = search needs
-
-ys-of-requires : tie.Need-ys-of-requires
-ys-of-requires c κs = search needs
+reached-of-requires : tie.Need-reached-of-requires
+reached-of-requires c κs = search needs
 
 nears-of-requires : tie.Need-nears-of-requires
-nears-of-requires c κs = count-few _ (omega (arith, c .before .before .before .before .before .before .good)) (c .before .before .before .before .before .before .pre .0) (c .before .before .before .before .before .before .pre .1) (c .before .before .before .before .before .before .args .favoured) (c .before .before .before .before .before .before .args .room) _ (c .before .before .before .before .before .tree-of .ensures) _ (c .before .before .before .before .is-accepted .ensures) (c .before .before .before .if1 .left)
+nears-of-requires c κs =
+    let s = c .before .before .before .before in
+    let o = s .before .before .before in
+    count-few _ (omega (arith, o .good)) (o .pre .0) (o .pre .1) (o .args .favoured) (o .args .room)
+    _ (s .before .before .tree-of .ensures) _ (s .before .is-accepted .ensures) (s .if1 .left)
 
 least-cost-requires : tie.Need-least-cost-requires
-least-cost-requires c κs = wire-grown _ (omega (arith, c .before .before .before .before .before .before .before .before .before .before .good)) (c .before .before .before .before .before .before .before .before .before .before .pre .0) (c .before .before .before .before .before .before .before .before .before .before .pre .1) (c .before .before .before .before .before .before .before .before .before .before .args .favoured) (c .before .before .before .before .before .before .before .before .before .before .args .room) _ (c .before .before .before .before .before .before .before .before .before .tree-of .ensures) _ (c .before .before .before .before .before .before .before .before .is-accepted .ensures) (c .before .before .before .before .before .before .before .if1 .left) _ _ _ (c .before .before .before .before .before .xs-of .ensures) (c .before .before .before .before .ys-of .ensures) (c .before .before .before .nears-of .ensures)
+least-cost-requires c κs =
+    let s = c .before .before .before .before .before .before .before .before in
+    let o = s .before .before .before in
+    wire-grown _ (omega (arith, o .good)) (o .pre .0) (o .pre .1) (o .args .favoured) (o .args .room)
+    _ (s .before .before .tree-of .ensures) _ (s .before .is-accepted .ensures) (s .if1 .left)
+    _ (c .before .before .before .before .before .before .reached-of .ensures) _ (c .before .before .before .nears-of .ensures)
 
 entries-in-requires : tie.Need-entries-in-requires
-entries-in-requires c κs = count-few _ (omega (arith, c .before .before .before .before .before .before .before .before .before .before .before .before .good)) (c .before .before .before .before .before .before .before .before .before .before .before .before .pre .0) (c .before .before .before .before .before .before .before .before .before .before .before .before .pre .1) (c .before .before .before .before .before .before .before .before .before .before .before .before .args .favoured) (c .before .before .before .before .before .before .before .before .before .before .before .before .args .room) _ (c .before .before .before .before .before .before .before .before .before .before .before .tree-of .ensures) _ (c .before .before .before .before .before .before .before .before .before .before .is-accepted .ensures) (c .before .before .before .before .before .before .before .before .before .if1 .left)
+entries-in-requires c κs =
+    let s = c .before .before .before .before .before .before .before .before .before .before in
+    let o = s .before .before .before in
+    count-few _ (omega (arith, o .good)) (o .pre .0) (o .pre .1) (o .args .favoured) (o .args .room)
+    _ (s .before .before .tree-of .ensures) _ (s .before .is-accepted .ensures) (s .if1 .left)
 
 legs-of-requires : tie.Need-legs-of-requires
-legs-of-requires c κs = count-few _ (omega (arith, c .before .before .before .before .before .before .before .before .before .before .before .before .before .good)) (c .before .before .before .before .before .before .before .before .before .before .before .before .before .pre .0) (c .before .before .before .before .before .before .before .before .before .before .before .before .before .pre .1) (c .before .before .before .before .before .before .before .before .before .before .before .before .before .args .favoured) (c .before .before .before .before .before .before .before .before .before .before .before .before .before .args .room) _ (c .before .before .before .before .before .before .before .before .before .before .before .before .tree-of .ensures) _ (c .before .before .before .before .before .before .before .before .before .before .before .is-accepted .ensures) (c .before .before .before .before .before .before .before .before .before .before .if1 .left)
+legs-of-requires c κs =
+    let s = c .before .before .before .before .before .before .before .before .before .before .before in
+    let o = s .before .before .before in
+    count-few _ (omega (arith, o .good)) (o .pre .0) (o .pre .1) (o .args .favoured) (o .args .room)
+    _ (s .before .before .tree-of .ensures) _ (s .before .is-accepted .ensures) (s .if1 .left)
 
 refused-requires-2 : tie.Need-refused-requires-2
 refused-requires-2 c κs = search needs
 
 returns-2 : tie.Need-returns-2
-returns-2 c = c .refused2 .ensures ∙ wire-room _ (omega (arith, c .before .before .before .before .before .before .before .before .before .before .before .before .before .before .before .before .before .good)) (c .before .before .before .before .before .before .before .before .before .before .before .before .before .before .before .before .before .pre .0) (c .before .before .before .before .before .before .before .before .before .before .before .before .before .before .before .before .before .pre .1) (c .before .before .before .before .before .before .before .before .before .before .before .before .before .before .before .before .before .args .favoured) (c .before .before .before .before .before .before .before .before .before .before .before .before .before .before .before .before .before .args .room) _ (c .before .before .before .before .before .before .before .before .before .before .before .before .before .before .before .before .tree-of .ensures) _ (c .before .before .before .before .before .before .before .before .before .before .before .before .before .before .before .is-accepted .ensures) (c .before .before .before .before .before .before .before .before .before .before .before .before .before .before .if1 .left) _ _ _ (c .before .before .before .before .before .before .before .before .before .before .before .before .xs-of .ensures) (c .before .before .before .before .before .before .before .before .before .before .before .ys-of .ensures) (c .before .before .before .before .before .before .before .before .before .before .nears-of .ensures) _ (c .before .before .before .before .before .before .least-cost .ensures) _ (c .before .before .before .before .entries-in .ensures) _ (c .before .before .before .legs-of .ensures) (c .before .if2 .taken)
+returns-2 c =
+    let s = c .before .before .before .before .before .before .before .before .before .before .before .before .before .before .before in
+    let o = s .before .before .before in
+    let e = c .before .before .before .before in
+    let m = e .before .before in
+    c .refused2 .ensures
+    ∙ wire-room _ (omega (arith, o .good)) (o .pre .0) (o .pre .1) (o .args .favoured) (o .args .room)
+    _ (s .before .before .tree-of .ensures) _ (s .before .is-accepted .ensures) (s .if1 .left)
+    _ (m .before .before .before .before .before .before .before .reached-of .ensures) _ (m .before .before .before .before .nears-of .ensures)
+    _ (m .least-cost .ensures) _ (e .entries-in .ensures) _ (c .before .before .before .legs-of .ensures) (c .before .if2 .taken)
 
 returns-3 : tie.Need-returns-3
-returns-3 c = wire-answer _ (omega (arith, c .before .before .before .before .before .before .before .before .before .before .before .before .before .before .before .before .before .before .good)) (c .before .before .before .before .before .before .before .before .before .before .before .before .before .before .before .before .before .before .pre .0) (c .before .before .before .before .before .before .before .before .before .before .before .before .before .before .before .before .before .before .pre .1) (c .before .before .before .before .before .before .before .before .before .before .before .before .before .before .before .before .before .before .args .favoured) (c .before .before .before .before .before .before .before .before .before .before .before .before .before .before .before .before .before .before .args .room) _ (c .before .before .before .before .before .before .before .before .before .before .before .before .before .before .before .before .before .tree-of .ensures) _ (c .before .before .before .before .before .before .before .before .before .before .before .before .before .before .before .before .is-accepted .ensures) (c .before .before .before .before .before .before .before .before .before .before .before .before .before .before .before .if1 .left) _ _ _ (c .before .before .before .before .before .before .before .before .before .before .before .before .before .xs-of .ensures) (c .before .before .before .before .before .before .before .before .before .before .before .before .ys-of .ensures) (c .before .before .before .before .before .before .before .before .before .before .before .nears-of .ensures) _ (c .before .before .before .before .before .before .before .least-cost .ensures) _ (c .before .before .before .before .before .entries-in .ensures) _ (c .before .before .before .before .legs-of .ensures) (c .before .before .if2 .left)
+returns-3 c =
+    let s = c .before .before .before .before .before .before .before .before .before .before .before .before .before .before .before .before in
+    let o = s .before .before .before in
+    let e = c .before .before .before .before .before in
+    let m = e .before .before in
+    wire-answer _ (omega (arith, o .good)) (o .pre .0) (o .pre .1) (o .args .favoured) (o .args .room)
+    _ (s .before .before .tree-of .ensures) _ (s .before .is-accepted .ensures) (s .if1 .left)
+    _ (m .before .before .before .before .before .before .before .reached-of .ensures) _ (m .before .before .before .before .nears-of .ensures)
+    _ (m .least-cost .ensures) _ (e .entries-in .ensures) _ (c .before .before .before .before .legs-of .ensures) (c .before .before .if2 .left)
 
 pub wire-favouring-spec : {M : Type 1} → statement M
 wire-favouring-spec =
@@ -53,8 +89,7 @@ wire-favouring-spec =
     is-accepted-requires
     refused-requires
     returns
-    xs-of-requires
-    ys-of-requires
+    reached-of-requires
     nears-of-requires
     least-cost-requires
     entries-in-requires

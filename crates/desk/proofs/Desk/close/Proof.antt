@@ -12,37 +12,61 @@ use Rattle.desk.proofs.Desk.close.Tie as tie
 find-requires : tie.Need-find-requires
 find-requires c κs = search needs
 
-turned-closing-requires : tie.Need-turned-closing-requires
-turned-closing-requires c κs = search needs
+turned-naming-requires : tie.Need-turned-naming-requires
+turned-naming-requires c κs = search needs
 
 is-accepted-requires : tie.Need-is-accepted-requires
 is-accepted-requires c κs = search needs
 
 freed-requires : tie.Need-freed-requires
-freed-requires c κs = used-within (c .before .before .before .before .args .self) (sound-there (c .before .before .before .before .args .self) (c .before .before .before .before .args .seat) (c .before .before .before .find .ensures) (close-there (c .before .before .before .before .args .self) (c .before .before .before .before .args .seat) (c .before .before .before .find .ensures) (c .before .before .turned-closing .ensures) (sym (c .before .is-accepted .ensures) ∙ c .if1 .taken)))
+freed-requires c κs =
+    let r = c .before .before in
+    let f = r .before in
+    let a = f .before .args in
+    let y = sym (c .before .is-accepted .ensures) ∙ c .if1 .taken in
+    used-within (a .self) (sound-there (a .self) (a .seat) (f .find .ensures) (close-there (a .self) (a .seat) (f .find .ensures) (r .turned-naming .ensures) y))
 
 closed-seat-requires : tie.Need-closed-seat-requires
 closed-seat-requires c κs = search needs
 
 with-seat-requires : tie.Need-with-seat-requires
-with-seat-requires c κs = seat-there (c .before .before .before .before .before .before .args .self) (c .before .before .before .before .before .before .args .seat) (c .before .before .before .before .before .find .ensures) (close-there (c .before .before .before .before .before .before .args .self) (c .before .before .before .before .before .before .args .seat) (c .before .before .before .before .before .find .ensures) (c .before .before .before .before .turned-closing .ensures) (sym (c .before .before .before .is-accepted .ensures) ∙ c .before .before .if1 .taken))
+with-seat-requires c κs =
+    let b = c .before .before in
+    let r = b .before .before in
+    let f = r .before in
+    let a = f .before .args in
+    let y = sym (b .before .is-accepted .ensures) ∙ b .if1 .taken in
+    seat-there (a .self) (a .seat) (f .find .ensures) (close-there (a .self) (a .seat) (f .find .ensures) (r .turned-naming .ensures) y)
 
 refused-requires : tie.Need-refused-requires
 refused-requires c κs = search needs
 
 returns : tie.Need-returns
 unfolding effect
-returns c = step-accepted (c .before .before .before .before .before .before .before .args .self) (closing (c .before .before .before .before .before .before .before .args .seat)) (close-answer (c .before .before .before .before .before .before .before .args .self) (c .before .before .before .before .before .before .before .args .seat) (c .before .before .before .before .before .before .find .ensures) (c .before .before .before .before .before .turned-closing .ensures)) (sym (c .before .before .before .before .is-accepted .ensures) ∙ c .before .before .before .if1 .taken) (c .with-seat .ensures ∙ rw (c .before .before .freed .ensures, c .before .closed-seat .ensures))
+returns c =
+    let b = c .before .before .before in
+    let r = b .before .before in
+    let f = r .before in
+    let a = f .before .args in
+    let y = sym (b .before .is-accepted .ensures) ∙ b .if1 .taken in
+    step-accepted (a .self) (closing (a .seat)) (close-answer (a .self) (a .seat) (f .find .ensures) (r .turned-naming .ensures)) y
+    (c .with-seat .ensures ∙ rw (c .before .before .freed .ensures, c .before .closed-seat .ensures))
 
 returns-2 : tie.Need-returns-2
-returns-2 c = c .refused .ensures ∙ step-refused (c .before .before .before .before .before .args .self) (closing (c .before .before .before .before .before .args .seat)) (close-answer (c .before .before .before .before .before .args .self) (c .before .before .before .before .before .args .seat) (c .before .before .before .before .find .ensures) (c .before .before .before .turned-closing .ensures)) (sym (c .before .before .is-accepted .ensures) ∙ c .before .if1 .left)
+returns-2 c =
+    let b = c .before in
+    let r = b .before .before in
+    let f = r .before in
+    let a = f .before .args in
+    let y = sym (b .before .is-accepted .ensures) ∙ b .if1 .left in
+    c .refused .ensures ∙ step-refused (a .self) (closing (a .seat)) (close-answer (a .self) (a .seat) (f .find .ensures) (r .turned-naming .ensures)) y
 
 pub close-spec : {M : Type 1} → statement M
 close-spec =
     tie.close
     (tie.spec
     find-requires
-    turned-closing-requires
+    turned-naming-requires
     is-accepted-requires
     freed-requires
     closed-seat-requires

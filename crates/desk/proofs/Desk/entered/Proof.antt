@@ -13,19 +13,29 @@ refused-requires : tie.Need-refused-requires
 refused-requires c κs = search needs
 
 returns : tie.Need-returns
-returns c = c .refused .ensures ∙ entered-full (c .before .before .before .before .args .self) (c .before .before .before .before .pre .0) (c .before .before .before .before .args .seat) (c .before .before .before .before .args .edit) (c .before .before .before .before .pre .2) (c .before .before .before .freed .ensures) (c .before .if1 .taken)
+returns c =
+    let d = c .before .before .before in
+    let s = d .before in
+    c .refused .ensures ∙ entered-full (s .args .self) (s .pre .0) (s .args .seat) (s .args .edit) (s .pre .2) (d .freed .ensures) (c .before .if1 .taken)
 
 recorded-requires : tie.Need-recorded-requires
 recorded-requires c κs = c .if1 .left
 
 edited-requires : tie.Need-edited-requires
-edited-requires c κs = (c .before .before .before .before .pre .4, rw (c .before .before .before .before .pre .2) (standing-small (c .before .before .before .before .args .self) (c .before .before .before .before .pre .0) (c .before .before .before .before .args .seat) (c .before .before .before .before .pre .1) (c .before .before .before .before .pre .3)))
+edited-requires c κs =
+    let s = c .before .before .before .before in
+    (s .pre .4, rw (s .pre .2) (standing-small (s .args .self) (s .pre .0) (s .args .seat) (s .pre .1) (s .pre .3)))
 
 with-seat-requires : tie.Need-with-seat-requires
 with-seat-requires c κs = c .before .before .before .before .before .pre .1
 
 returns-2 : tie.Need-returns-2
-returns-2 c = entered-done (c .before .before .before .before .before .before .args .self) (c .before .before .before .before .before .before .pre .0) (c .before .before .before .before .before .before .args .seat) (c .before .before .before .before .before .before .args .edit) (c .before .before .before .before .before .before .pre .2) (c .before .before .before .before .before .freed .ensures) (c .before .before .before .if1 .left) (c .before .before .recorded .ensures) (c .before .edited .ensures) (c .with-seat .ensures)
+returns-2 c =
+    let l = c .before .before .before in
+    let d = l .before .before in
+    let s = d .before in
+    entered-done (s .args .self) (s .pre .0) (s .args .seat) (s .args .edit) (s .pre .2) (d .freed .ensures) (l .if1 .left)
+    (c .before .before .recorded .ensures) (c .before .edited .ensures) (c .with-seat .ensures)
 
 pub entered-spec : {M : Type 1} → statement M
 entered-spec =

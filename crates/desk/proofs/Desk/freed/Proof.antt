@@ -8,7 +8,10 @@ compact-requires : tie.Need-compact-requires
 compact-requires c κs = search needs
 
 returns : tie.Need-returns
-returns c = freed-by (c .before .before .before .before .args .self) (c .before .before .before .before .args .seat) (c .before .before .before .before .args .keep) (c .before .before .compact .ensures)
+returns c =
+    let d = c .before .before in
+    let a = d .before .before .args in
+    freed-by (a .self) (a .seat) (a .keep) (d .compact .ensures)
 
 pub freed-spec : {M : Type 1} → statement M
 freed-spec = tie.close (tie.spec compact-requires returns)

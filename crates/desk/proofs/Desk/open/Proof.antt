@@ -21,17 +21,37 @@ open-seat-requires : tie.Need-open-seat-requires
 open-seat-requires c κs = search needs
 
 with-seat-requires : tie.Need-with-seat-requires
-with-seat-requires c κs = open-seat (c .before .before .before .before .before .before .before .before .args .self) (c .before .before .before .before .before .before .before .before .args .seat) (c .before .before .before .before .before .before .before .before .args .job) (c .before .before .before .before .before .before .before .before .args .map .now) (c .before .before .before .before .before .before .find .ensures) (c .before .before .before .before .map-read .ensures) (sym (c .before .before .before .is-accepted .ensures) ∙ c .before .before .if1 .taken)
+with-seat-requires c κs =
+    let b = c .before .before in
+    let r = b .before .before in
+    let f = r .before .before in
+    let a = f .before .before .args in
+    let y = sym (b .before .is-accepted .ensures) ∙ b .if1 .taken in
+    open-seat (a .self) (a .seat) (a .job) (a .map .now) (f .find .ensures) (r .map-read .ensures) y
 
 refused-requires : tie.Need-refused-requires
 refused-requires c κs = search needs
 
 returns : tie.Need-returns
 unfolding effect
-returns c = step-accepted (c .before .before .before .before .before .before .before .before .before .args .self) (opening (c .before .before .before .before .before .before .before .before .before .args .seat) (c .before .before .before .before .before .before .before .before .before .args .job) (c .before .before .before .before .before .before .before .before .before .args .map .now)) (open-answer (c .before .before .before .before .before .before .before .before .before .args .self) (c .before .before .before .before .before .before .before .before .before .args .seat) (c .before .before .before .before .before .before .before .before .before .args .job) (c .before .before .before .before .before .before .before .before .before .args .map .now) (c .before .before .before .before .before .before .before .find .ensures) (c .before .before .before .before .before .map-read .ensures)) (sym (c .before .before .before .before .is-accepted .ensures) ∙ c .before .before .before .if1 .taken) (c .with-seat .ensures ∙ rw (c .before .open-seat .ensures, open-read (c .before .before .before .before .before .before .before .before .before .args .self) (c .before .before .before .before .before .before .before .before .before .args .seat) (c .before .before .before .before .before .before .before .before .before .args .job) (c .before .before .before .before .before .before .before .before .before .args .map .now) (c .before .before .before .before .before .before .before .find .ensures) (c .before .before .before .before .before .map-read .ensures) (sym (c .before .before .before .before .is-accepted .ensures) ∙ c .before .before .before .if1 .taken)))
+returns c =
+    let b = c .before .before .before in
+    let r = b .before .before in
+    let f = r .before .before in
+    let a = f .before .before .args in
+    let y = sym (b .before .is-accepted .ensures) ∙ b .if1 .taken in
+    step-accepted (a .self) (opening (a .seat) (a .job) (a .map .now)) (open-answer (a .self) (a .seat) (a .job) (a .map .now) (f .find .ensures) (r .map-read .ensures)) y
+    (c .with-seat .ensures ∙ rw (c .before .open-seat .ensures, open-read (a .self) (a .seat) (a .job) (a .map .now) (f .find .ensures) (r .map-read .ensures) y))
 
 returns-2 : tie.Need-returns-2
-returns-2 c = c .refused .ensures ∙ step-refused (c .before .before .before .before .before .before .before .args .self) (opening (c .before .before .before .before .before .before .before .args .seat) (c .before .before .before .before .before .before .before .args .job) (c .before .before .before .before .before .before .before .args .map .now)) (open-answer (c .before .before .before .before .before .before .before .args .self) (c .before .before .before .before .before .before .before .args .seat) (c .before .before .before .before .before .before .before .args .job) (c .before .before .before .before .before .before .before .args .map .now) (c .before .before .before .before .before .find .ensures) (c .before .before .before .map-read .ensures)) (sym (c .before .before .is-accepted .ensures) ∙ c .before .if1 .left)
+returns-2 c =
+    let b = c .before in
+    let r = b .before .before in
+    let f = r .before .before in
+    let a = f .before .before .args in
+    let y = sym (b .before .is-accepted .ensures) ∙ b .if1 .left in
+    c .refused .ensures
+    ∙ step-refused (a .self) (opening (a .seat) (a .job) (a .map .now)) (open-answer (a .self) (a .seat) (a .job) (a .map .now) (f .find .ensures) (r .map-read .ensures)) y
 
 pub open-spec : {M : Type 1} → statement M
 open-spec =

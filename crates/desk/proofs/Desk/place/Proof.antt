@@ -3,7 +3,7 @@ use mathlib.Core.Path.{refl, sym, _∙_}
 use borrow.Author.Needs.{needs}
 use Rattle.desk.specs.Calls.{placing}
 use Rattle.desk.specs.Desk.{effect}
-use Rattle.desk.proofs.Found.{place-refused, place-room, place-there, place-number, sound-there, seat-there, same-there, open-there}
+use Rattle.desk.proofs.Found.{place-refused, place-room, place-there, place-number, edit-fits}
 use Rattle.desk.proofs.Steps.{step-refused, step-entered}
 use Rattle.desk.proofs.Desk.place.Statement.{statement}
 use Rattle.desk.proofs.Desk.place.Tie as tie
@@ -21,17 +21,41 @@ edit-placing-requires : tie.Need-edit-placing-requires
 edit-placing-requires c κs = search needs
 
 entered-requires : tie.Need-entered-requires
-entered-requires c κs = (sound-there (c .before .before .before .before .before .before .args .self) (c .before .before .before .before .before .before .args .seat) (c .before .before .before .before .before .find .ensures) (place-there (c .before .before .before .before .before .before .args .self) (c .before .before .before .before .before .before .args .seat) (c .before .before .before .before .before .find .ensures) (c .before .before .before .before .before .before .args .pin) (c .before .before .before .before .before .before .args .at) (c .before .before .before .before .turned-placing .ensures) (sym (c .before .before .before .is-accepted .ensures) ∙ c .before .before .if1 .taken)), seat-there (c .before .before .before .before .before .before .args .self) (c .before .before .before .before .before .before .args .seat) (c .before .before .before .before .before .find .ensures) (place-there (c .before .before .before .before .before .before .args .self) (c .before .before .before .before .before .before .args .seat) (c .before .before .before .before .before .find .ensures) (c .before .before .before .before .before .before .args .pin) (c .before .before .before .before .before .before .args .at) (c .before .before .before .before .turned-placing .ensures) (sym (c .before .before .before .is-accepted .ensures) ∙ c .before .before .if1 .taken)), same-there (c .before .before .before .before .before .before .args .self) (c .before .before .before .before .before .before .args .seat) (c .before .before .before .before .before .find .ensures) (place-there (c .before .before .before .before .before .before .args .self) (c .before .before .before .before .before .before .args .seat) (c .before .before .before .before .before .find .ensures) (c .before .before .before .before .before .before .args .pin) (c .before .before .before .before .before .before .args .at) (c .before .before .before .before .turned-placing .ensures) (sym (c .before .before .before .is-accepted .ensures) ∙ c .before .before .if1 .taken)), open-there (c .before .before .before .before .before .before .args .self) (c .before .before .before .before .before .before .args .seat) (c .before .before .before .before .before .find .ensures) (place-there (c .before .before .before .before .before .before .args .self) (c .before .before .before .before .before .before .args .seat) (c .before .before .before .before .before .find .ensures) (c .before .before .before .before .before .before .args .pin) (c .before .before .before .before .before .before .args .at) (c .before .before .before .before .turned-placing .ensures) (sym (c .before .before .before .is-accepted .ensures) ∙ c .before .before .if1 .taken)), rw (c .edit-placing .ensures) (place-number (c .before .before .before .before .before .before .args .self) (c .before .before .before .before .before .before .args .seat) (c .before .before .before .before .before .find .ensures) (c .before .before .before .before .before .before .args .pin) (c .before .before .before .before .before .before .args .at) (c .before .before .before .before .turned-placing .ensures) (sym (c .before .before .before .is-accepted .ensures) ∙ c .before .before .if1 .taken)))
+entered-requires c κs =
+    let b = c .before .before in
+    let r = b .before .before in
+    let f = r .before in
+    let a = f .before .args in
+    let y = sym (b .before .is-accepted .ensures) ∙ b .if1 .taken in
+    edit-fits (a .self) (a .seat) (f .find .ensures) (place-there (a .self) (a .seat) (f .find .ensures) (a .pin) (a .at) (r .turned-placing .ensures) y)
+    (rw (c .edit-placing .ensures) (place-number (a .self) (a .seat) (f .find .ensures) (a .pin) (a .at) (r .turned-placing .ensures) y))
 
 refused-requires : tie.Need-refused-requires
 refused-requires c κs = search needs
 
 returns : tie.Need-returns
 unfolding effect
-returns c = c .entered .ensures ∙ rw (c .before .edit-placing .ensures) (step-entered (c .before .before .before .before .before .before .before .args .self) (placing (c .before .before .before .before .before .before .before .args .seat) (c .before .before .before .before .before .before .before .args .pin) (c .before .before .before .before .before .before .before .args .at)) (c .before .before .before .before .before .before .before .args .seat) _ (place-room (c .before .before .before .before .before .before .before .args .self) (c .before .before .before .before .before .before .before .args .seat) (c .before .before .before .before .before .before .find .ensures) (c .before .before .before .before .before .before .before .args .pin) (c .before .before .before .before .before .before .before .args .at) (c .before .before .before .before .before .turned-placing .ensures) (sym (c .before .before .before .before .is-accepted .ensures) ∙ c .before .before .before .if1 .taken)) refl)
+returns c =
+    let b = c .before .before .before in
+    let r = b .before .before in
+    let f = r .before in
+    let a = f .before .args in
+    let y = sym (b .before .is-accepted .ensures) ∙ b .if1 .taken in
+    c .entered .ensures
+    ∙ rw (c .before .edit-placing .ensures)
+    (step-entered (a .self) (placing (a .seat) (a .pin) (a .at)) (a .seat) _
+    (place-room (a .self) (a .seat) (f .find .ensures) (a .pin) (a .at) (r .turned-placing .ensures) y) refl)
 
 returns-2 : tie.Need-returns-2
-returns-2 c = c .refused .ensures ∙ step-refused (c .before .before .before .before .before .args .self) (placing (c .before .before .before .before .before .args .seat) (c .before .before .before .before .before .args .pin) (c .before .before .before .before .before .args .at)) (place-refused (c .before .before .before .before .before .args .self) (c .before .before .before .before .before .args .seat) (c .before .before .before .before .find .ensures) (c .before .before .before .before .before .args .pin) (c .before .before .before .before .before .args .at) (c .before .before .before .turned-placing .ensures) (sym (c .before .before .is-accepted .ensures) ∙ c .before .if1 .left)) (sym (c .before .before .is-accepted .ensures) ∙ c .before .if1 .left)
+returns-2 c =
+    let b = c .before in
+    let r = b .before .before in
+    let f = r .before in
+    let a = f .before .args in
+    let y = sym (b .before .is-accepted .ensures) ∙ b .if1 .left in
+    c .refused .ensures
+    ∙ step-refused (a .self) (placing (a .seat) (a .pin) (a .at)) (place-refused (a .self) (a .seat) (f .find .ensures) (a .pin) (a .at) (r .turned-placing .ensures) y)
+    y
 
 pub place-spec : {M : Type 1} → statement M
 place-spec =

@@ -19,20 +19,47 @@ is-accepted-requires : tie.Need-is-accepted-requires
 is-accepted-requires c κs = search needs
 
 redone-requires : tie.Need-redone-requires
-redone-requires c κs = redo-fits (c .before .before .before .before .before .before .args .self) (c .before .before .before .before .before .before .args .seat) (c .before .before .before .before .before .find .ensures) (redo-there (c .before .before .before .before .before .before .args .self) (c .before .before .before .before .before .before .args .seat) (c .before .before .before .before .before .find .ensures) (c .before .before .before .turned-redoing .ensures) (sym (c .before .before .is-accepted .ensures) ∙ c .before .if1 .taken)) (redo-waits (c .before .before .before .before .before .before .args .self) (c .before .before .before .before .before .before .args .seat) (c .before .before .before .before .before .find .ensures) (c .before .before .before .turned-redoing .ensures) (sym (c .before .before .is-accepted .ensures) ∙ c .before .if1 .taken))
+redone-requires c κs =
+    let b = c .before in
+    let r = b .before .before in
+    let f = r .before .before in
+    let a = f .before .args in
+    let y = sym (b .before .is-accepted .ensures) ∙ b .if1 .taken in
+    redo-fits (a .self) (a .seat) (f .find .ensures) (redo-there (a .self) (a .seat) (f .find .ensures) (r .turned-redoing .ensures) y)
+    (redo-waits (a .self) (a .seat) (f .find .ensures) (r .turned-redoing .ensures) y)
 
 with-seat-requires : tie.Need-with-seat-requires
-with-seat-requires c κs = seat-there (c .before .before .before .before .before .before .before .args .self) (c .before .before .before .before .before .before .before .args .seat) (c .before .before .before .before .before .before .find .ensures) (redo-there (c .before .before .before .before .before .before .before .args .self) (c .before .before .before .before .before .before .before .args .seat) (c .before .before .before .before .before .before .find .ensures) (c .before .before .before .before .turned-redoing .ensures) (sym (c .before .before .before .is-accepted .ensures) ∙ c .before .before .if1 .taken))
+with-seat-requires c κs =
+    let b = c .before .before in
+    let r = b .before .before in
+    let f = r .before .before in
+    let a = f .before .args in
+    let y = sym (b .before .is-accepted .ensures) ∙ b .if1 .taken in
+    seat-there (a .self) (a .seat) (f .find .ensures) (redo-there (a .self) (a .seat) (f .find .ensures) (r .turned-redoing .ensures) y)
 
 refused-requires : tie.Need-refused-requires
 refused-requires c κs = search needs
 
 returns : tie.Need-returns
 unfolding effect
-returns c = step-accepted (c .before .before .before .before .before .before .before .before .args .self) (redoing (c .before .before .before .before .before .before .before .before .args .seat)) (redo-answer (c .before .before .before .before .before .before .before .before .args .self) (c .before .before .before .before .before .before .before .before .args .seat) (c .before .before .before .before .before .before .before .find .ensures) (c .before .before .before .before .before .turned-redoing .ensures)) (sym (c .before .before .before .before .is-accepted .ensures) ∙ c .before .before .before .if1 .taken) (c .with-seat .ensures ∙ rw (c .before .redone .ensures, same-there (c .before .before .before .before .before .before .before .before .args .self) (c .before .before .before .before .before .before .before .before .args .seat) (c .before .before .before .before .before .before .before .find .ensures) (redo-there (c .before .before .before .before .before .before .before .before .args .self) (c .before .before .before .before .before .before .before .before .args .seat) (c .before .before .before .before .before .before .before .find .ensures) (c .before .before .before .before .before .turned-redoing .ensures) (sym (c .before .before .before .before .is-accepted .ensures) ∙ c .before .before .before .if1 .taken))))
+returns c =
+    let b = c .before .before .before in
+    let r = b .before .before in
+    let f = r .before .before in
+    let a = f .before .args in
+    let y = sym (b .before .is-accepted .ensures) ∙ b .if1 .taken in
+    let n = redo-there (a .self) (a .seat) (f .find .ensures) (r .turned-redoing .ensures) y in
+    step-accepted (a .self) (redoing (a .seat)) (redo-answer (a .self) (a .seat) (f .find .ensures) (r .turned-redoing .ensures)) y
+    (c .with-seat .ensures ∙ rw (c .before .redone .ensures, same-there (a .self) (a .seat) (f .find .ensures) n))
 
 returns-2 : tie.Need-returns-2
-returns-2 c = c .refused .ensures ∙ step-refused (c .before .before .before .before .before .before .args .self) (redoing (c .before .before .before .before .before .before .args .seat)) (redo-answer (c .before .before .before .before .before .before .args .self) (c .before .before .before .before .before .before .args .seat) (c .before .before .before .before .before .find .ensures) (c .before .before .before .turned-redoing .ensures)) (sym (c .before .before .is-accepted .ensures) ∙ c .before .if1 .left)
+returns-2 c =
+    let b = c .before in
+    let r = b .before .before in
+    let f = r .before .before in
+    let a = f .before .args in
+    let y = sym (b .before .is-accepted .ensures) ∙ b .if1 .left in
+    c .refused .ensures ∙ step-refused (a .self) (redoing (a .seat)) (redo-answer (a .self) (a .seat) (f .find .ensures) (r .turned-redoing .ensures)) y
 
 pub redo-spec : {M : Type 1} → statement M
 redo-spec =

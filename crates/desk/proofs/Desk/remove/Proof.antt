@@ -3,7 +3,7 @@ use mathlib.Core.Path.{refl, sym, _∙_}
 use borrow.Author.Needs.{needs}
 use Rattle.desk.specs.Calls.{removing}
 use Rattle.desk.specs.Desk.{effect}
-use Rattle.desk.proofs.Found.{remove-refused, remove-room, remove-there, remove-number, sound-there, seat-there, same-there, open-there}
+use Rattle.desk.proofs.Found.{remove-refused, remove-room, remove-there, remove-number, same-there, edit-fits}
 use Rattle.desk.proofs.Steps.{step-refused, step-entered}
 use Rattle.desk.proofs.Desk.remove.Statement.{statement}
 use Rattle.desk.proofs.Desk.remove.Tie as tie
@@ -18,20 +18,51 @@ is-accepted-requires : tie.Need-is-accepted-requires
 is-accepted-requires c κs = search needs
 
 edit-removing-requires : tie.Need-edit-removing-requires
-edit-removing-requires c κs = remove-number (c .before .before .before .before .before .before .args .self) (c .before .before .before .before .before .before .args .seat) (c .before .before .before .before .before .find .ensures) (c .before .before .before .before .before .before .args .pin) (c .before .before .before .before .turned-removing .ensures) (sym (c .before .before .before .is-accepted .ensures) ∙ c .before .before .if1 .taken)
+edit-removing-requires c κs =
+    let b = c .before .before in
+    let r = b .before .before in
+    let f = r .before in
+    let a = f .before .args in
+    let y = sym (b .before .is-accepted .ensures) ∙ b .if1 .taken in
+    remove-number (a .self) (a .seat) (f .find .ensures) (a .pin) (r .turned-removing .ensures) y
 
 entered-requires : tie.Need-entered-requires
-entered-requires c κs = (sound-there (c .before .before .before .before .before .before .before .args .self) (c .before .before .before .before .before .before .before .args .seat) (c .before .before .before .before .before .before .find .ensures) (remove-there (c .before .before .before .before .before .before .before .args .self) (c .before .before .before .before .before .before .before .args .seat) (c .before .before .before .before .before .before .find .ensures) (c .before .before .before .before .before .before .before .args .pin) (c .before .before .before .before .before .turned-removing .ensures) (sym (c .before .before .before .before .is-accepted .ensures) ∙ c .before .before .before .if1 .taken)), seat-there (c .before .before .before .before .before .before .before .args .self) (c .before .before .before .before .before .before .before .args .seat) (c .before .before .before .before .before .before .find .ensures) (remove-there (c .before .before .before .before .before .before .before .args .self) (c .before .before .before .before .before .before .before .args .seat) (c .before .before .before .before .before .before .find .ensures) (c .before .before .before .before .before .before .before .args .pin) (c .before .before .before .before .before .turned-removing .ensures) (sym (c .before .before .before .before .is-accepted .ensures) ∙ c .before .before .before .if1 .taken)), same-there (c .before .before .before .before .before .before .before .args .self) (c .before .before .before .before .before .before .before .args .seat) (c .before .before .before .before .before .before .find .ensures) (remove-there (c .before .before .before .before .before .before .before .args .self) (c .before .before .before .before .before .before .before .args .seat) (c .before .before .before .before .before .before .find .ensures) (c .before .before .before .before .before .before .before .args .pin) (c .before .before .before .before .before .turned-removing .ensures) (sym (c .before .before .before .before .is-accepted .ensures) ∙ c .before .before .before .if1 .taken)), open-there (c .before .before .before .before .before .before .before .args .self) (c .before .before .before .before .before .before .before .args .seat) (c .before .before .before .before .before .before .find .ensures) (remove-there (c .before .before .before .before .before .before .before .args .self) (c .before .before .before .before .before .before .before .args .seat) (c .before .before .before .before .before .before .find .ensures) (c .before .before .before .before .before .before .before .args .pin) (c .before .before .before .before .before .turned-removing .ensures) (sym (c .before .before .before .before .is-accepted .ensures) ∙ c .before .before .before .if1 .taken)), rw (c .edit-removing .ensures) (remove-number (c .before .before .before .before .before .before .before .args .self) (c .before .before .before .before .before .before .before .args .seat) (c .before .before .before .before .before .before .find .ensures) (c .before .before .before .before .before .before .before .args .pin) (c .before .before .before .before .before .turned-removing .ensures) (sym (c .before .before .before .before .is-accepted .ensures) ∙ c .before .before .before .if1 .taken)))
+entered-requires c κs =
+    let b = c .before .before .before in
+    let r = b .before .before in
+    let f = r .before in
+    let a = f .before .args in
+    let y = sym (b .before .is-accepted .ensures) ∙ b .if1 .taken in
+    edit-fits (a .self) (a .seat) (f .find .ensures) (remove-there (a .self) (a .seat) (f .find .ensures) (a .pin) (r .turned-removing .ensures) y)
+    (rw (c .edit-removing .ensures) (remove-number (a .self) (a .seat) (f .find .ensures) (a .pin) (r .turned-removing .ensures) y))
 
 refused-requires : tie.Need-refused-requires
 refused-requires c κs = search needs
 
 returns : tie.Need-returns
 unfolding effect
-returns c = c .entered .ensures ∙ rw (c .before .edit-removing .ensures, same-there (c .before .before .before .before .before .before .before .before .args .self) (c .before .before .before .before .before .before .before .before .args .seat) (c .before .before .before .before .before .before .before .find .ensures) (remove-there (c .before .before .before .before .before .before .before .before .args .self) (c .before .before .before .before .before .before .before .before .args .seat) (c .before .before .before .before .before .before .before .find .ensures) (c .before .before .before .before .before .before .before .before .args .pin) (c .before .before .before .before .before .before .turned-removing .ensures) (sym (c .before .before .before .before .before .is-accepted .ensures) ∙ c .before .before .before .before .if1 .taken))) (step-entered (c .before .before .before .before .before .before .before .before .args .self) (removing (c .before .before .before .before .before .before .before .before .args .seat) (c .before .before .before .before .before .before .before .before .args .pin)) (c .before .before .before .before .before .before .before .before .args .seat) _ (remove-room (c .before .before .before .before .before .before .before .before .args .self) (c .before .before .before .before .before .before .before .before .args .seat) (c .before .before .before .before .before .before .before .find .ensures) (c .before .before .before .before .before .before .before .before .args .pin) (c .before .before .before .before .before .before .turned-removing .ensures) (sym (c .before .before .before .before .before .is-accepted .ensures) ∙ c .before .before .before .before .if1 .taken)) refl)
+returns c =
+    let b = c .before .before .before .before in
+    let r = b .before .before in
+    let f = r .before in
+    let a = f .before .args in
+    let y = sym (b .before .is-accepted .ensures) ∙ b .if1 .taken in
+    let n = remove-there (a .self) (a .seat) (f .find .ensures) (a .pin) (r .turned-removing .ensures) y in
+    c .entered .ensures
+    ∙ rw (c .before .edit-removing .ensures, same-there (a .self) (a .seat) (f .find .ensures) n)
+    (step-entered (a .self) (removing (a .seat) (a .pin)) (a .seat) _
+    (remove-room (a .self) (a .seat) (f .find .ensures) (a .pin) (r .turned-removing .ensures) y) refl)
 
 returns-2 : tie.Need-returns-2
-returns-2 c = c .refused .ensures ∙ step-refused (c .before .before .before .before .before .args .self) (removing (c .before .before .before .before .before .args .seat) (c .before .before .before .before .before .args .pin)) (remove-refused (c .before .before .before .before .before .args .self) (c .before .before .before .before .before .args .seat) (c .before .before .before .before .find .ensures) (c .before .before .before .before .before .args .pin) (c .before .before .before .turned-removing .ensures) (sym (c .before .before .is-accepted .ensures) ∙ c .before .if1 .left)) (sym (c .before .before .is-accepted .ensures) ∙ c .before .if1 .left)
+returns-2 c =
+    let b = c .before in
+    let r = b .before .before in
+    let f = r .before in
+    let a = f .before .args in
+    let y = sym (b .before .is-accepted .ensures) ∙ b .if1 .left in
+    c .refused .ensures
+    ∙ step-refused (a .self) (removing (a .seat) (a .pin)) (remove-refused (a .self) (a .seat) (f .find .ensures) (a .pin) (r .turned-removing .ensures) y)
+    y
 
 pub remove-spec : {M : Type 1} → statement M
 remove-spec =

@@ -11,7 +11,10 @@ feed-wired-requires : tie.Need-feed-wired-requires
 feed-wired-requires c κs = found-lawful (c .before .args .self) (c .before .args .seat) (c .find .ensures)
 
 returns : tie.Need-returns
-returns c = wire-laid (c .before .before .args .self) (c .before .before .args .seat) (c .before .find .ensures) (c .before .before .args .room) (c .feed-wired .ensures)
+returns c =
+    let f = c .before in
+    let a = f .before .args in
+    wire-laid (a .self) (a .seat) (f .find .ensures) (a .room) (c .feed-wired .ensures)
 
 pub wire-spec : {M : Type 1} → statement M
 wire-spec = tie.close (tie.spec find-requires feed-wired-requires returns)

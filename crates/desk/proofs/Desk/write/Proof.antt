@@ -14,7 +14,11 @@ same-length : tie.Need-same-length
 same-length c = search needs
 
 returns : tie.Need-returns
-returns c = write-done (c .before .before .before .before .before .before .args .self) (c .before .before .before .before .before .before .args .seat) (c .before .before .before .before .find .ensures) (c .before .before .before .before .before .before .args .buffer .now) (c .before .before .map-written .ensures .0) (c .before .before .map-written .ensures .1)
+returns c =
+    let w = c .before .before in
+    let f = w .before .before in
+    let a = f .before .before .args in
+    write-done (a .self) (a .seat) (f .find .ensures) (a .buffer .now) (w .map-written .ensures .0) (w .map-written .ensures .1)
 
 pub write-spec : {M : Type 1} → statement M
 write-spec = tie.close (tie.spec find-requires map-written-requires same-length returns)

@@ -49,7 +49,11 @@ put-decimal-returns : (t : ℕ) → put-decimal-lts.Need-returns (
   put-decimal-below t,
   put-decimal.Post,
 ) (put-decimal-at t) put-decimal.Post
-put-decimal-returns t c = (((put-small (c .before .args .out .now) (c .before .args .at) (c .before .args .n) (c .if1 .taken)) .0, omega arith), (put-small (c .before .args .out .now) (c .before .args .at) (c .before .args .n) (c .if1 .taken)) .1)
+put-decimal-returns t c =
+    let s = c .before .args in (
+      ((put-small (s .out .now) (s .at) (s .n) (c .if1 .taken)) .0, omega arith),
+      (put-small (s .out .now) (s .at) (s .n) (c .if1 .taken)) .1,
+    )
 
 put-decimal-put-decimal-requires : (t : ℕ) → put-decimal-lts.Need-put-decimal-requires (
   put-decimal-below t,
@@ -73,19 +77,33 @@ put-decimal-element-write-out-2 : (t : ℕ) → put-decimal-lts.Need-element-wri
   put-decimal-below t,
   put-decimal.Post,
 ) (put-decimal-at t) put-decimal.Post
-put-decimal-element-write-out-2 t c = omega (arith, c .put-decimal .ensures .0 .0, decimal-rest (c .before .before .before .args .n) (c .before .before .before .fits .n .fits))
+put-decimal-element-write-out-2 t c =
+    let s = c .before .before .before .args in
+    omega (arith, c .put-decimal .ensures .0 .0, decimal-rest (s .n) (c .before .before .before .fits .n .fits))
 
 put-decimal-add-result-2 : (t : ℕ) → put-decimal-lts.Need-add-result-2 (
   put-decimal-below t,
   put-decimal.Post,
 ) (put-decimal-at t) put-decimal.Post
-put-decimal-add-result-2 t c = omega (arith, c .put-decimal .ensures .0 .0, decimal-rest (c .before .before .before .args .n) (c .before .before .before .fits .n .fits))
+put-decimal-add-result-2 t c =
+    let s = c .before .before .before .args in
+    omega (arith, c .put-decimal .ensures .0 .0, decimal-rest (s .n) (c .before .before .before .fits .n .fits))
 
 put-decimal-returns-2 : (t : ℕ) → put-decimal-lts.Need-returns-2 (
   put-decimal-below t,
   put-decimal.Post,
 ) (put-decimal-at t) put-decimal.Post
-put-decimal-returns-2 t c = (((put-large (c .before .before .before .args .out .now) (c .before .before .before .args .at) (c .before .before .before .args .n) (c .before .before .if1 .left) (c .before .before .before .fits .n .fits) (c .put-decimal .ensures .0 .0) (c .put-decimal .ensures .1)) .0, omega (arith, c .put-decimal .ensures .0 .0, decimal-rest (c .before .before .before .args .n) (c .before .before .before .fits .n .fits))), (put-large (c .before .before .before .args .out .now) (c .before .before .before .args .at) (c .before .before .before .args .n) (c .before .before .if1 .left) (c .before .before .before .fits .n .fits) (c .put-decimal .ensures .0 .0) (c .put-decimal .ensures .1)) .1)
+put-decimal-returns-2 t c =
+    let s = c .before .before .before .args in
+    let put-decimal = c .put-decimal .ensures in (
+      (
+        (put-large (s .out .now) (s .at) (s .n) (c .before .before .if1 .left) (c .before .before .before .fits .n .fits)
+            (put-decimal .0 .0) (put-decimal .1)) .0,
+        omega (arith, put-decimal .0 .0, decimal-rest (s .n) (c .before .before .before .fits .n .fits)),
+      ),
+      (put-large (s .out .now) (s .at) (s .n) (c .before .before .if1 .left) (c .before .before .before .fits .n .fits)
+          (put-decimal .0 .0) (put-decimal .1)) .1,
+    )
 
 pub +put-decimal-spec : {M : Type 1} → statement M
 +put-decimal-spec = close μ-put-decimal λ t. put-decimal-lts.spec (

@@ -14,7 +14,10 @@ add-result : tie.Need-add-result
 add-result c = rw (flipped (c .before .args .z) (c .before .fits .z) (c .if1 .taken)) (omega arith)
 
 returns : tie.Need-returns
-returns c = rw (flipped (c .before .args .z) (c .before .fits .z) (c .if1 .taken)) (below-abs (c .before .args .z) (c .before .fits .z) (c .if1 .taken))
+returns c =
+    let s = c .before .args in
+    rw (flipped (s .z) (c .before .fits .z) (c .if1 .taken))
+    (below-abs (s .z) (c .before .fits .z) (c .if1 .taken))
 
 cast-result-2 : tie.Need-cast-result-2
 cast-result-2 c = rw (plain (c .before .args .z) (c .before .fits .z) (c .if1 .left)) (tt, omega (arith, fits-ofZ (c .before .fits .z)))

@@ -3,7 +3,7 @@ use mathlib.Core.List.{_++_}
 use native.Mathlib.Omega.{arith}
 use Rattle.script.proofs.Printing.{put-all5, line}
 use Rattle.script.specs.Text.{text}
-use Rattle.script.specs.Answers.{decimal}
+use Rattle.script.specs.Answers.{decimal, fieldsLine}
 use borrow.Author.Needs.{needs}
 use Rattle.script.proofs.answers.print_fields.Statement.{statement}
 use Rattle.script.proofs.answers.print_fields.Tie as tie
@@ -36,12 +36,12 @@ returns c =
     let f = c .put .ensures in
     let h =
     line (s .out .now)
-    ((s .a .now ++ decimal (s .k)) ++ (s .b .now ++ decimal (s .l)) ++ (s .c .now ++ decimal (s .m)) ++ (s .d .now ++ decimal (s .n)) ++ text "\n")
+    (fieldsLine (s .label1 .now) (s .number1) (s .label2 .now) (s .number2) (s .label3 .now) (s .number3) (s .label4 .now) (s .number4))
     (put-all5 (s .out .now) 0
-    (s .a .now ++ decimal (s .k))
-    (s .b .now ++ decimal (s .l))
-    (s .c .now ++ decimal (s .m))
-    (s .d .now ++ decimal (s .n))
+    (s .label1 .now ++ decimal (s .number1))
+    (s .label2 .now ++ decimal (s .number2))
+    (s .label3 .now ++ decimal (s .number3))
+    (s .label4 .now ++ decimal (s .number4))
     (text "\n")
     (a .0 .0, a .1)
     (b .0 .0, b .1)

@@ -3,6 +3,7 @@ use mathlib.Core.Path.{sym, _∙_, ap}
 use mathlib.Core.List.{_++_}
 use Prim.Native.Nat.{ℕ}
 use native.Mathlib.Omega.{arith}
+use Rattle.script.specs.Orders.{mostRoom}
 use Rattle.script.proofs.Printing.{put-as, put-all3, line, take-smaller}
 use Rattle.script.specs.Text.{text}
 use Rattle.script.specs.Answers.{field, hexPart, writtenLine}
@@ -22,10 +23,24 @@ put-field-requires : tie.Need-put-field-requires
 put-field-requires c κs = search needs
 
 slice-aggregate-put-lent : tie.Need-slice-aggregate-put-lent
-slice-aggregate-put-lent c = sym (length-take-le (c .before .before .before .before .before .smaller .result) (c .before .before .before .before .before .before .before .args .buffer .now) (omega (arith, c .before .before .before .before .before .smaller .ensures)))
+slice-aggregate-put-lent c =
+    let s = c .before .before .before .before .before .before .before .args in
+    sym
+    (length-take-le (c .before .before .before .before .before .smaller .result) (s .buffer .now)
+    (omega (arith, c .before .before .before .before .before .smaller .ensures)))
 
 put-lent-requires : tie.Need-put-lent-requires
-put-lent-requires c κs = (omega (arith, c .before .before .put-field .ensures .0 .1), omega (arith, c .before .before .before .before .before .smaller .ensures, length-take-le (c .before .before .before .before .before .smaller .result) (c .before .before .before .before .before .before .before .args .buffer .now) (omega (arith, c .before .before .before .before .before .smaller .ensures))))
+put-lent-requires c κs =
+    let s = c .before .before .before .before .before .before .before .args in
+    let smaller = c .before .before .before .before .before .smaller .ensures in (
+      omega (arith, c .before .before .put-field .ensures .0 .1),
+      omega (
+        arith,
+        smaller,
+        length-take-le (c .before .before .before .before .before .smaller .result) (s .buffer .now)
+            (omega (arith, smaller)),
+      ),
+    )
 
 slice-aggregate-put : tie.Need-slice-aggregate-put
 slice-aggregate-put c = search needs
@@ -42,13 +57,15 @@ returns c =
     let b = c .before .before .before .put-lent .ensures in
     let d = c .put .ensures in
     let h =
-    line (s .out .now) (field "0 " (s .bytes) ++ hexPart (take 1024 (s .buffer .now)) ++ text "\n")
+    line (s .out .now) (field "0 " (s .bytes) ++ hexPart (take mostRoom (s .buffer .now)) ++ text "\n")
     (put-all3 (s .out .now) 0
     (field "0 " (s .bytes))
-    (hexPart (take 1024 (s .buffer .now)))
+    (hexPart (take mostRoom (s .buffer .now)))
     (text "\n")
     (a .0 .0, a .1)
-    (put-as (c .before .before .before .before .before .before .put-field .last .0) (c .before .before .before .before .before .before .put-field .result) (ap hexPart (ap (λ (n : ℕ). take n (s .buffer .now)) n ∙ take-smaller (s .buffer .now) 1024)) (b .0 .0, b .1))
+    (put-as (c .before .before .before .before .before .before .put-field .last .0)
+    (c .before .before .before .before .before .before .put-field .result)
+    (ap hexPart (ap (λ (n : ℕ). take n (s .buffer .now)) n ∙ take-smaller (s .buffer .now) mostRoom)) (b .0 .0, b .1))
     d) in
     ((h .0, omega (arith, a .0 .1, b .0 .1, d .0)), h .1)
 

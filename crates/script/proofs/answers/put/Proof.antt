@@ -33,13 +33,24 @@ loop-less : tie.Need-loop-less Inv-loop μ-loop
 loop-less c = omega arith
 
 loop-again : tie.Need-loop-again Inv-loop μ-loop
-loop-again c = (omega arith, rw (c .before .before .loop .inv .1) ((stored-more 0 (c .before .before .before .args .bytes .now) (c .before .before .before .args .out .now) (c .before .before .before .args .at) (c .before .before .loop .i) (front 0 (c .before .before .before .args .bytes .now) (c .before .before .loop .i) (c .before .loop-test .taken))) .0))
+loop-again c =
+    let s = c .before .before .before .args in (
+      omega arith,
+      rw (c .before .before .loop .inv .1)
+          ((stored-more 0 (s .bytes .now) (s .out .now) (s .at) (c .before .before .loop .i)
+          (front 0 (s .bytes .now) (c .before .before .loop .i) (c .before .loop-test .taken))) .0),
+    )
 
 add-result : tie.Need-add-result Inv-loop μ-loop
 add-result c = omega arith
 
 returns : tie.Need-returns Inv-loop μ-loop
-returns c = (refl, c .before .loop .inv .1 ∙ ap (sets (c .before .before .args .out .now) (c .before .before .args .at)) (take-all (c .before .loop .i) (c .before .before .args .bytes .now) (c .loop-test .left)))
+returns c =
+    let s = c .before .before .args in (
+      refl,
+      c .before .loop .inv .1
+          ∙ ap (sets (s .out .now) (s .at)) (take-all (c .before .loop .i) (s .bytes .now) (c .loop-test .left)),
+    )
 
 pub put-spec : {M : Type 1} → statement M
 put-spec =

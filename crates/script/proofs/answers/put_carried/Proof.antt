@@ -24,7 +24,10 @@ returns c = rw (c .enum-told .given .1) ((omega arith, omega arith), refl)
 
 returns-2 : tie.Need-returns-2
 unfolding carriedText
-returns-2 c = rw (c .before .before .before .before .carried .given .1) ((c .put-field .ensures .0 .0, omega (arith, c .put-field .ensures .0 .1)), c .put-field .ensures .1)
+returns-2 c =
+    let put-field = c .put-field .ensures in
+    rw (c .before .before .before .before .carried .given .1)
+    ((put-field .0 .0, omega (arith, put-field .0 .1)), put-field .1)
 
 pub put-carried-spec : {M : Type 1} → statement M
 put-carried-spec =

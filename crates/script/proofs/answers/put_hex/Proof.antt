@@ -57,7 +57,14 @@ loop-less : tie.Need-loop-less Inv-loop μ-loop
 loop-less c = omega arith
 
 loop-again : tie.Need-loop-again Inv-loop μ-loop
-loop-again c = (omega arith, rw (c .before .before .before .before .loop .inv .1, c .before .hex-digit .ensures, c .hex-digit2 .ensures) (hex-more (c .before .before .before .before .before .before .args .out .now) (c .before .before .before .before .before .before .args .bytes .now) (c .before .before .before .before .before .before .args .at) (c .before .before .before .before .loop .i) (c .before .before .before .loop-test .taken)))
+loop-again c =
+    let s = c .before .before .before .before .before .before .args in (
+      omega arith,
+      rw
+          (c .before .before .before .before .loop .inv .1, c .before .hex-digit .ensures, c .hex-digit2 .ensures)
+          (hex-more (s .out .now) (s .bytes .now) (s .at) (c .before .before .before .before .loop .i)
+          (c .before .before .before .loop-test .taken)),
+    )
 
 mul-result : tie.Need-mul-result Inv-loop μ-loop
 mul-result c = omega arith
@@ -66,7 +73,13 @@ add-result : tie.Need-add-result Inv-loop μ-loop
 add-result c = omega arith
 
 returns : tie.Need-returns Inv-loop μ-loop
-returns c = ((omega (arith, hex-length (c .before .before .before .args .bytes .now)), refl), c .before .loop .inv .1 ∙ ap (λ (l : List ℕ). sets (c .before .before .before .args .out .now) (c .before .before .before .args .at) (hex l)) (take-all (c .before .loop .i) (c .before .before .before .args .bytes .now) (c .loop-test .left)))
+returns c =
+    let s = c .before .before .before .args in (
+      (omega (arith, hex-length (s .bytes .now)), refl),
+      c .before .loop .inv .1
+          ∙ ap (λ (l : List ℕ). sets (s .out .now) (s .at) (hex l))
+          (take-all (c .before .loop .i) (s .bytes .now) (c .loop-test .left)),
+    )
 
 pub put-hex-spec : {M : Type 1} → statement M
 put-hex-spec =

@@ -33,7 +33,9 @@ returns c =
     let z = c .before .magnitude .ensures ∙ ap natAbs (held (s .z) (f .sfits)) in
     let h =
     then-put (s .out .now) (s .at) (s .label .now) (integer (s .z)) (p .ensures)
-    (put-as (p .last .0) (p .result) (ap (λ (n : ℕ). text "-" ++ decimal n) z ∙ integer-below (s .z) f (c .before .before .before .before .if1 .taken)) (b .0 .0, b .1)) in
+    (put-as (p .last .0) (p .result)
+    (ap (λ (n : ℕ). text "-" ++ decimal n) z ∙ integer-below (s .z) f (c .before .before .before .before .if1 .taken))
+    (b .0 .0, b .1)) in
     ((h .0, omega (arith, p .ensures .0, b .0 .1)), h .1)
 
 magnitude-requires-2 : tie.Need-magnitude-requires-2

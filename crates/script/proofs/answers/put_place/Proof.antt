@@ -32,7 +32,8 @@ returns c =
     (s .label .now ++ integer (s .place .x))
     (text " " ++ integer (s .place .y))
     (put-as (s .out .now) (s .at) (ap (λ (z : ℤ). s .label .now ++ integer z) (held (s .place .x) (g .0 .1))) (a .0 .0, a .1))
-    (put-as (c .before .before .before .before .put-integer .last .0) (c .before .before .before .before .put-integer .result) (ap (λ (z : ℤ). text " " ++ integer z) (held (s .place .y) (g .1 .0 .1))) (b .0 .0, b .1)) in
+    (put-as (c .before .before .before .before .put-integer .last .0) (c .before .before .before .before .put-integer .result)
+    (ap (λ (z : ℤ). text " " ++ integer z) (held (s .place .y) (g .1 .0 .1))) (b .0 .0, b .1)) in
     ((h .0, omega (arith, a .0 .1, b .0 .1)), h .1)
 
 pub put-place-spec : {M : Type 1} → statement M

@@ -26,7 +26,12 @@ between-requires : tie.Need-between-requires Inv-loop μ-loop
 between-requires c κs = search needs
 
 returns : tie.Need-returns Inv-loop μ-loop
-returns c = sym (c .before .before .before .before .loop .inv .1 ∙ digits-stop (c .before .before .before .before .before .before .args .word .now) (c .before .before .before .before .loop .i) (c .before .before .before .loop-test .taken) (sym (c .before .between .ensures) ∙ not-true (c .before .between .result) (c .if1 .taken)))
+returns c =
+    sym
+    (c .before .before .before .before .loop .inv .1
+    ∙ digits-stop _ (c .before .before .before .before .loop .i)
+    (c .before .before .before .loop-test .taken)
+    (sym (c .before .between .ensures) ∙ not-true (c .before .between .result) (c .if1 .taken)))
 
 add-i : tie.Need-add-i Inv-loop μ-loop
 add-i c = omega arith
@@ -35,7 +40,13 @@ loop-less : tie.Need-loop-less Inv-loop μ-loop
 loop-less c = omega arith
 
 loop-again : tie.Need-loop-again Inv-loop μ-loop
-loop-again c = (omega arith, c .before .before .before .before .loop .inv .1 ∙ digits-next (c .before .before .before .before .before .before .args .word .now) (c .before .before .before .before .loop .i) (c .before .before .before .loop-test .taken) (sym (c .before .between .ensures) ∙ not-false (c .before .between .result) (c .if1 .left)))
+loop-again c = (
+  omega arith,
+  c .before .before .before .before .loop .inv .1
+      ∙ digits-next _ (c .before .before .before .before .loop .i)
+      (c .before .before .before .loop-test .taken)
+      (sym (c .before .between .ensures) ∙ not-false (c .before .between .result) (c .if1 .left)),
+)
 
 returns-2 : tie.Need-returns-2 Inv-loop μ-loop
 returns-2 c = sym (c .before .loop .inv .1 ∙ digits-end (c .before .before .before .args .word .now) (c .before .loop .i) (c .loop-test .left))

@@ -29,7 +29,12 @@ is-hex-requires : tie.Need-is-hex-requires Inv-loop μ-loop
 is-hex-requires c κs = search needs
 
 returns : tie.Need-returns Inv-loop μ-loop
-returns c = sym (c .before .before .before .before .loop .inv .1 ∙ pairs-stop (c .before .before .before .before .before .before .args .word .now) (c .before .before .before .before .loop .i) (c .before .before .before .loop-test .taken) (sym (c .before .is-hex .ensures) ∙ not-true (c .before .is-hex .result) (c .if1 .taken)))
+returns c =
+    sym
+    (c .before .before .before .before .loop .inv .1
+    ∙ pairs-stop _ (c .before .before .before .before .loop .i)
+    (c .before .before .before .loop-test .taken)
+    (sym (c .before .is-hex .ensures) ∙ not-true (c .before .is-hex .result) (c .if1 .taken)))
 
 add-is-hex : tie.Need-add-is-hex Inv-loop μ-loop
 add-is-hex c = omega arith
@@ -41,7 +46,16 @@ is-hex-requires-2 : tie.Need-is-hex-requires-2 Inv-loop μ-loop
 is-hex-requires-2 c κs = search needs
 
 returns-2 : tie.Need-returns-2 Inv-loop μ-loop
-returns-2 c = sym (c .before .before .before .before .before .before .before .loop .inv .1 ∙ pairs-stop-2 (c .before .before .before .before .before .before .before .before .before .args .word .now) (c .before .before .before .before .before .before .before .loop .i) (c .before .before .before .before .before .before .loop-test .taken) (sym (c .before .before .before .before .is-hex .ensures) ∙ not-false (c .before .before .before .before .is-hex .result) (c .before .before .before .if1 .left)) (sym (c .before .is-hex2 .ensures) ∙ not-true (c .before .is-hex2 .result) (c .if2 .taken)))
+returns-2 c =
+    let inv = c .before .before .before .before .before .before .before .loop .inv in
+    let i = c .before .before .before .before .before .before .before .loop .i in
+    let more = c .before .before .before .before .before .before .loop-test .taken in
+    sym
+    (inv .1
+    ∙ pairs-stop-2 _ i more
+    (sym (c .before .before .before .before .is-hex .ensures)
+    ∙ not-false (c .before .before .before .before .is-hex .result) (c .before .before .before .if1 .left))
+    (sym (c .before .is-hex2 .ensures) ∙ not-true (c .before .is-hex2 .result) (c .if2 .taken)))
 
 add-i : tie.Need-add-i Inv-loop μ-loop
 add-i c = omega arith
@@ -50,10 +64,22 @@ loop-less : tie.Need-loop-less Inv-loop μ-loop
 loop-less c = omega arith
 
 loop-again : tie.Need-loop-again Inv-loop μ-loop
-loop-again c = (omega arith, c .before .before .before .before .before .before .before .loop .inv .1 ∙ pairs-next (c .before .before .before .before .before .before .before .before .before .args .word .now) (c .before .before .before .before .before .before .before .loop .i) (c .before .before .before .before .before .before .loop-test .taken) (sym (c .before .before .before .before .is-hex .ensures) ∙ not-false (c .before .before .before .before .is-hex .result) (c .before .before .before .if1 .left)) (sym (c .before .is-hex2 .ensures) ∙ not-false (c .before .is-hex2 .result) (c .if2 .left)))
+loop-again c =
+    let inv = c .before .before .before .before .before .before .before .loop .inv in
+    let i = c .before .before .before .before .before .before .before .loop .i in
+    let more = c .before .before .before .before .before .before .loop-test .taken in (
+      omega arith,
+      inv .1
+          ∙ pairs-next _ i more
+          (sym (c .before .before .before .before .is-hex .ensures)
+          ∙ not-false (c .before .before .before .before .is-hex .result) (c .before .before .before .if1 .left))
+          (sym (c .before .is-hex2 .ensures) ∙ not-false (c .before .is-hex2 .result) (c .if2 .left)),
+    )
 
 returns-3 : tie.Need-returns-3 Inv-loop μ-loop
-returns-3 c = pairs-end (c .before .before .before .args .word .now) (c .before .loop .i) (c .loop-test .left) (c .before .loop .inv .0) ∙ sym (c .before .loop .inv .1)
+returns-3 c =
+    pairs-end _ (c .before .loop .i) (c .loop-test .left) (c .before .loop .inv .0)
+    ∙ sym (c .before .loop .inv .1)
 
 pub all-pairs-spec : {M : Type 1} → statement M
 all-pairs-spec =

@@ -1,9 +1,7 @@
 -- `script::fill_list` meets its contract. Assumes nothing.
+use Rattle.script.proofs.Steps.{over-none, over-as}
 use Rattle.script.proofs.Values.{listed-length, list-row, listed-none, listed-row}
-use mathlib.Core.List.{List}
-use lib.IntN.{ℤ}
 use lib.ListN.{length}
-use Rattle.script.specs.Text.{over}
 use mathlib.Core.Path.{sym, _∙_, ap}
 use borrow.Author.Needs.{needs}
 use Rattle.script.proofs.numbers.fill_list.Statement.{statement}
@@ -16,13 +14,19 @@ same-requires : tie.Need-same-requires
 same-requires c κs = search needs
 
 returns : tie.Need-returns
-returns c = (ap length (listed-none (c .before .before .before .before .args .word .now) (sym (c .before .same .ensures) ∙ c .if1 .taken)), ap (λ (l : List ℤ). over l (c .before .before .before .before .args .values .now)) (listed-none (c .before .before .before .before .args .word .now) (sym (c .before .same .ensures) ∙ c .if1 .taken)))
+returns c =
+    let none = listed-none _ (sym (c .before .same .ensures) ∙ c .if1 .taken) in
+    (ap length none, over-none none)
 
 fill-row-requires : tie.Need-fill-row-requires
-fill-row-requires c κs = list-row (c .before .before .before .before .before .args .word .now) (sym (c .before .before .same .ensures) ∙ c .before .if1 .left) ∙ c .before .before .before .before .before .pre
+fill-row-requires c κs =
+    list-row _ (sym (c .before .before .same .ensures) ∙ c .before .if1 .left)
+    ∙ c .before .before .before .before .before .pre
 
 returns-2 : tie.Need-returns-2
-returns-2 c = (c .fill-row .ensures .0 ∙ listed-length (c .before .before .before .before .before .before .args .word .now) (sym (c .before .before .before .same .ensures) ∙ c .before .before .if1 .left), c .fill-row .ensures .1 ∙ ap (λ (l : List ℤ). over l (c .before .before .before .before .before .before .args .values .now)) (listed-row (c .before .before .before .before .before .before .args .word .now) (sym (c .before .before .before .same .ensures) ∙ c .before .before .if1 .left)))
+returns-2 c =
+    let row = sym (c .before .before .before .same .ensures) ∙ c .before .before .if1 .left in
+    (c .fill-row .ensures .0 ∙ listed-length _ row, over-as _ (listed-row _ row) (c .fill-row .ensures .1))
 
 pub fill-list-spec : {M : Type 1} → statement M
 fill-list-spec =

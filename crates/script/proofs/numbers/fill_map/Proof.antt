@@ -54,10 +54,26 @@ loop-less : tie.Need-loop-less Inv-loop μ-loop
 loop-less c = omega arith
 
 loop-again : tie.Need-loop-again Inv-loop μ-loop
-loop-again c = (omega arith, omega (arith, (fill-more 0 (bytesOf (c .before .before .before .before .before .before .args .word .now)) (c .before .before .before .before .before .before .args .map .now) (c .before .before .before .before .loop .at) (bytes-next (c .before .before .before .before .before .before .args .word .now) (c .before .before .before .before .loop .at) (c .before .before .before .loop-test .taken))) .1), rw (c .before .before .before .before .loop .inv .2, c .joined .ensures) ((fill-more 0 (bytesOf (c .before .before .before .before .before .before .args .word .now)) (c .before .before .before .before .before .before .args .map .now) (c .before .before .before .before .loop .at) (bytes-next (c .before .before .before .before .before .before .args .word .now) (c .before .before .before .before .loop .at) (c .before .before .before .loop-test .taken))) .0))
+loop-again c =
+    let s = c .before .before .before .before .before .before .args in
+    let at = c .before .before .before .before .loop .at in
+    let more = c .before .before .before .loop-test .taken in (
+      omega arith,
+      omega
+          (arith, (fill-more 0 (bytesOf (s .word .now)) (s .map .now) at (bytes-next (s .word .now) at more)) .1),
+      rw (c .before .before .before .before .loop .inv .2, c .joined .ensures)
+          ((fill-more 0 (bytesOf (s .word .now)) (s .map .now) at (bytes-next (s .word .now) at more)) .0),
+    )
 
 returns : tie.Need-returns Inv-loop μ-loop
-returns c = ((fill-done (bytesOf (c .before .before .before .args .word .now)) (c .before .before .before .args .map .now) (c .before .loop .at) (c .before .loop .inv .1) (bytes-end (c .before .before .before .args .word .now) (c .before .loop .at) (c .loop-test .left))) .0, c .before .loop .inv .2 ∙ (fill-done (bytesOf (c .before .before .before .args .word .now)) (c .before .before .before .args .map .now) (c .before .loop .at) (c .before .loop .inv .1) (bytes-end (c .before .before .before .args .word .now) (c .before .loop .at) (c .loop-test .left))) .1)
+returns c =
+    let s = c .before .before .before .args in
+    let at = c .before .loop .at in
+    let inv = c .before .loop .inv in (
+      (fill-done (bytesOf (s .word .now)) (s .map .now) at (inv .1) (bytes-end (s .word .now) at (c .loop-test .left))) .0,
+      inv .2
+          ∙ (fill-done (bytesOf (s .word .now)) (s .map .now) at (inv .1) (bytes-end (s .word .now) at (c .loop-test .left))) .1,
+    )
 
 pub fill-map-spec : {M : Type 1} → statement M
 fill-map-spec =

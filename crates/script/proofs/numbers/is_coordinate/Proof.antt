@@ -15,10 +15,14 @@ enum-told-2 : tie.Need-enum-told-2
 enum-told-2 c = search needs
 
 returns : tie.Need-returns
-returns c = sym (coordinate-read (c .before .before .before .before .args .word .now) (sym (c .enum-told .given .1) ∙ c .before .before .coordinate .ensures) .0)
+returns c =
+    sym
+    (coordinate-read _ (sym (c .enum-told .given .1) ∙ c .before .before .coordinate .ensures) .0)
 
 returns-2 : tie.Need-returns-2
-returns-2 c = sym (coordinate-unread (c .before .before .before .before .args .word .now) (sym (c .enum-told2 .given .1) ∙ c .before .before .coordinate .ensures))
+returns-2 c =
+    sym
+    (coordinate-unread _ (sym (c .enum-told2 .given .1) ∙ c .before .before .coordinate .ensures))
 
 pub is-coordinate-spec : {M : Type 1} → statement M
 is-coordinate-spec =

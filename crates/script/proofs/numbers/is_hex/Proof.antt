@@ -15,13 +15,21 @@ between-requires-2 : tie.Need-between-requires-2
 between-requires-2 c κs = search needs
 
 returns-2 : tie.Need-returns-2
-returns-2 c = hex-yes-2 (c .before .before .before .before .args .b) (sym (c .before .before .before .between .ensures) ∙ c .before .before .if1 .left) (sym (c .before .between2 .ensures) ∙ c .if2 .taken)
+returns-2 c =
+    let s = c .before .before .before .before .args in
+    hex-yes-2 (s .b) (sym (c .before .before .before .between .ensures) ∙ c .before .before .if1 .left)
+    (sym (c .before .between2 .ensures) ∙ c .if2 .taken)
 
 between-requires-3 : tie.Need-between-requires-3
 between-requires-3 c κs = search needs
 
 returns-3 : tie.Need-returns-3
-returns-3 c = c .between3 .ensures ∙ hex-last (c .before .before .before .before .before .args .b) (sym (c .before .before .before .before .between .ensures) ∙ c .before .before .before .if1 .left) (sym (c .before .before .between2 .ensures) ∙ c .before .if2 .left)
+returns-3 c =
+    let s = c .before .before .before .before .before .args in
+    c .between3 .ensures
+    ∙ hex-last (s .b)
+    (sym (c .before .before .before .before .between .ensures) ∙ c .before .before .before .if1 .left)
+    (sym (c .before .before .between2 .ensures) ∙ c .before .if2 .left)
 
 pub is-hex-spec : {M : Type 1} → statement M
 is-hex-spec =

@@ -11,15 +11,16 @@ slice-aggregate-same c = search needs
 same-requires : tie.Need-same-requires
 same-requires c κs = search needs
 
-returns : tie.Need-returns
-returns c = list-none (c .before .before .before .before .args .word .now) (sym (c .before .same .ensures) ∙ c .if1 .taken)
-
 is-row-requires : tie.Need-is-row-requires
 is-row-requires c κs = search needs
 
+returns : tie.Need-returns
+returns c = c .if1 .taken ∙ list-none _ (sym (c .before .same .ensures) ∙ c .if1 .taken)
+
 returns-2 : tie.Need-returns-2
-returns-2 c = c .is-row .ensures ∙ list-row (c .before .before .before .before .before .args .word .now) (sym (c .before .before .same .ensures) ∙ c .before .if1 .left)
+returns-2 c =
+    c .is-row .ensures ∙ list-row _ (sym (c .before .before .same .ensures) ∙ c .before .if1 .left)
 
 pub is-list-spec : {M : Type 1} → statement M
 is-list-spec =
-    tie.close (tie.spec slice-aggregate-same same-requires returns is-row-requires returns-2)
+    tie.close (tie.spec slice-aggregate-same same-requires is-row-requires returns returns-2)

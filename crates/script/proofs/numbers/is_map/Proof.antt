@@ -15,16 +15,23 @@ returns : tie.Need-returns
 returns c = map-none (c .before .before .before .before .args .word .now) (sym (c .before .same .ensures) ∙ c .if1 .taken)
 
 returns-2 : tie.Need-returns-2
-returns-2 c = map-empty (c .before .before .before .before .before .args .word .now) (sym (c .before .before .same .ensures) ∙ c .before .if1 .left) (c .if2 .taken)
+returns-2 c =
+    map-empty _ (sym (c .before .before .same .ensures) ∙ c .before .if1 .left) (c .if2 .taken)
 
 returns-3 : tie.Need-returns-3
-returns-3 c = map-long (c .before .before .before .before .before .before .args .word .now) (sym (c .before .before .before .same .ensures) ∙ c .before .before .if1 .left) (c .if3 .taken)
+returns-3 c =
+    map-long _ (sym (c .before .before .before .same .ensures) ∙ c .before .before .if1 .left)
+    (c .if3 .taken)
 
 all-pairs-requires : tie.Need-all-pairs-requires
 all-pairs-requires c κs = search needs
 
 returns-4 : tie.Need-returns-4
-returns-4 c = c .all-pairs .ensures ∙ map-pairs (c .before .before .before .before .before .before .before .args .word .now) (sym (c .before .before .before .before .same .ensures) ∙ c .before .before .before .if1 .left) (c .before .before .if2 .left) (c .before .if3 .left)
+returns-4 c =
+    c .all-pairs .ensures
+    ∙ map-pairs _
+    (sym (c .before .before .before .before .same .ensures) ∙ c .before .before .before .if1 .left)
+    (c .before .before .if2 .left) (c .before .if3 .left)
 
 pub is-map-spec : {M : Type 1} → statement M
 is-map-spec =

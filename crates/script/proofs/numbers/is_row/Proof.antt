@@ -1,4 +1,5 @@
 -- `script::is_row` meets its contract. Assumes nothing.
+use Rattle.script.specs.Words.{comma}
 use Rattle.script.proofs.Values.{row-bad, row-good, rowLeft, judged, row-end, judged-start, judged-end}
 use mathlib.Core.Path.{_≡_, sym, _∙_, ap}
 use Prim.Native.Nat.{_≤_, _-_, _+_}
@@ -24,34 +25,75 @@ stop-at-requires : tie.Need-stop-at-requires Inv-loop μ-loop
 stop-at-requires c κs = omega arith
 
 sub-is-coordinate : tie.Need-sub-is-coordinate Inv-loop μ-loop
-sub-is-coordinate c = omega (arith, c .stop-at .ensures, stop-from 44 (c .before .before .before .before .args .word .now) (c .before .before .loop .at))
+sub-is-coordinate c =
+    let s = c .before .before .before .before .args in
+    omega (arith, c .stop-at .ensures, stop-from comma (s .word .now) (c .before .before .loop .at))
 
 part-is-coordinate-start : tie.Need-part-is-coordinate-start Inv-loop μ-loop
-part-is-coordinate-start c = omega (arith, c .stop-at .ensures, stop-from 44 (c .before .before .before .before .args .word .now) (c .before .before .loop .at))
+part-is-coordinate-start c =
+    let s = c .before .before .before .before .args in
+    omega (arith, c .stop-at .ensures, stop-from comma (s .word .now) (c .before .before .loop .at))
 
 part-is-coordinate-end : tie.Need-part-is-coordinate-end Inv-loop μ-loop
-part-is-coordinate-end c = omega (arith, c .stop-at .ensures, stop-within 44 (c .before .before .before .before .args .word .now) (c .before .before .loop .at) (omega arith))
+part-is-coordinate-end c =
+    let s = c .before .before .before .before .args in
+    omega
+    (arith, c .stop-at .ensures, stop-within comma (s .word .now) (c .before .before .loop .at) (omega arith))
 
 is-coordinate-requires : tie.Need-is-coordinate-requires Inv-loop μ-loop
 is-coordinate-requires c κs = search needs
 
 returns : tie.Need-returns Inv-loop μ-loop
-returns c = sym (c .before .before .before .before .before .loop .inv .2 ∙ row-bad (c .before .before .before .before .before .before .before .args .word .now) (c .before .before .before .before .before .loop .at) (c .before .before .before .stop-at .result) (c .before .before .before .before .loop-test .taken) (c .before .before .before .stop-at .ensures) (c .before .before .before .before .before .loop .count) (sym (c .before .is-coordinate .ensures) ∙ not-true (c .before .is-coordinate .result) (c .if1 .taken)))
+returns c =
+    sym
+    (c .before .before .before .before .before .loop .inv .2
+    ∙ row-bad _ (c .before .before .before .before .before .loop .at)
+    (c .before .before .before .stop-at .result) (c .before .before .before .before .loop-test .taken)
+    (c .before .before .before .stop-at .ensures) (c .before .before .before .before .before .loop .count)
+    (sym (c .before .is-coordinate .ensures) ∙ not-true (c .before .is-coordinate .result) (c .if1 .taken)))
 
 add-count : tie.Need-add-count Inv-loop μ-loop
 add-count c = omega arith
 
 add-at : tie.Need-add-at Inv-loop μ-loop
-add-at c = omega (arith, c .before .before .before .stop-at .ensures, stop-within 44 (c .before .before .before .before .before .before .before .args .word .now) (c .before .before .before .before .before .loop .at) (omega arith))
+add-at c =
+    let s = c .before .before .before .before .before .before .before .args in
+    omega (
+      arith,
+      c .before .before .before .stop-at .ensures,
+      stop-within comma (s .word .now) (c .before .before .before .before .before .loop .at) (omega arith),
+    )
 
 loop-less : tie.Need-loop-less Inv-loop μ-loop
-loop-less c = omega (arith, c .before .before .before .stop-at .ensures, stop-from 44 (c .before .before .before .before .before .before .before .args .word .now) (c .before .before .before .before .before .loop .at))
+loop-less c =
+    let s = c .before .before .before .before .before .before .before .args in
+    omega (
+      arith,
+      c .before .before .before .stop-at .ensures,
+      stop-from comma (s .word .now) (c .before .before .before .before .before .loop .at),
+    )
 
 loop-again : tie.Need-loop-again Inv-loop μ-loop
-loop-again c = (omega (arith, c .before .before .before .stop-at .ensures, stop-within 44 (c .before .before .before .before .before .before .before .args .word .now) (c .before .before .before .before .before .loop .at) (omega arith)), omega (arith, c .before .before .before .stop-at .ensures, stop-from 44 (c .before .before .before .before .before .before .before .args .word .now) (c .before .before .before .before .before .loop .at)), c .before .before .before .before .before .loop .inv .2 ∙ row-good (c .before .before .before .before .before .before .before .args .word .now) (c .before .before .before .before .before .loop .at) (c .before .before .before .stop-at .result) (c .before .before .before .before .loop-test .taken) (c .before .before .before .stop-at .ensures) (c .before .before .before .before .before .loop .count) (sym (c .before .is-coordinate .ensures) ∙ not-false (c .before .is-coordinate .result) (c .if1 .left)))
+loop-again c =
+    let s = c .before .before .before .before .before .before .before .args in
+    let at = c .before .before .before .before .before .loop .at in
+    let stop-at = c .before .before .before .stop-at .ensures in (
+      omega (arith, stop-at, stop-within comma (s .word .now) at (omega arith)),
+      omega (arith, stop-at, stop-from comma (s .word .now) at),
+      c .before .before .before .before .before .loop .inv .2
+          ∙ row-good (s .word .now) at (c .before .before .before .stop-at .result)
+          (c .before .before .before .before .loop-test .taken) stop-at
+          (c .before .before .before .before .before .loop .count)
+          (sym (c .before .is-coordinate .ensures) ∙ not-false (c .before .is-coordinate .result) (c .if1 .left)),
+    )
 
 returns-2 : tie.Need-returns-2 Inv-loop μ-loop
-returns-2 c = judged-end (c .before .loop .count) ∙ sym (c .before .loop .inv .2 ∙ ap (judged (c .before .loop .count)) (row-end (c .before .before .before .args .word .now) (c .before .loop .at) (c .loop-test .left)))
+returns-2 c =
+    judged-end (c .before .loop .count)
+    ∙ sym
+    (c .before .loop .inv .2
+    ∙ ap (judged (c .before .loop .count))
+    (row-end _ (c .before .loop .at) (c .loop-test .left)))
 
 pub is-row-spec : {M : Type 1} → statement M
 is-row-spec =

@@ -22,10 +22,17 @@ clash : {t : Bool} → t ≡ false → t ≡ true → ⊥
 clash p q = let z : _≡_ {A = ℕ} 0 1 = cc in omega arith
 
 returns : tie.Need-returns
-returns c = held (c .before .z .given .0 .0) (c .known-told .given .0 .1) ∙ coordinate-read (c .before .before .before .before .before .args .word .now) (sym (c .before .z .given .1) ∙ c .before .before .before .coordinate .ensures) .1
+returns c =
+    held (c .before .z .given .0 .0) (c .known-told .given .0 .1)
+    ∙ coordinate-read _
+    (sym (c .before .z .given .1) ∙ c .before .before .before .coordinate .ensures) .1
 
 returns-2 : tie.Need-returns-2
-returns-2 c = absurd (clash (coordinate-unread (c .before .before .before .before .args .word .now) (sym (c .enum-told .given .1) ∙ c .before .before .coordinate .ensures)) (c .before .before .before .before .pre))
+returns-2 c =
+    absurd
+    (clash
+    (coordinate-unread _ (sym (c .enum-told .given .1) ∙ c .before .before .coordinate .ensures))
+    (c .before .before .before .before .pre))
 
 pub signed-of-spec : {M : Type 1} → statement M
 signed-of-spec = tie.close (tie.spec coordinate-requires enum-known-z enum-told returns returns-2)

@@ -30,10 +30,20 @@ loop-less : tie.Need-loop-less Inv-loop μ-loop
 loop-less c = omega arith
 
 loop-again : tie.Need-loop-again Inv-loop μ-loop
-loop-again c = (omega arith, omega arith, c .before .before .before .loop .inv .2 ∙ value-next (c .before .before .before .before .before .args .word .now) (c .before .before .before .loop .i) (c .before .before .before .loop .n) (c .before .before .loop-test .taken) ∙ rw (c .shifted .ensures))
+loop-again c = (
+  omega arith,
+  omega arith,
+  c .before .before .before .loop .inv .2
+      ∙ value-next _ (c .before .before .before .loop .i) (c .before .before .before .loop .n)
+      (c .before .before .loop-test .taken)
+      ∙ rw (c .shifted .ensures),
+)
 
 returns : tie.Need-returns Inv-loop μ-loop
-returns c = value-end (c .before .before .before .args .word .now) (c .before .loop .i) (c .before .loop .n) (c .loop-test .left) (c .before .loop .inv .1) ∙ sym (c .before .loop .inv .2)
+returns c =
+    value-end _ (c .before .loop .i) (c .before .loop .n) (c .loop-test .left)
+    (c .before .loop .inv .1)
+    ∙ sym (c .before .loop .inv .2)
 
 pub value-spec : {M : Type 1} → statement M
 value-spec =

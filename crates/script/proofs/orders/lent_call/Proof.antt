@@ -1,9 +1,6 @@
 -- `script::lent_call` meets its contract. Assumes nothing.
-use mathlib.Core.Path.{sym, _∙_, ap}
-use mathlib.Core.List.{List}
-use Prim.Native.Nat.{ℕ}
-use lib.IntN.{ℤ}
-use Rattle.script.specs.Text.{over}
+use mathlib.Core.Path.{sym, _∙_}
+use Rattle.script.proofs.Steps.{over-none, over-as}
 use Rattle.script.proofs.Asking.{open-not-bare, lent-open, lent-bare, lent-none, map-open, map-other, list-bare, list-other}
 use borrow.Author.Needs.{needs}
 use Rattle.script.proofs.orders.lent_call.Statement.{statement}
@@ -19,7 +16,15 @@ read-open-requires : tie.Need-read-open-requires
 read-open-requires c κs = search needs
 
 returns : tie.Need-returns
-returns c = (lent-open (c .before .before .before .before .before .before .before .before .before .args .name .now) (c .before .before .before .before .before .before .before .before .before .args .a .now) (c .before .before .before .before .before .before .before .before .before .args .b .now) (c .before .before .before .before .before .before .before .before .before .args .c .now) (sym (c .before .before .before .same .ensures) ∙ c .before .before .if1 .taken) (c .read-open .ensures .0), (c .read-open .ensures .1 ∙ ap (λ (l : List ℕ). over l (c .before .before .before .before .before .before .before .before .before .args .map .now)) (map-open (c .before .before .before .before .before .before .before .before .before .args .name .now) (c .before .before .before .before .before .before .before .before .before .args .a .now) (c .before .before .before .before .before .before .before .before .before .args .b .now) (c .before .before .before .before .before .before .before .before .before .args .c .now) (sym (c .before .before .before .same .ensures) ∙ c .before .before .if1 .taken)), (ap (λ (l : List ℤ). over l (c .before .before .before .before .before .before .before .before .before .args .xs .now)) (list-other (c .before .before .before .before .before .before .before .before .before .args .name .now) (c .before .before .before .before .before .before .before .before .before .args .a .now) (c .before .before .before .before .before .before .before .before .before .args .b .now) (c .before .before .before .before .before .before .before .before .before .args .c .now) (c .before .before .before .before .before .before .before .before .before .args .b .now) (open-not-bare (c .before .before .before .before .before .before .before .before .before .args .name .now) (sym (c .before .before .before .same .ensures) ∙ c .before .before .if1 .taken))), ap (λ (l : List ℤ). over l (c .before .before .before .before .before .before .before .before .before .args .ys .now)) (list-other (c .before .before .before .before .before .before .before .before .before .args .name .now) (c .before .before .before .before .before .before .before .before .before .args .a .now) (c .before .before .before .before .before .before .before .before .before .args .b .now) (c .before .before .before .before .before .before .before .before .before .args .c .now) (c .before .before .before .before .before .before .before .before .before .args .c .now) (open-not-bare (c .before .before .before .before .before .before .before .before .before .args .name .now) (sym (c .before .before .before .same .ensures) ∙ c .before .before .if1 .taken))))))
+returns c =
+    let is-open = sym (c .before .before .before .same .ensures) ∙ c .before .before .if1 .taken in
+    let not-bare = open-not-bare _ is-open in (
+      lent-open _ _ _ _ is-open (c .read-open .ensures .0),
+      (
+        over-as _ (map-open _ _ _ _ is-open) (c .read-open .ensures .1),
+        (over-none (list-other _ _ _ _ _ not-bare), over-none (list-other _ _ _ _ _ not-bare)),
+      ),
+    )
 
 slice-aggregate-same-2 : tie.Need-slice-aggregate-same-2
 slice-aggregate-same-2 c = search needs
@@ -31,10 +36,28 @@ read-bare-requires : tie.Need-read-bare-requires
 read-bare-requires c κs = search needs
 
 returns-2 : tie.Need-returns-2
-returns-2 c = (lent-bare (c .before .before .before .before .before .before .before .before .before .before .before .before .before .args .name .now) (c .before .before .before .before .before .before .before .before .before .before .before .before .before .args .a .now) (c .before .before .before .before .before .before .before .before .before .before .before .before .before .args .b .now) (c .before .before .before .before .before .before .before .before .before .before .before .before .before .args .c .now) (sym (c .before .before .before .before .before .before .before .same .ensures) ∙ c .before .before .before .before .before .before .if1 .left) (sym (c .before .before .before .before .same2 .ensures) ∙ c .before .before .before .if2 .taken) (c .read-bare .ensures .0), (ap (λ (l : List ℕ). over l (c .before .before .before .before .before .before .before .before .before .before .before .before .before .args .map .now)) (map-other (c .before .before .before .before .before .before .before .before .before .before .before .before .before .args .name .now) (c .before .before .before .before .before .before .before .before .before .before .before .before .before .args .a .now) (c .before .before .before .before .before .before .before .before .before .before .before .before .before .args .b .now) (c .before .before .before .before .before .before .before .before .before .before .before .before .before .args .c .now) (sym (c .before .before .before .before .before .before .before .same .ensures) ∙ c .before .before .before .before .before .before .if1 .left)), (c .read-bare .ensures .1 .0 ∙ ap (λ (l : List ℤ). over l (c .before .before .before .before .before .before .before .before .before .before .before .before .before .args .xs .now)) (list-bare (c .before .before .before .before .before .before .before .before .before .before .before .before .before .args .name .now) (c .before .before .before .before .before .before .before .before .before .before .before .before .before .args .a .now) (c .before .before .before .before .before .before .before .before .before .before .before .before .before .args .b .now) (c .before .before .before .before .before .before .before .before .before .before .before .before .before .args .c .now) (c .before .before .before .before .before .before .before .before .before .before .before .before .before .args .b .now) (sym (c .before .before .before .before .same2 .ensures) ∙ c .before .before .before .if2 .taken)), c .read-bare .ensures .1 .1 ∙ ap (λ (l : List ℤ). over l (c .before .before .before .before .before .before .before .before .before .before .before .before .before .args .ys .now)) (list-bare (c .before .before .before .before .before .before .before .before .before .before .before .before .before .args .name .now) (c .before .before .before .before .before .before .before .before .before .before .before .before .before .args .a .now) (c .before .before .before .before .before .before .before .before .before .before .before .before .before .args .b .now) (c .before .before .before .before .before .before .before .before .before .before .before .before .before .args .c .now) (c .before .before .before .before .before .before .before .before .before .before .before .before .before .args .c .now) (sym (c .before .before .before .before .same2 .ensures) ∙ c .before .before .before .if2 .taken)))))
+returns-2 c =
+    let not-open =
+    sym (c .before .before .before .before .before .before .before .same .ensures)
+    ∙ c .before .before .before .before .before .before .if1 .left in
+    let is-bare = sym (c .before .before .before .before .same2 .ensures) ∙ c .before .before .before .if2 .taken in (
+      lent-bare _ _ _ _ not-open is-bare (c .read-bare .ensures .0),
+      (
+        over-none (map-other _ _ _ _ not-open),
+        (
+          over-as _ (list-bare _ _ _ _ _ is-bare) (c .read-bare .ensures .1 .0),
+          over-as _ (list-bare _ _ _ _ _ is-bare) (c .read-bare .ensures .1 .1),
+        ),
+      ),
+    )
 
 returns-3 : tie.Need-returns-3
-returns-3 c = (lent-none (c .before .before .before .before .before .before .before .before .before .before .args .name .now) (c .before .before .before .before .before .before .before .before .before .before .args .a .now) (c .before .before .before .before .before .before .before .before .before .before .args .b .now) (c .before .before .before .before .before .before .before .before .before .before .args .c .now) (sym (c .before .before .before .before .same .ensures) ∙ c .before .before .before .if1 .left) (sym (c .before .same2 .ensures) ∙ c .if2 .left), (ap (λ (l : List ℕ). over l (c .before .before .before .before .before .before .before .before .before .before .args .map .now)) (map-other (c .before .before .before .before .before .before .before .before .before .before .args .name .now) (c .before .before .before .before .before .before .before .before .before .before .args .a .now) (c .before .before .before .before .before .before .before .before .before .before .args .b .now) (c .before .before .before .before .before .before .before .before .before .before .args .c .now) (sym (c .before .before .before .before .same .ensures) ∙ c .before .before .before .if1 .left)), (ap (λ (l : List ℤ). over l (c .before .before .before .before .before .before .before .before .before .before .args .xs .now)) (list-other (c .before .before .before .before .before .before .before .before .before .before .args .name .now) (c .before .before .before .before .before .before .before .before .before .before .args .a .now) (c .before .before .before .before .before .before .before .before .before .before .args .b .now) (c .before .before .before .before .before .before .before .before .before .before .args .c .now) (c .before .before .before .before .before .before .before .before .before .before .args .b .now) (sym (c .before .same2 .ensures) ∙ c .if2 .left)), ap (λ (l : List ℤ). over l (c .before .before .before .before .before .before .before .before .before .before .args .ys .now)) (list-other (c .before .before .before .before .before .before .before .before .before .before .args .name .now) (c .before .before .before .before .before .before .before .before .before .before .args .a .now) (c .before .before .before .before .before .before .before .before .before .before .args .b .now) (c .before .before .before .before .before .before .before .before .before .before .args .c .now) (c .before .before .before .before .before .before .before .before .before .before .args .c .now) (sym (c .before .same2 .ensures) ∙ c .if2 .left)))))
+returns-3 c =
+    let not-open = sym (c .before .before .before .before .same .ensures) ∙ c .before .before .before .if1 .left in
+    let not-bare = sym (c .before .same2 .ensures) ∙ c .if2 .left in (
+      lent-none _ _ _ _ not-open not-bare,
+      (over-none (map-other _ _ _ _ not-open), (over-none (list-other _ _ _ _ _ not-bare), over-none (list-other _ _ _ _ _ not-bare))),
+    )
 
 pub lent-call-spec : {M : Type 1} → statement M
 lent-call-spec =

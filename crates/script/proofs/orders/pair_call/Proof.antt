@@ -15,7 +15,9 @@ enum-told : tie.Need-enum-told
 enum-told c = search needs
 
 returns : tie.Need-returns
-returns c = pair-unread (c .before .before .before .before .before .before .args .name .now) (c .before .before .before .before .before .before .args .a .now) (c .before .before .before .before .before .before .args .b .now) (sym (c .enum-told .given .1) ∙ c .before .before .number .ensures)
+returns c =
+    pair-unread _ _ _
+    (sym (c .enum-told .given .1) ∙ c .before .before .number .ensures)
 
 slice-aggregate-same : tie.Need-slice-aggregate-same
 slice-aggregate-same c = search needs
@@ -27,7 +29,11 @@ read-remove-requires : tie.Need-read-remove-requires
 read-remove-requires c κs = search needs
 
 returns-2 : tie.Need-returns-2
-returns-2 c = pair-remove (c .before .before .before .before .before .before .before .before .before .before .before .args .name .now) (c .before .before .before .before .before .before .before .before .before .before .before .args .a .now) (c .before .before .before .before .before .before .before .before .before .before .before .args .b .now) (sym (c .before .before .before .before .before .seat .given .1) ∙ c .before .before .before .before .before .before .before .number .ensures) (sym (c .before .before .same .ensures) ∙ c .before .if1 .taken) (c .read-remove .ensures)
+returns-2 c =
+    let number = c .before .before .before .before .before .before .before .number .ensures in
+    pair-remove _ _ _
+    (sym (c .before .before .before .before .before .seat .given .1) ∙ number)
+    (sym (c .before .before .same .ensures) ∙ c .before .if1 .taken) (c .read-remove .ensures)
 
 slice-aggregate-same-2 : tie.Need-slice-aggregate-same-2
 slice-aggregate-same-2 c = search needs
@@ -39,7 +45,13 @@ read-write-requires : tie.Need-read-write-requires
 read-write-requires c κs = search needs
 
 returns-3 : tie.Need-returns-3
-returns-3 c = pair-write (c .before .before .before .before .before .before .before .before .before .before .before .before .before .before .args .name .now) (c .before .before .before .before .before .before .before .before .before .before .before .before .before .before .args .a .now) (c .before .before .before .before .before .before .before .before .before .before .before .before .before .before .args .b .now) (sym (c .before .before .before .before .before .before .before .before .seat .given .1) ∙ c .before .before .before .before .before .before .before .before .before .before .number .ensures) (sym (c .before .before .before .before .before .same .ensures) ∙ c .before .before .before .before .if1 .left) (sym (c .before .before .same2 .ensures) ∙ c .before .if2 .taken) (c .read-write .ensures)
+returns-3 c =
+    let number = c .before .before .before .before .before .before .before .before .before .before .number .ensures in
+    let is-seat = c .before .before .before .before .before .before .before .before .seat .given in
+    pair-write _ _ _ (sym (is-seat .1) ∙ number)
+    (sym (c .before .before .before .before .before .same .ensures)
+    ∙ c .before .before .before .before .if1 .left)
+    (sym (c .before .before .same2 .ensures) ∙ c .before .if2 .taken) (c .read-write .ensures)
 
 slice-aggregate-same-3 : tie.Need-slice-aggregate-same-3
 slice-aggregate-same-3 c = search needs
@@ -51,10 +63,25 @@ read-wire-requires : tie.Need-read-wire-requires
 read-wire-requires c κs = search needs
 
 returns-4 : tie.Need-returns-4
-returns-4 c = pair-wire (c .before .before .before .before .before .before .before .before .before .before .before .before .before .before .before .before .before .args .name .now) (c .before .before .before .before .before .before .before .before .before .before .before .before .before .before .before .before .before .args .a .now) (c .before .before .before .before .before .before .before .before .before .before .before .before .before .before .before .before .before .args .b .now) (sym (c .before .before .before .before .before .before .before .before .before .before .before .seat .given .1) ∙ c .before .before .before .before .before .before .before .before .before .before .before .before .before .number .ensures) (sym (c .before .before .before .before .before .before .before .before .same .ensures) ∙ c .before .before .before .before .before .before .before .if1 .left) (sym (c .before .before .before .before .before .same2 .ensures) ∙ c .before .before .before .before .if2 .left) (sym (c .before .before .same3 .ensures) ∙ c .before .if3 .taken) (c .read-wire .ensures)
+returns-4 c =
+    let number = c .before .before .before .before .before .before .before .before .before .before .before .before .before .number .ensures in
+    let is-seat = c .before .before .before .before .before .before .before .before .before .before .before .seat .given in
+    let same = c .before .before .before .before .before .before .before .before .same .ensures in
+    let no1 = c .before .before .before .before .before .before .before .if1 .left in
+    pair-wire _ _ _ (sym (is-seat .1) ∙ number) (sym same ∙ no1)
+    (sym (c .before .before .before .before .before .same2 .ensures)
+    ∙ c .before .before .before .before .if2 .left)
+    (sym (c .before .before .same3 .ensures) ∙ c .before .if3 .taken) (c .read-wire .ensures)
 
 returns-5 : tie.Need-returns-5
-returns-5 c = pair-none (c .before .before .before .before .before .before .before .before .before .before .before .before .before .before .before .before .args .name .now) (c .before .before .before .before .before .before .before .before .before .before .before .before .before .before .before .before .args .a .now) (c .before .before .before .before .before .before .before .before .before .before .before .before .before .before .before .before .args .b .now) (sym (c .before .before .before .before .before .before .before .before .before .before .seat .given .1) ∙ c .before .before .before .before .before .before .before .before .before .before .before .before .number .ensures) (sym (c .before .before .before .before .before .before .before .same .ensures) ∙ c .before .before .before .before .before .before .if1 .left) (sym (c .before .before .before .before .same2 .ensures) ∙ c .before .before .before .if2 .left) (sym (c .before .same3 .ensures) ∙ c .if3 .left)
+returns-5 c =
+    let number = c .before .before .before .before .before .before .before .before .before .before .before .before .number .ensures in
+    let is-seat = c .before .before .before .before .before .before .before .before .before .before .seat .given in
+    let same = c .before .before .before .before .before .before .before .same .ensures in
+    let no1 = c .before .before .before .before .before .before .if1 .left in
+    pair-none _ _ _ (sym (is-seat .1) ∙ number) (sym same ∙ no1)
+    (sym (c .before .before .before .before .same2 .ensures) ∙ c .before .before .before .if2 .left)
+    (sym (c .before .same3 .ensures) ∙ c .if3 .left)
 
 pub pair-call-spec : {M : Type 1} → statement M
 pair-call-spec =

@@ -15,7 +15,9 @@ enum-told : tie.Need-enum-told
 enum-told c = search needs
 
 returns : tie.Need-returns
-returns c = place-unread (c .before .before .before .before .before .before .before .before .args .name .now) (c .before .before .before .before .before .before .before .before .args .a .now) (c .before .before .before .before .before .before .before .before .args .b .now) (c .before .before .before .before .before .before .before .before .args .c .now) (c .before .before .before .before .before .before .before .before .args .d .now) (sym (c .enum-told .given .1) ∙ c .before .before .placing .ensures)
+returns c =
+    place-unread _ _ _ _ _
+    (sym (c .enum-told .given .1) ∙ c .before .before .placing .ensures)
 
 slice-aggregate-same : tie.Need-slice-aggregate-same
 slice-aggregate-same c = search needs
@@ -24,7 +26,10 @@ same-requires : tie.Need-same-requires
 same-requires c κs = search needs
 
 returns-2 : tie.Need-returns-2
-returns-2 c = place-place (c .before .before .before .before .before .before .before .before .before .before .before .before .args .name .now) (c .before .before .before .before .before .before .before .before .before .before .before .before .args .a .now) (c .before .before .before .before .before .before .before .before .before .before .before .before .args .b .now) (c .before .before .before .before .before .before .before .before .before .before .before .before .args .c .now) (c .before .before .before .before .before .before .before .before .before .before .before .before .args .d .now) (sym (c .before .before .before .before .seat .given .1) ∙ c .before .before .before .before .before .before .placing .ensures) (sym (c .before .same .ensures) ∙ c .if1 .taken)
+returns-2 c =
+    place-place _ _ _ _ _
+    (sym (c .before .before .before .before .seat .given .1) ∙ c .before .before .before .before .before .before .placing .ensures)
+    (sym (c .before .same .ensures) ∙ c .if1 .taken)
 
 slice-aggregate-same-2 : tie.Need-slice-aggregate-same-2
 slice-aggregate-same-2 c = search needs
@@ -33,10 +38,20 @@ same-requires-2 : tie.Need-same-requires-2
 same-requires-2 c κs = search needs
 
 returns-3 : tie.Need-returns-3
-returns-3 c = place-move (c .before .before .before .before .before .before .before .before .before .before .before .before .before .before .before .args .name .now) (c .before .before .before .before .before .before .before .before .before .before .before .before .before .before .before .args .a .now) (c .before .before .before .before .before .before .before .before .before .before .before .before .before .before .before .args .b .now) (c .before .before .before .before .before .before .before .before .before .before .before .before .before .before .before .args .c .now) (c .before .before .before .before .before .before .before .before .before .before .before .before .before .before .before .args .d .now) (sym (c .before .before .before .before .before .before .before .seat .given .1) ∙ c .before .before .before .before .before .before .before .before .before .placing .ensures) (sym (c .before .before .before .before .same .ensures) ∙ c .before .before .before .if1 .left) (sym (c .before .same2 .ensures) ∙ c .if2 .taken)
+returns-3 c =
+    place-move _ _ _ _ _
+    (sym (c .before .before .before .before .before .before .before .seat .given .1)
+    ∙ c .before .before .before .before .before .before .before .before .before .placing .ensures)
+    (sym (c .before .before .before .before .same .ensures) ∙ c .before .before .before .if1 .left)
+    (sym (c .before .same2 .ensures) ∙ c .if2 .taken)
 
 returns-4 : tie.Need-returns-4
-returns-4 c = place-none (c .before .before .before .before .before .before .before .before .before .before .before .before .before .before .before .args .name .now) (c .before .before .before .before .before .before .before .before .before .before .before .before .before .before .before .args .a .now) (c .before .before .before .before .before .before .before .before .before .before .before .before .before .before .before .args .b .now) (c .before .before .before .before .before .before .before .before .before .before .before .before .before .before .before .args .c .now) (c .before .before .before .before .before .before .before .before .before .before .before .before .before .before .before .args .d .now) (sym (c .before .before .before .before .before .before .before .seat .given .1) ∙ c .before .before .before .before .before .before .before .before .before .placing .ensures) (sym (c .before .before .before .before .same .ensures) ∙ c .before .before .before .if1 .left) (sym (c .before .same2 .ensures) ∙ c .if2 .left)
+returns-4 c =
+    place-none _ _ _ _ _
+    (sym (c .before .before .before .before .before .before .before .seat .given .1)
+    ∙ c .before .before .before .before .before .before .before .before .before .placing .ensures)
+    (sym (c .before .before .before .before .same .ensures) ∙ c .before .before .before .if1 .left)
+    (sym (c .before .same2 .ensures) ∙ c .if2 .left)
 
 pub place-call-spec : {M : Type 1} → statement M
 place-call-spec =

@@ -16,28 +16,63 @@ enum-told : tie.Need-enum-told
 enum-told c = search needs
 
 returns : tie.Need-returns
-returns c = (bare-no (c .before .before .before .before .before .before .args .a .now) (c .before .before .before .before .before .before .args .b .now) (c .before .before .before .before .before .before .args .c .now) (bare-room (c .before .before .before .before .before .before .args .a .now) (c .before .before .before .before .before .before .args .b .now) (c .before .before .before .before .before .before .args .c .now) (sym (c .enum-told .given .1) ∙ c .before .before .number .ensures)), (kept _ (bare-room (c .before .before .before .before .before .before .args .a .now) (c .before .before .before .before .before .before .args .b .now) (c .before .before .before .before .before .before .args .c .now) (sym (c .enum-told .given .1) ∙ c .before .before .number .ensures)), kept _ (bare-room (c .before .before .before .before .before .before .args .a .now) (c .before .before .before .before .before .before .args .b .now) (c .before .before .before .before .before .before .args .c .now) (sym (c .enum-told .given .1) ∙ c .before .before .number .ensures))))
+returns c =
+    let unread = sym (c .enum-told .given .1) ∙ c .before .before .number .ensures in (
+      bare-no _ _ _ (bare-room _ _ _ unread),
+      (kept _ (bare-room _ _ _ unread), kept _ (bare-room _ _ _ unread)),
+    )
 
 is-list-requires : tie.Need-is-list-requires
 is-list-requires c κs = search needs
 
 returns-2 : tie.Need-returns-2
-returns-2 c = (bare-no (c .before .before .before .before .before .before .before .before .before .args .a .now) (c .before .before .before .before .before .before .before .before .before .args .b .now) (c .before .before .before .before .before .before .before .before .before .args .c .now) (bare-across (c .before .before .before .before .before .before .before .before .before .args .a .now) (c .before .before .before .before .before .before .before .before .before .args .b .now) (c .before .before .before .before .before .before .before .before .before .args .c .now) (sym (c .before .before .before .room .given .1) ∙ c .before .before .before .before .before .number .ensures) (sym (c .before .is-list .ensures) ∙ not-true (c .before .is-list .result) (c .if1 .taken))), (kept _ (bare-across (c .before .before .before .before .before .before .before .before .before .args .a .now) (c .before .before .before .before .before .before .before .before .before .args .b .now) (c .before .before .before .before .before .before .before .before .before .args .c .now) (sym (c .before .before .before .room .given .1) ∙ c .before .before .before .before .before .number .ensures) (sym (c .before .is-list .ensures) ∙ not-true (c .before .is-list .result) (c .if1 .taken))), kept _ (bare-across (c .before .before .before .before .before .before .before .before .before .args .a .now) (c .before .before .before .before .before .before .before .before .before .args .b .now) (c .before .before .before .before .before .before .before .before .before .args .c .now) (sym (c .before .before .before .room .given .1) ∙ c .before .before .before .before .before .number .ensures) (sym (c .before .is-list .ensures) ∙ not-true (c .before .is-list .result) (c .if1 .taken)))))
+returns-2 c =
+    let room = sym (c .before .before .before .room .given .1) ∙ c .before .before .before .before .before .number .ensures in
+    let no-list = sym (c .before .is-list .ensures) ∙ not-true (c .before .is-list .result) (c .if1 .taken) in (
+      bare-no _ _ _ (bare-across _ _ _ room no-list),
+      (kept _ (bare-across _ _ _ room no-list), kept _ (bare-across _ _ _ room no-list)),
+    )
 
 is-list-requires-2 : tie.Need-is-list-requires-2
 is-list-requires-2 c κs = search needs
 
 returns-3 : tie.Need-returns-3
-returns-3 c = (bare-no (c .before .before .before .before .before .before .before .before .before .before .before .args .a .now) (c .before .before .before .before .before .before .before .before .before .before .before .args .b .now) (c .before .before .before .before .before .before .before .before .before .before .before .args .c .now) (bare-up (c .before .before .before .before .before .before .before .before .before .before .before .args .a .now) (c .before .before .before .before .before .before .before .before .before .before .before .args .b .now) (c .before .before .before .before .before .before .before .before .before .before .before .args .c .now) (sym (c .before .before .before .before .before .room .given .1) ∙ c .before .before .before .before .before .before .before .number .ensures) (sym (c .before .before .before .is-list .ensures) ∙ not-false (c .before .before .before .is-list .result) (c .before .before .if1 .left)) (sym (c .before .is-list2 .ensures) ∙ not-true (c .before .is-list2 .result) (c .if2 .taken))), (kept _ (bare-up (c .before .before .before .before .before .before .before .before .before .before .before .args .a .now) (c .before .before .before .before .before .before .before .before .before .before .before .args .b .now) (c .before .before .before .before .before .before .before .before .before .before .before .args .c .now) (sym (c .before .before .before .before .before .room .given .1) ∙ c .before .before .before .before .before .before .before .number .ensures) (sym (c .before .before .before .is-list .ensures) ∙ not-false (c .before .before .before .is-list .result) (c .before .before .if1 .left)) (sym (c .before .is-list2 .ensures) ∙ not-true (c .before .is-list2 .result) (c .if2 .taken))), kept _ (bare-up (c .before .before .before .before .before .before .before .before .before .before .before .args .a .now) (c .before .before .before .before .before .before .before .before .before .before .before .args .b .now) (c .before .before .before .before .before .before .before .before .before .before .before .args .c .now) (sym (c .before .before .before .before .before .room .given .1) ∙ c .before .before .before .before .before .before .before .number .ensures) (sym (c .before .before .before .is-list .ensures) ∙ not-false (c .before .before .before .is-list .result) (c .before .before .if1 .left)) (sym (c .before .is-list2 .ensures) ∙ not-true (c .before .is-list2 .result) (c .if2 .taken)))))
+returns-3 c =
+    let room = sym (c .before .before .before .before .before .room .given .1) ∙ c .before .before .before .before .before .before .before .number .ensures in
+    let across = sym (c .before .before .before .is-list .ensures) ∙ not-false (c .before .before .before .is-list .result) (c .before .before .if1 .left) in
+    let no-list = sym (c .before .is-list2 .ensures) ∙ not-true (c .before .is-list2 .result) (c .if2 .taken) in (
+      bare-no _ _ _ (bare-up _ _ _ room across no-list),
+      (kept _ (bare-up _ _ _ room across no-list), kept _ (bare-up _ _ _ room across no-list)),
+    )
 
 fill-list-requires : tie.Need-fill-list-requires
-fill-list-requires c κs = (sym (c .before .before .before .before .is-list .ensures) ∙ not-false (c .before .before .before .before .is-list .result) (c .before .before .before .if1 .left))
+fill-list-requires c κs =
+    (sym (c .before .before .before .before .is-list .ensures)
+    ∙ not-false (c .before .before .before .before .is-list .result) (c .before .before .before .if1 .left))
 
 fill-list-requires-2 : tie.Need-fill-list-requires-2
-fill-list-requires-2 c κs = (sym (c .before .before .before .before .is-list2 .ensures) ∙ not-false (c .before .before .before .before .is-list2 .result) (c .before .before .before .if2 .left))
+fill-list-requires-2 c κs =
+    (sym (c .before .before .before .before .is-list2 .ensures)
+    ∙ not-false (c .before .before .before .before .is-list2 .result) (c .before .before .before .if2 .left))
 
 returns-4 : tie.Need-returns-4
-returns-4 c = (bare-yes (c .before .before .before .before .before .before .before .before .before .before .before .before .before .before .before .args .a .now) (c .before .before .before .before .before .before .before .before .before .before .before .before .before .before .before .args .b .now) (c .before .before .before .before .before .before .before .before .before .before .before .before .before .before .before .args .c .now) (sym (c .before .before .before .before .before .before .before .before .before .room .given .1) ∙ c .before .before .before .before .before .before .before .before .before .before .before .number .ensures) (sym (c .before .before .before .before .before .before .before .is-list .ensures) ∙ not-false (c .before .before .before .before .before .before .before .is-list .result) (c .before .before .before .before .before .before .if1 .left)) (sym (c .before .before .before .before .before .is-list2 .ensures) ∙ not-false (c .before .before .before .before .before .is-list2 .result) (c .before .before .before .before .if2 .left)) (c .before .before .fill-list .ensures .0) (c .fill-list2 .ensures .0), (filled-by _ _ (bare-up (c .before .before .before .before .before .before .before .before .before .before .before .before .before .before .before .args .a .now) (c .before .before .before .before .before .before .before .before .before .before .before .before .before .before .before .args .b .now) (c .before .before .before .before .before .before .before .before .before .before .before .before .before .before .before .args .c .now) (sym (c .before .before .before .before .before .before .before .before .before .room .given .1) ∙ c .before .before .before .before .before .before .before .before .before .before .before .number .ensures) (sym (c .before .before .before .before .before .before .before .is-list .ensures) ∙ not-false (c .before .before .before .before .before .before .before .is-list .result) (c .before .before .before .before .before .before .if1 .left)) (sym (c .before .before .before .before .before .is-list2 .ensures) ∙ not-false (c .before .before .before .before .before .is-list2 .result) (c .before .before .before .before .if2 .left))) (c .before .before .fill-list .ensures .1), filled-by _ _ (bare-up (c .before .before .before .before .before .before .before .before .before .before .before .before .before .before .before .args .a .now) (c .before .before .before .before .before .before .before .before .before .before .before .before .before .before .before .args .b .now) (c .before .before .before .before .before .before .before .before .before .before .before .before .before .before .before .args .c .now) (sym (c .before .before .before .before .before .before .before .before .before .room .given .1) ∙ c .before .before .before .before .before .before .before .before .before .before .before .number .ensures) (sym (c .before .before .before .before .before .before .before .is-list .ensures) ∙ not-false (c .before .before .before .before .before .before .before .is-list .result) (c .before .before .before .before .before .before .if1 .left)) (sym (c .before .before .before .before .before .is-list2 .ensures) ∙ not-false (c .before .before .before .before .before .is-list2 .result) (c .before .before .before .before .if2 .left))) (c .fill-list2 .ensures .1)))
+returns-4 c =
+    let room =
+    sym (c .before .before .before .before .before .before .before .before .before .room .given .1)
+    ∙ c .before .before .before .before .before .before .before .before .before .before .before .number .ensures in
+    let across =
+    sym (c .before .before .before .before .before .before .before .is-list .ensures)
+    ∙ not-false (c .before .before .before .before .before .before .before .is-list .result)
+    (c .before .before .before .before .before .before .if1 .left) in
+    let up =
+    sym (c .before .before .before .before .before .is-list2 .ensures)
+    ∙ not-false (c .before .before .before .before .before .is-list2 .result) (c .before .before .before .before .if2 .left) in (
+      bare-yes _ _ _ room across up (c .before .before .fill-list .ensures .0) (c .fill-list2 .ensures .0),
+      (
+        filled-by _ _ (bare-up _ _ _ room across up) (c .before .before .fill-list .ensures .1),
+        filled-by _ _ (bare-up _ _ _ room across up) (c .fill-list2 .ensures .1),
+      ),
+    )
 
 pub read-bare-spec : {M : Type 1} → statement M
 read-bare-spec =

@@ -1,5 +1,6 @@
 -- `script::read_remove` meets its contract. Assumes nothing.
 use mathlib.Core.Path.{sym, _∙_, ap}
+use Rattle.script.specs.Numbers.{mostNumber}
 use Rattle.script.proofs.Asking.{only-no, only-yes}
 use Rattle.script.proofs.Values.{number-read, number-unread}
 use Rattle.script.specs.declared.Order.{Order}
@@ -17,10 +18,17 @@ enum-told : tie.Need-enum-told
 enum-told c = search needs
 
 returns : tie.Need-returns
-returns c = only-no _ (number-unread 4294967295 (c .before .before .before .before .args .b .now) (sym (c .enum-told .given .1) ∙ c .before .before .number .ensures))
+returns c =
+    only-no _
+    (number-unread mostNumber _ (sym (c .enum-told .given .1) ∙ c .before .before .number .ensures))
 
 returns-2 : tie.Need-returns-2
-returns-2 c = only-yes (number-read 4294967295 (c .before .before .before .before .before .args .b .now) (sym (c .before .pin .given .1) ∙ c .before .before .before .number .ensures) .0) (ap (Order.Remove (c .before .before .before .before .before .args .seat)) (number-read 4294967295 (c .before .before .before .before .before .args .b .now) (sym (c .before .pin .given .1) ∙ c .before .before .before .number .ensures) .1))
+returns-2 c =
+    let s = c .before .before .before .before .before .args in
+    let number = c .before .before .before .number .ensures in
+    only-yes (number-read mostNumber _ (sym (c .before .pin .given .1) ∙ number) .0)
+    (ap (Order.Remove (s .seat))
+    (number-read mostNumber _ (sym (c .before .pin .given .1) ∙ number) .1))
 
 pub read-remove-spec : {M : Type 1} → statement M
 read-remove-spec = tie.close (tie.spec number-requires enum-known-pin enum-told returns returns-2)

@@ -1,5 +1,6 @@
 -- `script::read_write` meets its contract. Assumes nothing.
 use mathlib.Core.Path.{sym, _∙_, ap}
+use Rattle.script.specs.Orders.{mostRoom}
 use Rattle.script.proofs.Asking.{only-no, only-yes}
 use Rattle.script.proofs.Values.{number-read, number-unread}
 use Rattle.script.specs.declared.Order.{Order}
@@ -17,10 +18,16 @@ enum-told : tie.Need-enum-told
 enum-told c = search needs
 
 returns : tie.Need-returns
-returns c = only-no _ (number-unread 1024 (c .before .before .before .before .args .b .now) (sym (c .enum-told .given .1) ∙ c .before .before .number .ensures))
+returns c =
+    only-no _
+    (number-unread mostRoom _ (sym (c .enum-told .given .1) ∙ c .before .before .number .ensures))
 
 returns-2 : tie.Need-returns-2
-returns-2 c = only-yes (number-read 1024 (c .before .before .before .before .before .args .b .now) (sym (c .before .room .given .1) ∙ c .before .before .before .number .ensures) .0) (ap (Order.Write (c .before .before .before .before .before .args .seat)) (number-read 1024 (c .before .before .before .before .before .args .b .now) (sym (c .before .room .given .1) ∙ c .before .before .before .number .ensures) .1))
+returns-2 c =
+    let s = c .before .before .before .before .before .args in
+    let number = c .before .before .before .number .ensures in
+    only-yes (number-read mostRoom _ (sym (c .before .room .given .1) ∙ number) .0)
+    (ap (Order.Write (s .seat)) (number-read mostRoom _ (sym (c .before .room .given .1) ∙ number) .1))
 
 pub read-write-spec : {M : Type 1} → statement M
 read-write-spec = tie.close (tie.spec number-requires enum-known-room enum-told returns returns-2)

@@ -41,7 +41,13 @@ loop-less : tie.Need-loop-less Inv-loop μ-loop
 loop-less c = omega arith
 
 loop-again : tie.Need-loop-again Inv-loop μ-loop
-loop-again c = (omega arith, rw (c .before .before .loop .inv .1) ((stored-more 0 (c .before .before .before .before .before .args .bytes .now) (c .before .before .before .before .before .args .line .now) (c .before .before .before .before .before .args .kept) (c .before .before .loop .i) (front 0 (c .before .before .before .before .before .args .bytes .now) (c .before .before .loop .i) (omega (arith, c .before .before .before .smaller .ensures)))) .0))
+loop-again c =
+    let s = c .before .before .before .before .before .args in (
+      omega arith,
+      rw (c .before .before .loop .inv .1)
+          ((stored-more 0 (s .bytes .now) (s .line .now) (s .kept) (c .before .before .loop .i)
+          (front 0 (s .bytes .now) (c .before .before .loop .i) (omega (arith, c .before .before .before .smaller .ensures)))) .0),
+    )
 
 add-result : tie.Need-add-result Inv-loop μ-loop
 add-result c = omega (arith, c .before .before .smaller .ensures)
@@ -53,7 +59,14 @@ whole bytes room {i} {n} h k e =
     ap (λ (m : ℕ). take m bytes) q ∙ take-smaller bytes room
 
 returns : tie.Need-returns Inv-loop μ-loop
-returns c = (omega (arith, c .before .before .smaller .ensures), c .before .loop .inv .1 ∙ ap (sets (c .before .before .before .before .args .line .now) (c .before .before .before .before .args .kept)) (whole (c .before .before .before .before .args .bytes .now) (16386 - c .before .before .before .before .args .kept) (c .before .loop .inv .0) (c .loop-test .left) (c .before .before .smaller .ensures)))
+returns c =
+    let s = c .before .before .before .before .args in
+    let smaller = c .before .before .smaller .ensures in (
+      omega (arith, smaller),
+      c .before .loop .inv .1
+          ∙ ap (sets _ (s .kept))
+          (whole _ (16386 - s .kept) (c .before .loop .inv .0) (c .loop-test .left) smaller),
+    )
 
 pub keep-spec : {M : Type 1} → statement M
 keep-spec =

@@ -1,4 +1,5 @@
 -- `script::newline` meets its contract. Assumes nothing.
+use Rattle.script.specs.Words.{newline}
 use Rattle.script.proofs.Cutting.{stop-from, stop-within}
 use borrow.Author.Needs.{needs}
 use Rattle.script.proofs.windows.newline.Statement.{statement}
@@ -8,7 +9,14 @@ stop-at-requires : tie.Need-stop-at-requires
 stop-at-requires c κs = search needs
 
 returns : tie.Need-returns
-returns c = (c .stop-at .ensures, (rw (c .stop-at .ensures) (stop-from 10 (c .before .before .args .window .now) (c .before .before .args .at)), rw (c .stop-at .ensures) (stop-within 10 (c .before .before .args .window .now) (c .before .before .args .at) (c .before .before .pre))))
+returns c =
+    let s = c .before .before .args in (
+      c .stop-at .ensures,
+      (
+        rw (c .stop-at .ensures) (stop-from newline _ (s .at)),
+        rw (c .stop-at .ensures) (stop-within newline _ (s .at) (c .before .before .pre)),
+      ),
+    )
 
 pub newline-spec : {M : Type 1} → statement M
 newline-spec = tie.close (tie.spec stop-at-requires returns)

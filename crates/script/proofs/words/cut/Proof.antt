@@ -56,7 +56,17 @@ add-count-5 : tie.Need-add-count-5
 add-count-5 c = search needs
 
 returns : tie.Need-returns
-returns c = cut-is (c .before .before .before .before .before .before .before .before .before .before .before .before .before .args .text .now) (c .before .before .before .before .before .before .before .before .before .before .before .word-at .ensures .0) (c .before .before .before .before .before .before .before .before .before .before .word-at2 .ensures .0) (c .before .before .before .before .before .before .before .before .before .word-at3 .ensures .0) (c .before .before .before .before .before .before .before .before .word-at4 .ensures .0) (c .before .before .before .before .before .before .before .word-at5 .ensures .0) (c .before .before .before .before .before .before .word-at6 .ensures .0) (c .before .before .before .before .before .full .ensures .0) (c .before .before .before .before .full2 .ensures .0) (c .before .before .before .full3 .ensures .0) (c .before .before .full4 .ensures .0) (c .before .full5 .ensures .0) (c .full6 .ensures .0)
+returns c =
+    let word-at = c .before .before .before .before .before .before .before .before .before .before .before .word-at .ensures in
+    let word-at2 = c .before .before .before .before .before .before .before .before .before .before .word-at2 .ensures in
+    let word-at3 = c .before .before .before .before .before .before .before .before .before .word-at3 .ensures in
+    let word-at4 = c .before .before .before .before .before .before .before .before .word-at4 .ensures in
+    let word-at5 = c .before .before .before .before .before .before .before .word-at5 .ensures in
+    let word-at6 = c .before .before .before .before .before .before .word-at6 .ensures in
+    cut-is _ (word-at .0) (word-at2 .0) (word-at3 .0) (word-at4 .0) (word-at5 .0) (word-at6 .0)
+    (c .before .before .before .before .before .full .ensures .0)
+    (c .before .before .before .before .full2 .ensures .0) (c .before .before .before .full3 .ensures .0)
+    (c .before .before .full4 .ensures .0) (c .before .full5 .ensures .0) (c .full6 .ensures .0)
 
 pub cut-spec : {M : Type 1} → statement M
 cut-spec =

@@ -1,12 +1,12 @@
--- `drawing::has_room` meets its contract, by its two tests. Assumes nothing.
+-- `drawing::can_stand` meets its contract, by its two tests. Assumes nothing.
 use borrow.Author.Needs.{needs}
 use borrow.Author.Tests.{not-true, not-false}
 use mathlib.Core.Path.{sym, ap, _∙_}
 use mathlib.Core.Bool.{not}
 use Rattle.refusal.proofs.Tests.{both-no, both-yes}
 use Rattle.drawing.specs.Edits.{fits}
-use Rattle.drawing.proofs.has_room.Statement.{statement}
-use Rattle.drawing.proofs.has_room.Tie as tie
+use Rattle.drawing.proofs.can_stand.Statement.{statement}
+use Rattle.drawing.proofs.can_stand.Tie as tie
 
 is-inside-requires : tie.Need-is-inside-requires
 is-inside-requires c κs = search needs
@@ -24,5 +24,5 @@ returns-2 c =
     let d = c .before in
     ap not (c .is-crowded .ensures) ∙ sym (both-yes _ (sym (d .before .is-inside .ensures) ∙ not-false _ (d .if1 .left)))
 
-pub has-room-spec : {M : Type 1} → statement M
-has-room-spec = tie.close (tie.spec is-inside-requires returns is-crowded-requires returns-2)
+pub can-stand-spec : {M : Type 1} → statement M
+can-stand-spec = tie.close (tie.spec is-inside-requires returns is-crowded-requires returns-2)

@@ -1,16 +1,16 @@
--- `feed::meets_any` meets its contract: what is left to look through gives the answer. Assumes nothing.
+-- `feed::too_near_any` meets its contract: what is left to look through gives the answer. Assumes nothing.
 use borrow.Author.Needs.{needs}
 use native.Mathlib.Omega.{arith}
 use mathlib.Core.Path.{_≡_, refl, sym, _∙_}
 use Prim.Native.Nat.{_≤_, _-_}
 use lib.ListN.{drop}
-use Rattle.feed.specs.Feeds.{mostPins, meetsAny}
-use Rattle.feed.proofs.Loops.{meets-hit, meets-miss, meets-end}
-use Rattle.feed.proofs.meets_any.Statement.{statement}
-use Rattle.feed.proofs.meets_any.Tie as tie
+use Rattle.feed.specs.Feeds.{mostPins, tooNearAny}
+use Rattle.feed.proofs.Loops.{near-hit, near-miss, near-end}
+use Rattle.feed.proofs.too_near_any.Statement.{statement}
+use Rattle.feed.proofs.too_near_any.Tie as tie
 
 abbrev Inv-loop : tie.InvT-loop
-Inv-loop spot from feed number₀ number = (number ≤ mostPins) × (meetsAny spot (drop number feed) ≡ meetsAny spot (drop from feed))
+Inv-loop spot from feed number₀ number = (number ≤ mostPins) × (tooNearAny spot (drop number feed) ≡ tooNearAny spot (drop from feed))
 
 abbrev μ-loop : tie.MeasureT-loop
 μ-loop spot from feed number₀ number = mostPins - number
@@ -24,14 +24,14 @@ mul-other c = search needs
 array-copy-out-other : tie.Need-array-copy-out-other Inv-loop μ-loop
 array-copy-out-other c = search needs
 
-do-meet-requires : tie.Need-do-meet-requires Inv-loop μ-loop
-do-meet-requires c κs = search needs
+are-too-near-requires : tie.Need-are-too-near-requires Inv-loop μ-loop
+are-too-near-requires c κs = search needs
 
 returns : tie.Need-returns Inv-loop μ-loop
 returns c =
     let h = c .before .before .before .before in
     let a = h .before .args in
-    sym (meets-hit (a .t2) (h .loop .number) (omega arith) (a .spot) (c .before .do-meet .ensures) (c .if1 .taken)) ∙ h .loop .inv .1
+    sym (near-hit (a .t2) (h .loop .number) (omega arith) (a .spot) (c .before .are-too-near .ensures) (c .if1 .taken)) ∙ h .loop .inv .1
 
 add-number : tie.Need-add-number Inv-loop μ-loop
 add-number c = search needs
@@ -43,15 +43,15 @@ loop-again : tie.Need-loop-again Inv-loop μ-loop
 loop-again c =
     let h = c .before .before .before .before in
     let a = h .before .args in
-    (search needs, sym (meets-miss (a .t2) (h .loop .number) (omega arith) (a .spot) (c .before .do-meet .ensures) (c .if1 .left)) ∙ h .loop .inv .1)
+    (search needs, sym (near-miss (a .t2) (h .loop .number) (omega arith) (a .spot) (c .before .are-too-near .ensures) (c .if1 .left)) ∙ h .loop .inv .1)
 
 returns-2 : tie.Need-returns-2 Inv-loop μ-loop
 returns-2 c =
     let h = c .before in
-    sym (meets-end (h .before .args .t2) (h .loop .number) (omega arith) (h .before .args .spot)) ∙ h .loop .inv .1
+    sym (near-end (h .before .args .t2) (h .loop .number) (omega arith) (h .before .args .spot)) ∙ h .loop .inv .1
 
-pub meets-any-spec : {M : Type 1} → statement M
-meets-any-spec =
+pub too-near-any-spec : {M : Type 1} → statement M
+too-near-any-spec =
     tie.close
     (tie.spec
     Inv-loop
@@ -59,7 +59,7 @@ meets-any-spec =
     loop-holds
     mul-other
     array-copy-out-other
-    do-meet-requires
+    are-too-near-requires
     returns
     add-number
     loop-less

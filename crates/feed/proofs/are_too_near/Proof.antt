@@ -1,8 +1,8 @@
--- `feed::do_meet` meets its contract, by the cases of both pins. Assumes nothing.
+-- `feed::are_too_near` meets its contract, by the cases of both pins. Assumes nothing.
 use borrow.Author.Needs.{needs}
-use Rattle.feed.specs.Feeds.{meets}
-use Rattle.feed.proofs.do_meet.Statement.{statement}
-use Rattle.feed.proofs.do_meet.Tie as tie
+use Rattle.feed.specs.Feeds.{spotsTooNear}
+use Rattle.feed.proofs.are_too_near.Statement.{statement}
+use Rattle.feed.proofs.are_too_near.Tie as tie
 
 enum-told : tie.Need-enum-told
 enum-told c = search needs
@@ -20,19 +20,19 @@ too-near-requires : tie.Need-too-near-requires
 too-near-requires c κs = search needs
 
 returns : tie.Need-returns
-unfolding meets
+unfolding spotsTooNear
 returns c = rw (c .enum-told .given .1)
 
 returns-2 : tie.Need-returns-2
-unfolding meets
+unfolding spotsTooNear
 returns-2 c = rw (c .before .before .before .a .given .1, c .enum-told2 .given .1)
 
 returns-3 : tie.Need-returns-3
-unfolding meets
+unfolding spotsTooNear
 returns-3 c = rw (c .before .before .before .before .before .a .given .1, c .before .before .b .given .1) (c .too-near .ensures)
 
-pub do-meet-spec : {M : Type 1} → statement M
-do-meet-spec =
+pub are-too-near-spec : {M : Type 1} → statement M
+are-too-near-spec =
     tie.close
     (tie.spec
     enum-told

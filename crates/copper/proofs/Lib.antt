@@ -1,2 +1,0 @@
--- What the code of copper rests on.
-pub mod Differences
