@@ -111,14 +111,15 @@ def smallest(command, log):
     page = 4096
     answer = run(command, log, 8192 * 1024)[0]
     assert answer is not None
-    low, high = 0, 2048
+    least = 32 if EMULATOR.exists() else 1  # the emulator gives a program no less
+    low, high = least - 1, 2048
     while high - low > 1:
         middle = (low + high) // 2
         if run(command, log, middle * page)[0] == answer:
             high = middle
         else:
             low = middle
-    return f"{high * page // 1024} KiB"
+    return f"{high * page // 1024} KiB" + (" or less" if high == least else "")
 
 
 def stack():
