@@ -1,5 +1,5 @@
 -- What is proved of answers to lines beside the functions' contracts.
-pub mod Ordered
+pub mod Counts
 pub mod Telling
 pub mod Showing
 pub mod Answering

@@ -1,47 +1,62 @@
--- What `pins SEAT` prints, for each way that the desk and the seat can be. Assumes nothing.
-use mathlib.Core.Path.{_≡_}
+-- What `pins SEAT` prints, by what is found at the seat and what the row of 28, 1 and 2 says of it. Assumes nothing.
+use mathlib.Core.Path.{_≡_, sym, ap, _∙_}
 use mathlib.Core.Bool.{true, false}
-use mathlib.Core.List.{List}
-use Prim.Native.Nat.{ℕ, _-_, _≤_, _<_}
+use mathlib.Core.List.{List, []}
+use Prim.Native.Nat.{ℕ, _≤_}
 use native.Mathlib.Omega.{arith}
-use lib.ListN.{length}
-use borrow.Author.Tests.{le-leb, lt-leb}
-use Rattle.refusal.specs.Tests.{choose}
-use Rattle.refusal.specs.declared.Verdict.the-variants.{SeatAbove, DeskBroken}
+use Rattle.refusal.specs.Refusals.{accepted}
+use Rattle.refusal.specs.declared.Verdict.{Verdict}
+use Rattle.refusal.proofs.Tests.{choose-yes, choose-no}
 use Rattle.feed.specs.declared.Spot.{Spot}
 use Rattle.drawing.specs.Pins.{feedOf}
-use Rattle.journal.specs.Journal.{mostSeats}
+use Rattle.journal.specs.Journal.{mostRecords}
+use Rattle.seats.specs.Seats.{takenBackCount}
+use Rattle.rows.specs.declared.Found.{Found}
+use Rattle.rows.specs.Found.{lookAtFound}
 use Rattle.desk.specs.declared.Desk.{Desk}
-use Rattle.desk.specs.Desk.{sound, seatOf, editsOf}
-use Rattle.script.specs.Text.{answerBytes}
-use Rattle.script.specs.Answers.{verdictLine, closedLine}
+use Rattle.desk.specs.Desk.{seatOf, editsOf, lookAt, answerOf}
+use Rattle.text.specs.Text.{answerBytes, Holds}
+use Rattle.desk.specs.Refusals.{turnedNaming, turnedClosing, verdictOf}
+use Rattle.desk.proofs.Sound.{used-within}
+use Rattle.desk.proofs.Found.{foundAt, close-answer, close-there, sound-there, same-there}
+use Rattle.script.specs.Answers.{mostLineBytes, verdictLine, closedLine}
 use Rattle.shown.specs.Shown.{drawnText}
-use Rattle.answer.specs.Answered.{Holds, lookText, seatText}
-use Rattle.answer.proofs.Telling.{Left, held}
+use Rattle.shown.proofs.Lines.{held}
+use Rattle.answer.specs.Answered.{isNotOpen, lookText, seatText}
 
-module _ (d : Desk) (s : ℕ) (old : List ℕ) {n : ℕ} {new : List ℕ} where
-  -- A broken desk: 28.
-  pub pins-broken : sound d ≡ false → Left (verdictLine DeskBroken) old 200 n new → Holds (seatText d s) old n new
-  unfolding seatText lookText choose
-  pins-broken e h = rw e (held (verdictLine DeskBroken) old 200 (omega arith) h)
+module _ (d : Desk) (s : ℕ) {f : Found} (g : f ≡ foundAt d s) {v : Verdict} (e : v ≡ turnedNaming (lookAtFound f [] 0)) where
+  -- The row says the same of what is found as of the desk.
+  row-same : turnedNaming (lookAt d s) ≡ v
+  unfolding answerOf verdictOf turnedClosing
+  row-same = close-answer d s g e
 
-  module _ (e : sound d ≡ true) where
-    -- A seat above 7: 1.
-    pub pins-above : mostSeats ≤ s → Left (verdictLine SeatAbove) old 200 n new → Holds (seatText d s) old n new
-    unfolding seatText lookText choose
-    pins-above k h = rw (e, le-leb mostSeats s k) (held (verdictLine SeatAbove) old 200 (omega arith) h)
+  module _ (y : accepted v ≡ true) where
+    -- Accepted, the records in use are at most 256.
+    pub few-used : d .used ≤ mostRecords
+    few-used = used-within d (sound-there d s g (close-there d s g e y))
 
+  module _ (old : List ℕ) {n : ℕ} {new : List ℕ} where
     -- A seat that is not open: `closed`.
-    pub pins-closed : s < mostSeats → seatOf d s .opened ≡ false → Left closedLine old 200 n new → Holds (seatText d s) old n new
-    unfolding seatText lookText choose
-    pins-closed k o h = rw (e, lt-leb mostSeats s k, o) (held closedLine old 200 (omega arith) h)
+    pub pins-closed : isNotOpen v ≡ true → Holds mostLineBytes closedLine old n new → Holds answerBytes (seatText d s) old n new
+    unfolding seatText lookText
+    pins-closed c h = held old mostLineBytes (omega arith) (sym (choose-yes closedLine _ (ap isNotOpen row-same ∙ c))) h
 
-    -- A drawing: its job, its pins, and how many edits stand and are taken back.
-    pub pins-drawn : {owned : ℕ} {feed : List Spot} → s < mostSeats → seatOf d s .opened ≡ true → owned ≡ length (editsOf d s)
-        → feed ≡ feedOf (seatOf d s .pins)
-        → Left (drawnText (seatOf d s .job) feed (seatOf d s .standing) (owned - seatOf d s .standing)) old answerBytes n new
-        → Holds (seatText d s) old n new
-    unfolding seatText lookText choose
-    pins-drawn {owned} {feed} k o f g h =
-        rw (e, lt-leb mostSeats s k, o, ← f, ← g)
-        (held (drawnText (seatOf d s .job) feed (seatOf d s .standing) (owned - seatOf d s .standing)) old answerBytes (omega arith) h)
+    module _ (c : isNotOpen v ≡ false) where
+      -- Another refusal: its line.
+      pub pins-refused : accepted v ≡ false → Holds mostLineBytes (verdictLine v) old n new → Holds answerBytes (seatText d s) old n new
+      unfolding seatText lookText
+      pins-refused y h =
+          let q : seatText d s ≡ verdictLine v =
+          choose-no _ _ (ap isNotOpen row-same ∙ c) ∙ choose-no _ _ (ap accepted row-same ∙ y) ∙ ap verdictLine row-same in
+          held old mostLineBytes (omega arith) (sym q) h
+
+      -- A drawing: its job, its pins, and how many edits stand and are taken back.
+      pub pins-drawn : {taken : ℕ} {feed : List Spot} → accepted v ≡ true → taken ≡ takenBackCount (f .state) (editsOf d s) → feed ≡ feedOf (f .state .pins)
+          → Holds answerBytes (drawnText (f .state .job) feed (f .state .standing) taken) old n new
+          → Holds answerBytes (seatText d s) old n new
+      unfolding seatText lookText
+      pins-drawn {taken} {feed} y o p h =
+          let same : f .state ≡ seatOf d s = same-there d s g (close-there d s g e y) in
+          let q : seatText d s ≡ drawnText (f .state .job) feed (f .state .standing) taken =
+          choose-no _ _ (ap isNotOpen row-same ∙ c) ∙ choose-yes _ _ (ap accepted row-same ∙ y) ∙ rw (p, o, same) in
+          held old answerBytes (omega arith) (sym q) h

@@ -3,24 +3,25 @@ use mathlib.Core.Path.{_≡_, refl}
 use mathlib.Core.List.{List, [], _∷_, _++_}
 use Prim.Native.Nat.{ℕ, _+_}
 use Prim.Native.String.{String}
-use Rattle.refusal.specs.Tests.{both, either, choose}
+use Rattle.refusal.specs.Tests.{both, either, choose, anyOf, eachOf, noTwo}
 use Rattle.refusal.specs.Refusals.{accepted, turn}
 use Rattle.grid.specs.Number.{firstByte, secondByte, thirdByte, fourthByte}
 use Rattle.grid.specs.Place.{onBoard, inside, difference, closer, tooNear, sameNumber, samePlace}
-use Rattle.feed.specs.Feeds.{spotsTooNear, tooNearAny, crowded, within, settled, allWithin, allApart, tooNearOther}
+use Rattle.feed.specs.Feeds.{spotsTooNear, crowded, within, tooNearOther}
 use Rattle.drawing.specs.Pins.{isThere, sameHeld, samePin, samePins, lawful, spotOf, feedOf}
 use Rattle.drawing.specs.Edits.{movedPin, made, unmade, standsAt, fits, placeable, movable, makeable, takeable, heldBy}
 use Rattle.pinmap.specs.Record.{recordBytes, pinBytes}
-use Rattle.pinmap.specs.Map.{noPins, readFrom, wrongLength, readMap, mapFrom, mapOf, written}
-use Rattle.journal.specs.Journal.{own, kept, filled, seated, inTurn}
+use Rattle.pinmap.specs.Map.{readFrom, wrongLength, readMap, mapFrom, mapOf, written}
+use Rattle.journal.specs.Journal.{own, kept, filled, inTurn}
 use Rattle.desk.specs.declared.Desk.{Desk}
-use Rattle.desk.specs.Refusals.{sameJob, jobAmong, turnedOpening, turnedClosing, turnedPlacing, turnedUndoing, turnedWriting, verdictOf}
-use Rattle.desk.specs.Desk.{jobOf, jobsApart, soundOpen, soundClosed, soundSeat, soundTo, sound, edited, effect, answerOf, step, emptyDesk, writtenOf, bufferOf}
-use Rattle.script.specs.Text.{text, same}
-use Rattle.script.specs.Words.{endOf, beforeFirst, pieces, nonEmpty, wordsOf}
-use Rattle.script.specs.Numbers.{between, allDigits, valueFrom, isNumber, hasMinus, isCoordinate, signed, isHex, hexValue, allPairs, bytesOf, isMap}
-use Rattle.script.specs.Orders.{only, seatCall, pairCall, isOpenCall, openCall, lentCall, isPlacing, placeCall, callOf, isSkipped, asked, isLong, orderOf, mapIn, mapAsked, mapGiven}
-use Rattle.script.specs.Answers.{digits, integer, placeText, hexDigit, hex, carriedText, toldLine, hexPart, writtenLine, drawingLine, pinLine, notACallLine}
+use Rattle.desk.specs.Refusals.{sameJob, turnedOpening, turnedClosing, turnedPlacing, turnedUndoing, turnedWriting, verdictOf}
+use Rattle.desk.specs.Desk.{jobOf, soundOpen, soundClosed, soundSeat, soundTo, sound, edited, effect, answerOf, step, emptyDesk, writtenOf, bufferOf}
+use Rattle.text.specs.Text.{text, same}
+use Rattle.text.specs.Words.{endOf, beforeFirst, pieces, nonEmpty, wordsOf}
+use Rattle.text.specs.Numbers.{between, allDigits, valueFrom, isNumber, hasMinus, isCoordinate, signed, isHex, hexValue, allPairs, bytesOf, isMap}
+use Rattle.script.specs.Said.{only, seatCall, pairCall, isOpenCall, openCall, lentCall, isPlacing, placeCall, callOf, isSkipped, asked, isLong, saidBy, mapIn, mapAsked, mapGiven}
+use Rattle.text.specs.Digits.{digits, integer, placeText, hexDigit, hex}
+use Rattle.script.specs.Answers.{carriedText, toldLine, hexPart, writtenLine, drawingLine, pinLine, notACallLine}
 use Rattle.shown.specs.Shown.{spotText, pinsText, pinsThere, drawnText}
 use Rattle.answer.specs.Answered.{followed, played, callText, writingText, lookText, seatText, printed, answered}
 
@@ -33,7 +34,14 @@ told d number (line ∷ rest) = answered d number (text line) ++ told (played d 
 worked :
     told emptyDesk 1
     ("# D3" ∷ "open 0 7 -" ∷ "place 0 0 1 -1" ∷ "write 0 13" ∷ "pins 0" ∷ "undo 0" ∷ "pins 0" ∷ "undo 0" ∷ "pins 1" ∷ "pins 8" ∷ "draw 0" ∷ [])
-    ≡ text
-    "0\n0\n0 12 0007000000000001ffffffffee\njob 7 pins 1 standing 1 taken 0\npin 0 1 -1\n0\njob 7 pins 0 standing 0 taken 1\nrefused 10\nclosed\nrefused 1\nline 11: not a call\n"
-unfolding told both either choose accepted turn onBoard inside difference closer tooNear sameNumber samePlace isThere sameHeld samePin samePins spotsTooNear tooNearAny tooNearOther crowded within settled allWithin allApart spotOf feedOf lawful movedPin made unmade standsAt fits placeable movable makeable takeable heldBy firstByte secondByte thirdByte fourthByte recordBytes pinBytes noPins readFrom wrongLength readMap mapFrom mapOf written own kept filled seated inTurn sameJob jobAmong turnedOpening turnedClosing turnedPlacing turnedUndoing turnedWriting verdictOf jobOf jobsApart soundOpen soundClosed soundSeat soundTo sound edited effect answerOf step emptyDesk writtenOf bufferOf same endOf beforeFirst pieces nonEmpty wordsOf between allDigits valueFrom isNumber hasMinus isCoordinate signed isHex hexValue allPairs bytesOf isMap only seatCall pairCall isOpenCall openCall lentCall isPlacing placeCall callOf isSkipped asked isLong orderOf mapIn mapAsked mapGiven digits integer placeText hexDigit hex carriedText toldLine hexPart writtenLine drawingLine pinLine notACallLine spotText pinsText pinsThere drawnText followed played callText writingText lookText seatText printed answered
+    ≡ text "0\n0\n0 12 0007000000000001ffffffffee\njob 7 pins 1 standing 1 taken 0\npin 0 1 -1\n0\n"
+    ++ text "job 7 pins 0 standing 0 taken 1\nrefused 10\nclosed\nrefused 1\nline 11: not a call\n"
+unfolding told both either choose accepted turn onBoard inside difference closer tooNear sameNumber samePlace isThere sameHeld samePin samePins spotsTooNear
+    tooNearOther crowded within spotOf feedOf lawful movedPin made unmade standsAt fits placeable movable makeable takeable heldBy firstByte secondByte
+    thirdByte fourthByte recordBytes pinBytes readFrom wrongLength readMap mapFrom mapOf written own kept filled inTurn sameJob turnedOpening turnedClosing
+    turnedPlacing turnedUndoing turnedWriting verdictOf jobOf soundOpen soundClosed soundSeat soundTo sound edited effect answerOf step emptyDesk writtenOf
+    bufferOf same endOf beforeFirst pieces nonEmpty wordsOf between allDigits valueFrom isNumber hasMinus isCoordinate signed isHex hexValue allPairs bytesOf
+    isMap only seatCall pairCall isOpenCall openCall lentCall isPlacing placeCall callOf isSkipped asked isLong mapIn mapAsked mapGiven digits integer placeText
+    hexDigit hex carriedText toldLine hexPart writtenLine drawingLine pinLine notACallLine spotText pinsText pinsThere drawnText followed played callText
+    writingText lookText seatText printed answered saidBy anyOf eachOf noTwo
 worked = refl

@@ -1,45 +1,45 @@
 -- One line of a log on a desk: the desk that follows, and the text that is printed.
-use mathlib.Core.Path.{_≡_}
-use mathlib.Core.Bool.{not}
+use mathlib.Core.Bool.{Bool}
 use mathlib.Core.List.{List, []}
-use Prim.Native.Nat.{ℕ, _≤_}
+use Prim.Native.Nat.{ℕ}
+use lib.Dec.{eqb}
 use lib.IntN.{ℤ}
-use lib.ListN.{length, replicate}
+use lib.ListN.{replicate}
 use Rattle.refusal.specs.Tests.{choose}
-use Rattle.refusal.specs.Refusals.{accepted}
-use Rattle.refusal.specs.declared.Verdict.the-variants.{SeatAbove, DeskBroken}
+use Rattle.refusal.specs.Refusals.{accepted, toldOf}
+use Rattle.refusal.specs.declared.Verdict.{Verdict}
+use Rattle.refusal.specs.declared.Verdict.the-variants.{NotOpen}
 use Rattle.drawing.specs.Pins.{feedOf}
 use Rattle.bare.specs.Bare.{bareOf}
 use Rattle.desk.specs.declared.Desk.{Desk}
 use Rattle.desk.specs.Calls.{Call, opening, closing, placing, moving, removing, undoing, redoing}
-use Rattle.desk.specs.Refusals.{Look, seatAbove}
+use Rattle.desk.specs.Refusals.{Look, turnedNaming}
 use Rattle.desk.specs.Desk.{lookAt, step, writtenOf, bufferOf, wiredOf}
-use Rattle.script.specs.declared.Order.{Order}
-use Rattle.script.specs.Text.{over, answerBytes}
-use Rattle.script.specs.Orders.{orderOf, mapGiven, xsGiven, ysGiven}
+use Rattle.script.specs.declared.Said.{Said}
+use Rattle.script.specs.Said.{saidBy, mapGiven, xsGiven, ysGiven}
 use Rattle.script.specs.Answers.{verdictLine, writtenLine, closedLine, notACallLine}
 use Rattle.shown.specs.Shown.{laidText, drawnText}
 
--- What an order makes of the desk, with the map of an opening. Writing, wiring and showing leave the desk as it is, and so does
+-- What the desk is after what a line says, with the map of an opening. Writing, wiring and showing leave the desk as it is, and so does
 -- what is not a call.
-unfoldable pub followed : Desk → List ℕ → Order → Desk
-followed d map Order.Skip = d
-followed d map Order.NotACall = d
-followed d map (Order.Open s job n) = step d (opening s job map) .desk
-followed d map (Order.Close s) = step d (closing s) .desk
-followed d map (Order.Place s p at) = step d (placing s p at) .desk
-followed d map (Order.Move s p to) = step d (moving s p to) .desk
-followed d map (Order.Remove s p) = step d (removing s p) .desk
-followed d map (Order.Undo s) = step d (undoing s) .desk
-followed d map (Order.Redo s) = step d (redoing s) .desk
-followed d map (Order.Write s room) = d
-followed d map (Order.Wire s room) = d
-followed d map (Order.Bare room across up) = d
-followed d map (Order.Pins s) = d
+unfoldable pub followed : Desk → List ℕ → Said → Desk
+followed d map Said.Skip = d
+followed d map Said.NotACall = d
+followed d map (Said.Open s job n) = step d (opening s job map) .desk
+followed d map (Said.Close s) = step d (closing s) .desk
+followed d map (Said.Place s p at) = step d (placing s p at) .desk
+followed d map (Said.Move s p to) = step d (moving s p to) .desk
+followed d map (Said.Remove s p) = step d (removing s p) .desk
+followed d map (Said.Undo s) = step d (undoing s) .desk
+followed d map (Said.Redo s) = step d (redoing s) .desk
+followed d map (Said.Write s room) = d
+followed d map (Said.Wire s room) = d
+followed d map (Said.Bare room across up) = d
+followed d map (Said.Pins s) = d
 
 -- What a line makes of the desk.
 unfoldable pub played : Desk → List ℕ → Desk
-played d line = followed d (mapGiven line) (orderOf line)
+played d line = followed d (mapGiven line) (saidBy line)
 
 -- Opening, closing, edits, undo and redo print their verdict.
 unfoldable pub callText : Desk → Call → List ℕ
@@ -56,41 +56,38 @@ writingText d s buffer =
     (writtenLine (writtenOf d s buffer .bytes) (bufferOf d s buffer))
     (verdictLine (writtenOf d s buffer .verdict))
 
--- `pins SEAT`: 28 where the desk is broken and 1 above 7, `closed`, or the drawing.
+-- A verdict is 2: the seat is not open.
+abbrev pub isNotOpen : Verdict → Bool
+isNotOpen v = eqb (toldOf v .number) (toldOf NotOpen .number)
+
+-- `pins SEAT`, by 28, 1 and 2 as every call naming a seat: `closed` where it is 2, else the drawing, or the refusal.
 unfoldable pub lookText : Look → List ℕ
 lookText l =
-    choose (l .broken) (verdictLine DeskBroken)
-    (choose (seatAbove l) (verdictLine SeatAbove)
-    (choose (not (l .opened)) closedLine
-    (drawnText (l .job) (feedOf (l .pins)) (l .standing) (l .takenBack))))
+    choose (isNotOpen (turnedNaming l)) closedLine
+    (choose (accepted (turnedNaming l)) (drawnText (l .job) (feedOf (l .pins)) (l .standing) (l .takenBack))
+    (verdictLine (turnedNaming l)))
 
 -- What `pins SEAT` prints of a seat of the desk.
 unfoldable pub seatText : Desk → ℕ → List ℕ
 seatText d s = lookText (lookAt d s)
 
--- What an order prints, with the number of its line, the map of an opening and the x and y of a bare wiring. A skipped line
+-- What is printed for what a line says, with the number of the line, the map of an opening and the x and y of a bare wiring. A skipped line
 -- prints nothing.
-unfoldable pub printed : Desk → ℕ → List ℕ → List ℤ → List ℤ → Order → List ℕ
-printed d number map xs ys Order.Skip = []
-printed d number map xs ys Order.NotACall = notACallLine number
-printed d number map xs ys (Order.Open s job n) = callText d (opening s job map)
-printed d number map xs ys (Order.Close s) = callText d (closing s)
-printed d number map xs ys (Order.Place s p at) = callText d (placing s p at)
-printed d number map xs ys (Order.Move s p to) = callText d (moving s p to)
-printed d number map xs ys (Order.Remove s p) = callText d (removing s p)
-printed d number map xs ys (Order.Undo s) = callText d (undoing s)
-printed d number map xs ys (Order.Redo s) = callText d (redoing s)
-printed d number map xs ys (Order.Write s room) = writingText d s (lentBytes room)
-printed d number map xs ys (Order.Wire s room) = laidText (wiredOf d s room .laid)
-printed d number map xs ys (Order.Bare room across up) = laidText (bareOf xs ys room)
-printed d number map xs ys (Order.Pins s) = seatText d s
+unfoldable pub printed : Desk → ℕ → List ℕ → List ℤ → List ℤ → Said → List ℕ
+printed d number map xs ys Said.Skip = []
+printed d number map xs ys Said.NotACall = notACallLine number
+printed d number map xs ys (Said.Open s job n) = callText d (opening s job map)
+printed d number map xs ys (Said.Close s) = callText d (closing s)
+printed d number map xs ys (Said.Place s p at) = callText d (placing s p at)
+printed d number map xs ys (Said.Move s p to) = callText d (moving s p to)
+printed d number map xs ys (Said.Remove s p) = callText d (removing s p)
+printed d number map xs ys (Said.Undo s) = callText d (undoing s)
+printed d number map xs ys (Said.Redo s) = callText d (redoing s)
+printed d number map xs ys (Said.Write s room) = writingText d s (lentBytes room)
+printed d number map xs ys (Said.Wire s room) = laidText (wiredOf d s room .laid)
+printed d number map xs ys (Said.Bare room across up) = laidText (bareOf xs ys room)
+printed d number map xs ys (Said.Pins s) = seatText d s
 
 -- What the line of that number prints.
 unfoldable pub answered : Desk → ℕ → List ℕ → List ℕ
-answered d number line = printed d number (mapGiven line) (xsGiven line) (ysGiven line) (orderOf line)
-
--- So many bytes of a lent buffer are the text, from its start on, no more than its room; what lies after them stays.
-pub record Holds (text before : List ℕ) (count : ℕ) (after : List ℕ) : Type 0 where
-  pub bytes : count ≡ length text
-  pub within : count ≤ answerBytes
-  pub buffer : after ≡ over text before
+answered d number line = printed d number (mapGiven line) (xsGiven line) (ysGiven line) (saidBy line)

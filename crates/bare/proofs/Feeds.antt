@@ -1,16 +1,17 @@
 -- A feed that is filled from lists of x and y. Assumes nothing.
 use mathlib.Core.Path.{_≡_, refl, sym, ap, _∙_}
 use mathlib.Core.List.{List, [], _∷_}
-use Prim.Native.Nat.{ℕ, zero, suc, _+_, _-_, _<_, _≤_}
+use Prim.Native.Nat.{ℕ, zero, suc, _+_, _<_, _≤_}
 use native.Mathlib.Omega.{arith}
 use native.Mathlib.Nat.{not-suc-le-zero, le-of-suc-le-suc}
 use lib.IntN.{ℤ}
-use lib.ListN.{length, getD, set, drop, replicate, length-append, length-replicate, replicate-append-replicate, List·getD-append}
-use lib.Seq.{take-at, drop-at}
+use lib.ListN.{length, getD, set, take, replicate}
+use lib.Seq.{length-take-le, take-all}
+use Rattle.refusal.specs.Lists.{padded}
+use Rattle.refusal.proofs.Lists.{first-more, padded-long, padded-more}
 use Rattle.feed.specs.declared.Spot.{Spot}
 use Rattle.feed.specs.declared.Spot.the-variants.{Absent}
 use Rattle.feed.specs.Feeds.{mostPins}
-use Rattle.tree.proofs.Loops.{filled, filled-turn}
 use Rattle.bare.specs.Bare.{listedPin, spotsOf, feedOfLists}
 
 -- There are as many pins as positions.
@@ -28,38 +29,33 @@ spots-at (x ∷ xs) [] e i h = absurd (omega arith)
 spots-at (x ∷ xs) (y ∷ ys) e zero h = refl
 spots-at (x ∷ xs) (y ∷ ys) e (suc i) h = spots-at xs ys (omega arith) i (le-of-suc-le-suc h)
 
--- The rest of equal entries.
-drop-same : {A : Type 0} (n m : ℕ) (a : A) → n ≤ m → drop n (replicate m a) ≡ replicate (m - n) a
-drop-same n m a h =
-    let e : m ≡ n + (m - n) = omega arith in
-    ap (λ (k : ℕ). drop n (replicate k a)) e
-    ∙ ap (drop n) (sym (replicate-append-replicate n (m - n) a))
-    ∙ drop-at (replicate n a) (replicate (m - n) a) n (length-replicate n a)
-
 module _ (xs ys : List ℤ) (alike : length xs ≡ length ys) (few : length xs ≤ mostPins) where
   -- A feed has 32 spots.
   pub feed-many : length (feedOfLists xs ys) ≡ mostPins
   unfolding feedOfLists
-  feed-many =
-      let n = spots-many xs ys alike in
-      let m = length-replicate (mostPins - length (spotsOf xs ys)) Absent in
-      length-append (spotsOf xs ys) _ ∙ omega arith
+  feed-many = padded-long mostPins Absent (spotsOf xs ys) (omega (arith, spots-many xs ys alike))
 
-  -- A feed has the pins by position.
-  feed-at : (i : ℕ) → i < length xs → getD (feedOfLists xs ys) i Absent ≡ listedPin xs ys i
-  unfolding feedOfLists
-  feed-at i h = let n = spots-many xs ys alike in List·getD-append (spotsOf xs ys) _ Absent i (omega arith) ∙ spots-at xs ys alike i h
+-- A feed with the pins of the first positions.
+unfoldable pub feedUpTo : List ℤ → List ℤ → ℕ → List Spot
+feedUpTo xs ys i = padded mostPins Absent (take i (spotsOf xs ys))
 
+-- At first it is empty.
+pub feed-none : (xs ys : List ℤ) → replicate mostPins Absent ≡ feedUpTo xs ys 0
+unfolding feedUpTo
+feed-none xs ys = refl
+
+module _ (xs ys : List ℤ) (alike : length xs ≡ length ys) (few : length xs ≤ mostPins) (o : List Spot) (i : ℕ) (so-far : o ≡ feedUpTo xs ys i) where
   -- One pin more.
-  pub feed-turn : (l o : List Spot) (i : ℕ) → length l ≡ mostPins → o ≡ filled (feedOfLists xs ys) l i → i < length xs → (s : Spot) → s ≡ listedPin xs ys i
-      → set o i s ≡ filled (feedOfLists xs ys) l (i + 1)
-  feed-turn l o i full so-far h s e =
-      let m = feed-many in
-      rw (so-far, e, ← feed-at i h) (filled-turn (feedOfLists xs ys) l i Absent (omega arith) (omega arith))
+  pub feed-turn : i < length xs → (s : Spot) → s ≡ listedPin xs ys i → set o i s ≡ feedUpTo xs ys (i + 1)
+  unfolding feedUpTo
+  feed-turn h s e =
+      let n = spots-many xs ys alike in
+      let k : length (take i (spotsOf xs ys)) ≡ i = length-take-le i (spotsOf xs ys) (omega arith) in
+      rw (so-far, e, ← spots-at xs ys alike i h, ← first-more Absent (spotsOf xs ys) i (omega arith))
+      (ap (λ (j : ℕ). set (padded mostPins Absent (take i (spotsOf xs ys))) j (getD (spotsOf xs ys) i Absent)) (sym k)
+      ∙ padded-more mostPins Absent (take i (spotsOf xs ys)) (getD (spotsOf xs ys) i Absent) (omega arith))
 
   -- All pins.
-  pub feed-full : (o : List Spot) (i : ℕ) → o ≡ filled (feedOfLists xs ys) (replicate mostPins Absent) i → length xs ≡ i → o ≡ feedOfLists xs ys
-  unfolding filled feedOfLists
-  feed-full o i so-far h =
-      let n : length (spotsOf xs ys) ≡ i = spots-many xs ys alike ∙ h in
-      so-far ∙ rw (take-at (spotsOf xs ys) _ i n, drop-same i mostPins Absent (omega arith), n)
+  pub feed-full : length xs ≡ i → o ≡ feedOfLists xs ys
+  unfolding feedUpTo feedOfLists
+  feed-full h = so-far ∙ ap (padded mostPins Absent) (take-all i (spotsOf xs ys) (omega (arith, spots-many xs ys alike)))

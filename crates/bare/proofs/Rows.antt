@@ -1,7 +1,7 @@
 -- Bare wiring gives each refusal exactly under its condition and after those before it: 16, 17, 8, 9, 18, 19; and 18 never. Assumes nothing.
 use mathlib.Core.Path.{_≡_, refl, sym, ap, _∙_}
 use mathlib.Core.Bool.{Bool, true, false, not, true≢false}
-use mathlib.Core.List.{List, [], _∷_}
+use mathlib.Core.List.{List, [], _∷_, _++_}
 use Prim.Native.Nat.{ℕ}
 use native.Mathlib.Omega.{arith}
 use borrow.Author.Tests.{not-false}
@@ -12,7 +12,7 @@ use Rattle.refusal.specs.Tests.{both, choose}
 use Rattle.refusal.specs.Refusals.{accepted, turn}
 use Rattle.refusal.specs.declared.Verdict.{Verdict}
 use Rattle.refusal.specs.declared.Verdict.the-variants.{Accepted, ListLengths, NoPins, Outside, PlaceTaken, BoxesMeet, RoomTooSmall}
-use Rattle.refusal.proofs.Rows.{Row, given, firstOf, Given, refusalAt, Exactly, exactly, distinct, unlike}
+use Rattle.refusal.proofs.Rows.{Row, given, firstOf, Given, refusalAt, Exactly, exactly, distinct, unlike, miss}
 use Rattle.feed.specs.Feeds.{allWithin, allApart}
 use Rattle.tree.specs.Growth.{keptIf, pinsFrom, pinsOf, runsOf}
 use Rattle.tree.specs.Boxes.{boxesMeet}
@@ -24,21 +24,25 @@ use Rattle.bare.specs.Bare.{spotsOf, feedOfLists, wrongLengths, bareVerd
 use Rattle.bare.proofs.Feeds.{feed-many}
 use Rattle.bare.proofs.Verdicts.{lengths-right}
 
--- Bare wiring: 16, 17, 8, 9, 18, 19.
-unfoldable pub bareRows : List ℤ → List ℤ → ℕ → List Row
-bareRows xs ys room =
+-- What the lists say: 16, 17, 8, 9.
+abbrev listRows : List ℤ → List ℤ → List Row
+listRows xs ys =
     given (wrongLengths xs ys) ListLengths
     ∷ given (eqb (length xs) 0) NoPins
     ∷ given (not (allWithin (feedOfLists xs ys))) Outside
     ∷ given (not (allApart (feedOfLists xs ys))) PlaceTaken
-    ∷ given (boxesMeet (feedOfLists xs ys) (runsOf (feedOfLists xs ys))) BoxesMeet
+    ∷ []
+
+-- What the wiring of their pins says: 18, 19.
+abbrev legRows : List ℤ → List ℤ → ℕ → List Row
+legRows xs ys room =
+    given (boxesMeet (feedOfLists xs ys) (runsOf (feedOfLists xs ys))) BoxesMeet
     ∷ given (ltb room (length (legsNeeded (feedOfLists xs ys)))) RoomTooSmall
     ∷ []
 
--- A row that does not hold is passed.
-passes-by : {t : Bool} (u v : Verdict) → t ≡ false → turn t u v ≡ v
-unfolding turn choose
-passes-by u v p = rw p
+-- Bare wiring: 16, 17, 8, 9, 18, 19.
+unfoldable pub bareRows : List ℤ → List ℤ → ℕ → List Row
+bareRows xs ys room = listRows xs ys ++ legRows xs ys room
 
 -- Lists that are alike and not empty have a pin.
 pins-there : (xs ys : List ℤ) → wrongLengths xs ys ≡ false → eqb (length xs) 0 ≡ false → none (pinsOf (feedOfLists xs ys)) ≡ false
@@ -56,23 +60,18 @@ later-by false u e = e refl
 module _ (xs ys : List ℤ) (room : ℕ) where
   -- The wiring's verdict, where there are pins.
   wired-is : wrongLengths xs ys ≡ false → eqb (length xs) 0 ≡ false
-      → wiringOf (feedOfLists xs ys) room .wiring .verdict
-      ≡ turn (boxesMeet (feedOfLists xs ys) (runsOf (feedOfLists xs ys))) BoxesMeet (turn (ltb room (length (legsNeeded (feedOfLists xs ys)))) RoomTooSmall Accepted)
+      → wiringOf (feedOfLists xs ys) room .wiring .verdict ≡ firstOf (legRows xs ys room) Accepted
   unfolding firstOf
-  wired-is right e = wiring-verdict (feedOfLists xs ys) room ∙ passes-by NoPins _ (pins-there xs ys right e)
+  wired-is right e = wiring-verdict (feedOfLists xs ys) room ∙ sym (miss NoPins (pins-there xs ys right e) refl)
 
   -- The answer carries the first of the rows that applies.
   answer-is : bareOf xs ys room .wiring .verdict ≡ firstOf (bareRows xs ys room) Accepted
   unfolding bareOf bareVerdict bareRows firstOf distinct unlike both accepted
   answer-is =
-      laid-behind
-      (given (wrongLengths xs ys) ListLengths
-      ∷ given (eqb (length xs) 0) NoPins
-      ∷ given (not (allWithin (feedOfLists xs ys))) Outside
-      ∷ given (not (allApart (feedOfLists xs ys))) PlaceTaken
-      ∷ []) refl (wiringOf (feedOfLists xs ys) room)
+      laid-behind (listRows xs ys) refl (wiringOf (feedOfLists xs ys) room)
       ∙ later-by (wrongLengths xs ys) ListLengths
-      (λ a. later-by (eqb (length xs) 0) NoPins (λ b. ap (λ (v : Verdict). turn (not (allWithin (feedOfLists xs ys))) Outside (turn (not (allApart (feedOfLists xs ys))) PlaceTaken v)) (wired-is a b)))
+      (λ a. later-by (eqb (length xs) 0) NoPins
+      (λ b. ap (λ (v : Verdict). turn (not (allWithin (feedOfLists xs ys))) Outside (turn (not (allApart (feedOfLists xs ys))) PlaceTaken v)) (wired-is a b)))
 
   -- EACH REFUSAL OF BARE WIRING EXACTLY.
   pub bare-exactly : Exactly (bareRows xs ys room) Accepted (bareOf xs ys room .wiring .verdict)

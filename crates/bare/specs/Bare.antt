@@ -1,14 +1,16 @@
 -- Bare wiring: lists of x and y as a feed, and its refusals.
 use mathlib.Core.Bool.{Bool, not}
-use mathlib.Core.List.{List, [], _∷_, _++_}
-use Prim.Native.Nat.{ℕ, _-_}
+use mathlib.Core.List.{List, [], _∷_}
+use Prim.Native.Nat.{ℕ}
 use lib.IntN.{ℤ, pos}
 use lib.Dec.{eqb, ltb}
-use lib.ListN.{length, getD, replicate}
+use lib.ListN.{length, getD}
 use Rattle.refusal.specs.Tests.{either, choose}
+use Rattle.refusal.specs.Lists.{padded}
 use Rattle.refusal.specs.Refusals.{accepted, turn}
 use Rattle.refusal.specs.declared.Verdict.{Verdict}
 use Rattle.refusal.specs.declared.Verdict.the-variants.{Accepted, ListLengths, NoPins, Outside, PlaceTaken}
+use Rattle.grid.specs.Place.{place}
 use Rattle.feed.specs.declared.Spot.{Spot}
 use Rattle.feed.specs.declared.Spot.the-variants.{Absent, At}
 use Rattle.feed.specs.Feeds.{mostPins, allWithin, allApart}
@@ -19,15 +21,15 @@ use Rattle.wiring.specs.Answer.{turnedAway, wiringOf}
 unfoldable pub spotsOf : List ℤ → List ℤ → List Spot
 spotsOf [] ys = []
 spotsOf (x ∷ xs) [] = []
-spotsOf (x ∷ xs) (y ∷ ys) = At (record { x = x; y = y }) ∷ spotsOf xs ys
+spotsOf (x ∷ xs) (y ∷ ys) = At (place x y) ∷ spotsOf xs ys
 
 -- The pin at one position of the lists.
 unfoldable pub listedPin : List ℤ → List ℤ → ℕ → Spot
-listedPin xs ys pin = At (record { x = getD xs pin (pos 0); y = getD ys pin (pos 0) })
+listedPin xs ys pin = At (place (getD xs pin (pos 0)) (getD ys pin (pos 0)))
 
 -- Its pins are numbered by position.
 unfoldable pub feedOfLists : List ℤ → List ℤ → List Spot
-feedOfLists xs ys = spotsOf xs ys ++ replicate (mostPins - length (spotsOf xs ys)) Absent
+feedOfLists xs ys = padded mostPins Absent (spotsOf xs ys)
 
 -- x and y lists differ in length, or exceed 32.
 unfoldable pub wrongLengths : List ℤ → List ℤ → Bool

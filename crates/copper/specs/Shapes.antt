@@ -22,11 +22,11 @@ lowerCorner a b = choose (leZ (a .y) (b .y)) (crossing b a) (crossing a b)
 unfoldable pub upperCorner : Place → Place → Place
 upperCorner a b = choose (leZ (a .y) (b .y)) (crossing a b) (crossing b a)
 
--- Where the leg that leaves the near end ends: at the corner, or where the run is straight at the far end.
+-- Where the leg of a run that leaves one end for the other ends: at the corner, or where the run is straight at the other end.
 abbrev pub cornerOf : Shape → Place → Place → Place
-cornerOf Straight near far = far
-cornerOf Lower near far = lowerCorner near far
-cornerOf Upper near far = upperCorner near far
+cornerOf Straight from to = to
+cornerOf Lower from to = lowerCorner from to
+cornerOf Upper from to = upperCorner from to
 
 -- The shape of a run: straight where its ends share x or y; any other is bent, and has two shapes, `upper` saying which.
 unfoldable pub shapeOf : Bool → Place → Place → Shape

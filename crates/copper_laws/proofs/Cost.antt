@@ -1,6 +1,6 @@
 -- The length as a cost that is asked pin by pin: a pin shows its four longest arms and what the straight run that reached it has paid, and
--- its cost is the difference. Assumes of the tree what `Laid` says.
-use mathlib.Core.Path.{_≡_, refl, sym, ap, ap₂, _∙_}
+-- its cost is the difference. Assumes of the tree what `Spaced` says.
+use mathlib.Core.Path.{_≡_, refl, ap, ap₂, _∙_}
 use mathlib.Core.Bool.{Bool, true, false, cond}
 use mathlib.Core.Logic.{_⊎_, inl, inr}
 use Prim.Native.Nat.{ℕ, zero, suc, _+_, _-_, _*_, _≤_, _<_}
@@ -11,12 +11,13 @@ use Rattle.grid.proofs.Flat.{order, Site, span, span-swap}
 use Rattle.copper.specs.declared.Arms.{Arms}
 use Rattle.copper.specs.declared.Tally.{Tally}
 use Rattle.copper.specs.Arms.{longest, spread, owed}
+use Rattle.copper.specs.Least.{best}
 use Rattle.copper_laws.proofs.Sums.{sumBelow, sum-same, sum-less, sum-times}
-use Rattle.copper_laws.proofs.Least.{entered, shown, total, best}
+use Rattle.copper_laws.proofs.Least.{entered, shown, total}
 use Rattle.copper_laws.proofs.Cover.{straight, gridLength}
-use Rattle.copper_laws.proofs.Sharing.{near-tip, far-tip, far-straight, straight-true}
+use Rattle.copper_laws.proofs.Sharing.{near-tip, far-tip, far-straight, straight-true, shared-turned}
 use Rattle.copper_laws.proofs.Star.{armTo, spread-arm, Within}
-use Rattle.copper_laws.proofs.Laid.{Laid, startArms, addArms, isBent, armsAt, straightLength, grid-length}
+use Rattle.copper_laws.proofs.Laid.{Spaced, startArms, addArms, armsAt, straightLength, grid-length, isBentRun}
 
 -- Longer arms reach no less.
 pub spread-longest : (a b : Arms) → spread a ≤ spread (longest a b)
@@ -36,17 +37,9 @@ lexical a c b d B l k h = go (order a c) (order c a)
 pub paid-within : (u : Bool) (a b : Site) → cond (straight a b) (span a b) 0 ≤ spread (armTo b (far-tip u a b))
 paid-within u a b = go (straight a b) refl
   where
-    turned : (a .x ≡ b .x) ⊎ (a .y ≡ b .y) → (b .x ≡ a .x) ⊎ (b .y ≡ a .y)
-    turned (inl e) = inl (sym e)
-    turned (inr e) = inr (sym e)
-
     go : (t : Bool) → straight a b ≡ t → cond t (span a b) 0 ≤ spread (armTo b (far-tip u a b))
-    go true e = rw (far-straight u a b e) (omega (arith, spread-arm b a (turned (straight-true a b e)), span-swap a b))
+    go true e = rw (far-straight u a b e) (omega (arith, spread-arm b a (shared-turned a b (straight-true a b e)), span-swap a b))
     go false e = omega arith
-
--- Runs that cost nothing for themselves.
-abbrev pub free : ℕ → Bool → ℕ
-free r u = 0
 
 module _ (at : ℕ → Site) (near : ℕ → ℕ) where
   -- What pin i has paid: the length of the straight run that reached it, which its near pin counts.
@@ -64,15 +57,16 @@ module _ (at : ℕ → Site) (near : ℕ → ℕ) where
 
   -- The cost of a choice of shapes: B for each unit of length, and what each run costs for itself (its part of the mask of shapes, or nothing).
   unfoldable pub costOf : ℕ → (ℕ → Bool → ℕ) → ℕ → (ℕ → Bool) → ℕ
-  costOf B w n s = total Tally startTally addTally (λ a. owed a * B) near (isBent at near) w n s
+  costOf B w n s = total Tally startTally addTally (λ a. owed a * B) near (isBentRun at near) w n s
 
   -- The least cost, asked pin by pin.
   unfoldable pub leastCost : ℕ → (ℕ → Bool → ℕ) → ℕ → ℕ
-  leastCost B w n = best Tally startTally addTally (λ a. owed a * B) near (isBent at near) w n 0 0 (startTally 0 false)
+  leastCost B w n = best Tally startTally addTally (λ a. owed a * B) near (isBentRun at near) w n 0 0 (startTally 0 false)
 
   module _ (B : ℕ) (w : ℕ → Bool → ℕ) where
+    -- What a pin shows when the runs before m have the shapes s.
     abbrev tally : ℕ → (ℕ → Bool) → ℕ → Tally
-    tally m s i = shown Tally startTally addTally (λ a. owed a * B) near (isBent at near) w m s i
+    tally m s i = shown Tally startTally addTally (λ a. owed a * B) near (isBentRun at near) w m s i
 
     -- What a pin shows is its longest arms and what it has paid.
     tally-is : (m : ℕ) (s : ℕ → Bool) (i : ℕ) → (tally m s i .arms ≡ armsAt at near m s i) × (tally m s i .paid ≡ paidAt i)
@@ -117,7 +111,7 @@ module _ (at : ℕ → Site) (near : ℕ → ℕ) where
   paid-sum zero = refl
   paid-sum (suc n) = ap (λ (z : ℕ). straightLength at near n + z) (paid-sum n)
 
-  module _ (n : ℕ) (laid : Laid at near n) (m : ℕ) (inside : (i : ℕ) → i < suc n → Within m (at i)) where
+  module _ (n : ℕ) (laid : Spaced at near n) (m : ℕ) (inside : (i : ℕ) → i < suc n → Within m (at i)) where
     -- The cost is the length, times B, with what the runs cost for themselves.
     pub cost-is : (B : ℕ) (w : ℕ → Bool → ℕ) (s : ℕ → Bool) → costOf B w n s ≡ sumBelow n (λ r. w r (s r)) + gridLength at near m n s * B
     unfolding costOf total owed

@@ -1,20 +1,18 @@
 -- How many different steps there are among steps of a grid is the sum over the grid of 1 for each step that is among them.
 -- Assumes that the steps, moved by 2 ^ 31, are on the grid.
 use mathlib.Core.Path.{_≡_, refl, sym, ap, ap₂, _∙_}
-use mathlib.Core.Bool.{Bool, true, false, _&&_, _||_}
+use mathlib.Core.Bool.{Bool, true, false}
 use mathlib.Core.List.{List, [], _∷_, _++_}
 use Prim.Native.Nat.{ℕ, suc, _+_, _<_}
 use native.Mathlib.Omega.{arith}
 use lib.Dec.{eqb}
 use borrow.Author.Tests.{eq-eqb, ne-eqb, eqb-true}
-use Rattle.refusal.specs.Tests.{both, either, choose}
-use Rattle.grid.specs.Place.{sameNumber}
+use Rattle.refusal.specs.Tests.{both, either, choose, anyOf}
+use Rattle.refusal.proofs.Tests.{opposite, both-left, both-right}
 use Rattle.grid.proofs.Signed.{off}
 use Rattle.copper.specs.Length.{Step, across, up, sameStep, among, different}
 use Rattle.copper_laws.proofs.Numbers.{Low, back, back-off, same-back}
 use Rattle.copper_laws.proofs.Sums.{oneIf, sumBelow, sum-same, sum-none, sum-only}
-use Rattle.refusal.proofs.Tests.{opposite}
-use Rattle.copper_laws.proofs.Tests.{and-left, and-right}
 use Rattle.copper_laws.proofs.Cover.{Stride, along, rise, over}
 use Rattle.copper_laws.proofs.Star.{over-same, over-add}
 
@@ -46,61 +44,51 @@ round-step (up x y) h = ap₂ up (back-off x (h .0)) (back-off y (h .1))
 
 -- Two strides are the same.
 unfoldable sameStride : Stride → Stride → Bool
-sameStride (along x y) (along v w) = eqb x v && eqb y w
+sameStride (along x y) (along v w) = both (eqb x v) (eqb y w)
 sameStride (along x y) (rise v w) = false
 sameStride (rise x y) (along v w) = false
-sameStride (rise x y) (rise v w) = eqb x v && eqb y w
+sameStride (rise x y) (rise v w) = both (eqb x v) (eqb y w)
 
+-- Strides that the test calls the same are one.
 same-stride : (σ τ : Stride) → sameStride σ τ ≡ true → σ ≡ τ
 unfolding sameStride
 same-stride (along x y) (along v w) e =
-    ap₂ along (eqb-true x v (and-left (eqb x v) (eqb y w) e)) (eqb-true y w (and-right (eqb x v) (eqb y w) e))
+    ap₂ along (eqb-true x v (both-left (eqb x v) (eqb y w) e)) (eqb-true y w (both-right (eqb x v) (eqb y w) e))
 same-stride (along x y) (rise v w) e = absurd (opposite e refl)
 same-stride (rise x y) (along v w) e = absurd (opposite e refl)
 same-stride (rise x y) (rise v w) e =
-    ap₂ rise (eqb-true x v (and-left (eqb x v) (eqb y w) e)) (eqb-true y w (and-right (eqb x v) (eqb y w) e))
+    ap₂ rise (eqb-true x v (both-left (eqb x v) (eqb y w) e)) (eqb-true y w (both-right (eqb x v) (eqb y w) e))
 
--- The two words for tests that both hold say the same,
-pub both-is : (a b : Bool) → both a b ≡ (a && b)
-unfolding both
-both-is true b = refl
-both-is false b = refl
-
--- and so do those for one of two.
-pub either-is : (a b : Bool) → either a b ≡ (a || b)
-unfolding either
-either-is true b = refl
-either-is false b = refl
-
+-- Two steps are the same where their strides are.
 same-step : (σ : Stride) (t : Step) → LowStep t → sameStep (stepAt σ) t ≡ sameStride σ (strideOf t)
 unfolding sameStep stepAt sameStride strideOf
-same-step (along x y) (across v w) h =
-    both-is (sameNumber (back x) v) (sameNumber (back y) w) ∙ ap₂ _&&_ (same-back x v (h .0)) (same-back y w (h .1))
+same-step (along x y) (across v w) h = ap₂ both (same-back x v (h .0)) (same-back y w (h .1))
 same-step (along x y) (up v w) h = refl
 same-step (rise x y) (across v w) h = refl
-same-step (rise x y) (up v w) h =
-    both-is (sameNumber (back x) v) (sameNumber (back y) w) ∙ ap₂ _&&_ (same-back x v (h .0)) (same-back y w (h .1))
+same-step (rise x y) (up v w) h = ap₂ both (same-back x v (h .0)) (same-back y w (h .1))
 
 -- One site of the grid.
-one-site : (m v w : ℕ) → v < m → w < m → sumBelow m (λ x. sumBelow m (λ y. oneIf (eqb x v && eqb y w))) ≡ 1
+one-site : (m v w : ℕ) → v < m → w < m → sumBelow m (λ x. sumBelow m (λ y. oneIf (both (eqb x v) (eqb y w)))) ≡ 1
+unfolding both
 one-site m v w p q =
-    sum-only m v (λ x. sumBelow m (λ y. oneIf (eqb x v && eqb y w))) p
-    (λ i l ne. sum-none m (λ y. oneIf (eqb i v && eqb y w)) (λ y k. rw (ne-eqb i v ne)))
+    sum-only m v (λ x. sumBelow m (λ y. oneIf (both (eqb x v) (eqb y w)))) p
+    (λ i l ne. sum-none m (λ y. oneIf (both (eqb i v) (eqb y w))) (λ y k. rw (ne-eqb i v ne)))
     ∙ rw (eq-eqb v v refl)
     (sum-only m w (λ y. oneIf (eqb y w)) q (λ i l ne. rw (ne-eqb i w ne)) ∙ rw (eq-eqb w w refl))
 
-plain : (m v w : ℕ) (f : ℕ → ℕ → ℕ) → ((x y : ℕ) → f x y ≡ oneIf (eqb x v && eqb y w)) → v < m → w < m
+-- A sum over the grid of what is 1 there and 0 elsewhere.
+plain : (m v w : ℕ) (f : ℕ → ℕ → ℕ) → ((x y : ℕ) → f x y ≡ oneIf (both (eqb x v) (eqb y w))) → v < m → w < m
     → sumBelow m (λ x. sumBelow m (λ y. f x y)) ≡ 1
 plain m v w f h p q =
-    sum-same m (λ x. sumBelow m (λ y. f x y)) (λ x. sumBelow m (λ y. oneIf (eqb x v && eqb y w)))
-    (λ x l. sum-same m (λ y. f x y) (λ y. oneIf (eqb x v && eqb y w)) (λ y k. h x y))
+    sum-same m (λ x. sumBelow m (λ y. f x y)) (λ x. sumBelow m (λ y. oneIf (both (eqb x v) (eqb y w))))
+    (λ x l. sum-same m (λ y. f x y) (λ y. oneIf (both (eqb x v) (eqb y w))) (λ y k. h x y))
     ∙ one-site m v w p q
 
 -- A stride of the grid counts once.
 one-stride : (m : ℕ) (τ : Stride) → OnGrid m τ → over m (λ σ. oneIf (sameStride σ τ)) ≡ 1
 unfolding over sameStride
-one-stride m (along v w) h = plain m v w (λ x y. oneIf (eqb x v && eqb y w) + 0) (λ x y. omega arith) (h .0) (h .1)
-one-stride m (rise v w) h = plain m v w (λ x y. 0 + oneIf (eqb x v && eqb y w)) (λ x y. omega arith) (h .0) (h .1)
+one-stride m (along v w) h = plain m v w (λ x y. oneIf (both (eqb x v) (eqb y w)) + 0) (λ x y. omega arith) (h .0) (h .1)
+one-stride m (rise v w) h = plain m v w (λ x y. 0 + oneIf (both (eqb x v) (eqb y w))) (λ x y. omega arith) (h .0) (h .1)
 
 -- Steps that are on the grid up to (m, m) when they are moved.
 pub data Each (m : ℕ) : List Step → Type 0 where
@@ -114,30 +102,35 @@ each-join (more p q h) k = more p q (each-join h k)
 
 -- One step more: it counts where it is not among the others.
 module _ (m : ℕ) (f : Stride → Bool) (τ : Stride) where
-  again : f τ ≡ true → over m (λ σ. oneIf (sameStride σ τ || f σ)) ≡ over m (λ σ. oneIf (f σ))
-  again e = over-same m (λ σ. oneIf (sameStride σ τ || f σ)) (λ σ. oneIf (f σ)) (λ σ. ap oneIf (go σ (sameStride σ τ) refl))
+  -- One that is among them changes nothing,
+  again : f τ ≡ true → over m (λ σ. oneIf (either (sameStride σ τ) (f σ))) ≡ over m (λ σ. oneIf (f σ))
+  unfolding either
+  again e = over-same m (λ σ. oneIf (either (sameStride σ τ) (f σ))) (λ σ. oneIf (f σ)) (λ σ. ap oneIf (go σ (sameStride σ τ) refl))
     where
-      go : (σ : Stride) (t : Bool) → sameStride σ τ ≡ t → (t || f σ) ≡ f σ
+      go : (σ : Stride) (t : Bool) → sameStride σ τ ≡ t → either t (f σ) ≡ f σ
       go σ true q = sym (ap f (same-stride σ τ q) ∙ e)
       go σ false q = refl
 
-  anew : f τ ≡ false → OnGrid m τ → over m (λ σ. oneIf (sameStride σ τ || f σ)) ≡ suc (over m (λ σ. oneIf (f σ)))
+  -- and one that is not adds 1.
+  anew : f τ ≡ false → OnGrid m τ → over m (λ σ. oneIf (either (sameStride σ τ) (f σ))) ≡ suc (over m (λ σ. oneIf (f σ)))
+  unfolding either
   anew e h =
-      over-same m (λ σ. oneIf (sameStride σ τ || f σ)) (λ σ. oneIf (sameStride σ τ) + oneIf (f σ)) (λ σ. go σ (sameStride σ τ) refl)
+      over-same m (λ σ. oneIf (either (sameStride σ τ) (f σ))) (λ σ. oneIf (sameStride σ τ) + oneIf (f σ)) (λ σ. go σ (sameStride σ τ) refl)
       ∙ over-add m (λ σ. oneIf (sameStride σ τ)) (λ σ. oneIf (f σ))
       ∙ (let z = one-stride m τ h in omega (arith, z))
     where
-      go : (σ : Stride) (t : Bool) → sameStride σ τ ≡ t → oneIf (t || f σ) ≡ oneIf t + oneIf (f σ)
+      go : (σ : Stride) (t : Bool) → sameStride σ τ ≡ t → oneIf (either t (f σ)) ≡ oneIf t + oneIf (f σ)
       go σ true q = rw (ap f (same-stride σ τ q) ∙ e)
       go σ false q = omega arith
 
+-- No steps count nothing.
 no-steps : (m : ℕ) → over m (λ σ. oneIf (among (stepAt σ) [])) ≡ 0
-unfolding over among
+unfolding over anyOf
 no-steps m = sum-none m (λ x. sumBelow m (λ y. 0 + 0)) (λ x k. sum-none m (λ y. 0 + 0) (λ y j. refl))
 
 -- The count of different steps is the sum over the grid.
 pub counted : {m : ℕ} {ts : List Step} → Each m ts → different ts ≡ over m (λ σ. oneIf (among (stepAt σ) ts))
-unfolding different among choose
+unfolding different anyOf choose
 counted {m} none = sym (no-steps m)
 counted {m} (more {t = t} {ts = ts} p q h) = go (among t ts) refl (counted h)
   where
@@ -147,10 +140,10 @@ counted {m} (more {t = t} {ts = ts} p q h) = go (among t ts) refl (counted h)
     there : f (strideOf t) ≡ among t ts
     there = ap (λ (z : Step). among z ts) (round-step t p)
 
-    one-more : over m (λ σ. oneIf (among (stepAt σ) (t ∷ ts))) ≡ over m (λ σ. oneIf (sameStride σ (strideOf t) || f σ))
+    one-more : over m (λ σ. oneIf (among (stepAt σ) (t ∷ ts))) ≡ over m (λ σ. oneIf (either (sameStride σ (strideOf t)) (f σ)))
     one-more =
-        over-same m (λ σ. oneIf (among (stepAt σ) (t ∷ ts))) (λ σ. oneIf (sameStride σ (strideOf t) || f σ))
-        (λ σ. ap oneIf (either-is (sameStep (stepAt σ) t) (f σ) ∙ ap (λ (z : Bool). z || f σ) (same-step σ t p)))
+        over-same m (λ σ. oneIf (among (stepAt σ) (t ∷ ts))) (λ σ. oneIf (either (sameStride σ (strideOf t)) (f σ)))
+        (λ σ. ap oneIf (ap (λ (z : Bool). either z (f σ)) (same-step σ t p)))
 
     go : (b : Bool) → among t ts ≡ b → different ts ≡ over m (λ σ. oneIf (f σ))
         → choose b (different ts) (suc (different ts)) ≡ over m (λ σ. oneIf (among (stepAt σ) (t ∷ ts)))

@@ -1,9 +1,10 @@
 -- Covered steps of the moved grid, whose coordinates are ℕ: what a leg and a run cover, and the length as a sum over the grid.
 -- Pins are numbered by when they were reached: 0 is the first, suc r the far pin of run r, `near r` the near pin of run r, `at i` the site of
 -- pin i. A shape is a Bool: false is lower, true is upper. Assumes nothing.
-use mathlib.Core.Bool.{Bool, true, false, cond, _&&_, _||_}
+use mathlib.Core.Bool.{Bool, true, false, cond}
 use Prim.Native.Nat.{ℕ, zero, suc, _+_, min, max}
 use lib.Dec.{eqb, ltb, leb}
+use Rattle.refusal.specs.Tests.{both, either}
 use Rattle.grid.proofs.Flat.{Site}
 use Rattle.copper_laws.proofs.Sums.{oneIf, sumBelow}
 
@@ -14,12 +15,12 @@ pub data Stride : Type 0 where
 
 -- The leg from a to b covers the stride: it lies in the leg's row, or in its column, between the ends.
 unfoldable pub covers : Site → Site → Stride → Bool
-covers a b (along x y) = eqb y (a .y) && (eqb y (b .y) && (leb (min (a .x) (b .x)) x && ltb x (max (a .x) (b .x))))
-covers a b (rise x y) = eqb x (a .x) && (eqb x (b .x) && (leb (min (a .y) (b .y)) y && ltb y (max (a .y) (b .y))))
+covers a b (along x y) = both (eqb y (a .y)) (both (eqb y (b .y)) (both (leb (min (a .x) (b .x)) x) (ltb x (max (a .x) (b .x)))))
+covers a b (rise x y) = both (eqb x (a .x)) (both (eqb x (b .x)) (both (leb (min (a .y) (b .y)) y) (ltb y (max (a .y) (b .y)))))
 
 -- The ends share x or y.
 unfoldable pub straight : Site → Site → Bool
-straight a b = eqb (a .x) (b .x) || eqb (a .y) (b .y)
+straight a b = either (eqb (a .x) (b .x)) (eqb (a .y) (b .y))
 
 -- Where a bent run turns.
 unfoldable pub bend : Bool → Site → Site → Site
@@ -28,12 +29,12 @@ bend true a b = record { x = cond (leb (a .y) (b .y)) (a .x) (b .x); y = max (a 
 
 -- The run from a to b in the shape u covers the stride, by its one leg or by one of its two.
 unfoldable pub runCovers : Bool → Site → Site → Stride → Bool
-runCovers u a b σ = cond (straight a b) (covers a b σ) (covers a (bend u a b) σ || covers (bend u a b) b σ)
+runCovers u a b σ = cond (straight a b) (covers a b σ) (either (covers a (bend u a b) σ) (covers (bend u a b) b σ))
 
 -- A test holds of a number below n.
 unfoldable pub some : ℕ → (ℕ → Bool) → Bool
 some zero f = false
-some (suc n) f = f n || some n f
+some (suc n) f = either (f n) (some n f)
 
 -- The sum of f over the strides of the grid from (0, 0) up to (m, m).
 unfoldable pub over : ℕ → (Stride → ℕ) → ℕ

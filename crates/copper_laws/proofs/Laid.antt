@@ -1,19 +1,19 @@
 -- The length of a tree of runs is a sum over its pins: of the longest arms in the four directions, less the straight runs, which two pins
--- have. Proved stride by stride and then summed over the grid. Assumes of the tree what `Laid` says.
+-- have. Proved stride by stride and then summed over the grid. Assumes of the tree what `Spaced` says.
 use mathlib.Core.Path.{_≡_, refl, sym, ap, _∙_, subst}
-use mathlib.Core.Bool.{Bool, true, false, not, cond, _&&_, _||_}
+use mathlib.Core.Bool.{Bool, true, false, not, cond}
 use mathlib.Core.Logic.{_⊎_, inl, inr}
 use Prim.Native.Nat.{ℕ, zero, suc, _+_, _≤_, _<_}
 use native.Mathlib.Omega.{arith}
 use lib.Dec.{eqb}
 use borrow.Author.Tests.{eq-eqb, eqb-true, eqb-false}
+use Rattle.refusal.specs.Tests.{both, either}
+use Rattle.refusal.proofs.Tests.{opposite, fails-if, both-left, both-right, both-of, either-which, either-left, either-second, same-test}
 use Rattle.tree.proofs.FourPins.{InBox}
 use Rattle.grid.proofs.Flat.{Site, span}
 use Rattle.copper.specs.declared.Arms.{Arms}
 use Rattle.copper.specs.Arms.{noArms, longest, spread}
 use Rattle.copper_laws.proofs.Sums.{oneIf, sumBelow, sum-same, sum-none, sum-only, sum-pair}
-use Rattle.refusal.proofs.Tests.{opposite, fails-if}
-use Rattle.copper_laws.proofs.Tests.{and-left, and-right, and-both, or-which, or-left, or-right, same-test}
 use Rattle.copper_laws.proofs.Least.{entered, shown}
 use Rattle.copper_laws.proofs.Cover.{Stride, covers, straight, some, over, coversOf, covered, gridLength}
 use Rattle.copper_laws.proofs.Sharing.{
@@ -67,20 +67,21 @@ use Rattle.copper_laws.proofs.Star.{
 some-of : (n : ℕ) (f : ℕ → Bool) → some n f ≡ true → (r : ℕ) × (r < n) × (f r ≡ true)
 unfolding some
 some-of zero f e = absurd (opposite e refl)
-some-of (suc n) f e = go (or-which (f n) (some n f) e) (some-of n f)
+some-of (suc n) f e = go (either-which (f n) (some n f) e) (some-of n f)
   where
     go : (f n ≡ true) ⊎ (some n f ≡ true) → (some n f ≡ true → (r : ℕ) × (r < n) × (f r ≡ true)) → (r : ℕ) × (r < suc n) × (f r ≡ true)
     go (inl h) ih = (n, omega arith, h)
     go (inr h) ih = let z = ih h in (z .0, omega (arith, z .1), z .2)
 
+-- Where it holds of one, some number passes it.
 some-holds : (n : ℕ) (f : ℕ → Bool) (r : ℕ) → r < n → f r ≡ true → some n f ≡ true
 unfolding some
 some-holds zero f r l h = absurd (omega arith)
 some-holds (suc n) f r l h = go (eqb r n) refl (some-holds n f r)
   where
-    go : (t : Bool) → eqb r n ≡ t → (r < n → f r ≡ true → some n f ≡ true) → (f n || some n f) ≡ true
-    go true e ih = or-left (f n) (some n f) (ap f (sym (eqb-true r n e)) ∙ h)
-    go false e ih = let ne : r ≡ n → ⊥ = eqb-false r n e in or-right (f n) (some n f) (ih (omega (arith, ne)) h)
+    go : (t : Bool) → eqb r n ≡ t → (r < n → f r ≡ true → some n f ≡ true) → either (f n) (some n f) ≡ true
+    go true e ih = either-left (some n f) (ap f (sym (eqb-true r n e)) ∙ h)
+    go false e ih = let ne : r ≡ n → ⊥ = eqb-false r n e in either-second (f n) (ih (omega (arith, ne)) h)
 
 -- The run r joins the pins i and j.
 pub data Joins (near : ℕ → ℕ) (r i j : ℕ) : Type 0 where
@@ -89,7 +90,7 @@ pub data Joins (near : ℕ → ℕ) (r i j : ℕ) : Type 0 where
 
 -- What is asked of a tree: near pins are reached first; no run is empty; the boxes of two runs without a common pin share no site; and of
 -- three pins joined by two runs the outer two are at least as far from each other as each is from the middle one.
-pub record Laid (at : ℕ → Site) (near : ℕ → ℕ) (n : ℕ) : Type 0 where
+pub record Spaced (at : ℕ → Site) (near : ℕ → ℕ) (n : ℕ) : Type 0 where
   pub grown : (r : ℕ) → r < n → near r ≤ r
   pub full : (r : ℕ) → r < n → Same (at (near r)) (at (suc r)) → ⊥
   pub separate : (r q : ℕ) → r < n → q < n → (r ≡ q → ⊥) → (near r ≡ near q → ⊥) → (near r ≡ suc q → ⊥) → (suc r ≡ near q → ⊥)
@@ -120,18 +121,18 @@ module _ (at : ℕ → Site) (near : ℕ → ℕ) where
   addArms a r u = longest a (armTo (at (near r)) (tipNear u r))
 
   -- Run r is bent.
-  abbrev pub isBent : ℕ → Bool
-  isBent r = not (isStraightRun r)
+  abbrev pub isBentRun : ℕ → Bool
+  isBentRun r = not (isStraightRun r)
 
   -- The longest arms that leave pin i, when the runs before n have the shapes s.
   unfoldable pub armsAt : ℕ → (ℕ → Bool) → ℕ → Arms
-  armsAt n s i = shown Arms startArms addArms spread near isBent (λ r u. 0) n s i
+  armsAt n s i = shown Arms startArms addArms spread near isBentRun (λ r u. 0) n s i
 
   -- The length of a straight run.
   unfoldable pub straightLength : ℕ → ℕ
   straightLength r = cond (isStraightRun r) (span (at (near r)) (at (suc r))) 0
 
-  module _ (n : ℕ) (laid : Laid at near n) (s : ℕ → Bool) where
+  module _ (n : ℕ) (laid : Spaced at near n) (s : ℕ → Bool) where
     -- An arm: a leg of run r that leaves the pin p and covers the stride.
     pub data Arm (r p : ℕ) (σ : Stride) : Type 0 where
       leaves : p ≡ near r → On (at (near r)) (tipNear (s r) r) σ → Arm r p σ
@@ -141,11 +142,13 @@ module _ (at : ℕ → Site) (near : ℕ → ℕ) where
     abbrev pub Covering : ℕ → Stride → Type 0
     Covering r σ = coversOf at near r (s r) σ ≡ true
 
+    -- What an arm covers, its run covers,
     arm-covers : {r p : ℕ} {σ : Stride} → Arm r p σ → Covering r σ
     unfolding coversOf
     arm-covers {r} (leaves e h) = near-covers (s r) (at (near r)) (at (suc r)) h
     arm-covers {r} (enters e h) = far-covers (s r) (at (near r)) (at (suc r)) h
 
+    -- and what a run covers, an arm of it covers.
     has-arm : (r : ℕ) (σ : Stride) → Covering r σ → (p : ℕ) × Arm r p σ
     unfolding coversOf
     has-arm r σ h = go (an-arm (s r) (at (near r)) (at (suc r)) h)
@@ -168,6 +171,7 @@ module _ (at : ℕ → Site) (near : ℕ → ℕ) where
       split : On (at i) t σ ⊎ On t (at j) σ
       mine : On (at i) t σ → Arm r i σ
 
+    -- So each of its ends sees it.
     view : (r i j : ℕ) (σ : Stride) → r < n → Joins near r i j → Covering r σ → View r i j σ
     unfolding coversOf
     view r i j σ l (out e f) h =
@@ -248,6 +252,7 @@ module _ (at : ℕ → Site) (near : ℕ → ℕ) where
         go (inr a) (inl b) = absurd (second-first (at (c .i)) (at (c .j)) (v .t) (w .t) (v .tip) a b)
         go (inr a) (inr b) = absurd (second-second (at (c .i)) (at (c .j)) (at (c .k)) (d .0) (d .1) (v .t) (w .t) (v .tip) (w .tip) a b)
 
+    -- A stride that a straight run covers lies between its ends,
     straight-on : (r i j : ℕ) (σ : Stride) → isStraightRun r ≡ true → Joins near r i j → Covering r σ → On (at i) (at j) σ
     unfolding coversOf
     straight-on r i j σ e (out f g) h =
@@ -255,6 +260,7 @@ module _ (at : ℕ → Site) (near : ℕ → ℕ) where
     straight-on r i j σ e (back f g) h =
         rw (f, g) (straight-back (s r) (at (near r)) (at (suc r)) e (both-arms (s r) (at (near r)) (at (suc r)) e h .1))
 
+    -- and both ends have an arm on it.
     two-arms : (r : ℕ) (σ : Stride) → isStraightRun r ≡ true → Covering r σ → Arm r (near r) σ × Arm r (suc r) σ
     unfolding coversOf
     two-arms r σ e h = let z = both-arms (s r) (at (near r)) (at (suc r)) e h in (leaves refl (z .0), enters refl (z .1))
@@ -273,6 +279,7 @@ module _ (at : ℕ → Site) (near : ℕ → ℕ) where
     pin-start (suc r) σ l e =
         (r, omega arith, enters refl (on-of (at (suc r)) (tipFar (s r) r) σ (sym (star-arm-is (at (suc r)) (tipFar (s r) r) σ) ∙ e)))
 
+    -- So it is when some runs lead on.
     pin-true : (i m : ℕ) (σ : Stride) → i < suc n → m < suc n → star (at i) (armsAt m s i) σ ≡ true → (r : ℕ) × (r < n) × Arm r i σ
     unfolding armsAt shown addArms
     pin-true i zero σ l k e = pin-start i σ l e
@@ -294,9 +301,10 @@ module _ (at : ℕ → Site) (near : ℕ → ℕ) where
             (m, omega arith, leaves (sym q) (on-of (at (near m)) (tipNear (s m) m) σ (sym (star-arm-is (at (near m)) (tipNear (s m) m) σ) ∙ z')))
 
         go : (t : Bool) → eqb (near m) i ≡ t → (star (at i) R σ ≡ true → Found) → star (at i) (cond t (longest R A) R) σ ≡ true → Found
-        go true q ih h = by (eqb-true (near m) i q) ih (or-which (star (at i) R σ) (star (at i) A σ) (sym (star-longest (at i) R A σ) ∙ h))
+        go true q ih h = by (eqb-true (near m) i q) ih (either-which (star (at i) R σ) (star (at i) A σ) (sym (star-longest (at i) R A σ) ∙ h))
         go false q ih h = ih h
 
+    -- Arms never get shorter.
     grows : (i m : ℕ) (σ : Stride) → star (at i) (armsAt m s i) σ ≡ true → star (at i) (armsAt (suc m) s i) σ ≡ true
     unfolding armsAt shown addArms
     grows i m σ e = go (eqb (near m) i)
@@ -308,9 +316,10 @@ module _ (at : ℕ → Site) (near : ℕ → ℕ) where
         A = armTo (at (near m)) (tipNear (s m) m)
 
         go : (t : Bool) → star (at i) (cond t (longest R A) R) σ ≡ true
-        go true = star-longest (at i) R A σ ∙ or-left (star (at i) R σ) (star (at i) A σ) e
+        go true = star-longest (at i) R A σ ∙ either-left (star (at i) A σ) e
         go false = e
 
+    -- The arm of a run that leads on is one of its near pin's,
     new-arm : (m : ℕ) (σ : Stride) → On (at (near m)) (tipNear (s m) m) σ → star (at (near m)) (armsAt (suc m) s (near m)) σ ≡ true
     unfolding armsAt shown addArms
     new-arm m σ h =
@@ -318,13 +327,15 @@ module _ (at : ℕ → Site) (near : ℕ → ℕ) where
         let A : Arms = armTo (at (near m)) (tipNear (s m) m) in
         rw (eq-eqb (near m) (near m) refl)
         (star-longest (at (near m)) R A σ
-        ∙ or-right (star (at (near m)) R σ) (star (at (near m)) A σ) (star-arm-is (at (near m)) (tipNear (s m) m) σ ∙ on-covers (at (near m)) (tipNear (s m) m) h))
+        ∙ either-second (star (at (near m)) R σ) (star-arm-is (at (near m)) (tipNear (s m) m) σ ∙ on-covers (at (near m)) (tipNear (s m) m) h))
 
+    -- that of the run that reached a pin stays one,
     old-arm : (r m : ℕ) (σ : Stride) → On (at (suc r)) (tipFar (s r) r) σ → star (at (suc r)) (armsAt m s (suc r)) σ ≡ true
     unfolding armsAt shown startArms
     old-arm r zero σ h = star-arm-is (at (suc r)) (tipFar (s r) r) σ ∙ on-covers (at (suc r)) (tipFar (s r) r) h
     old-arm r (suc m) σ h = grows (suc r) m σ (old-arm r m σ h)
 
+    -- and so does that of a run that led on before.
     far-on : (r m : ℕ) (σ : Stride) → r < m → On (at (near r)) (tipNear (s r) r) σ → star (at (near r)) (armsAt m s (near r)) σ ≡ true
     far-on r zero σ l h = absurd (omega arith)
     far-on r (suc m) σ l h = go (eqb r m) refl (λ k. far-on r m σ k h)
@@ -333,25 +344,31 @@ module _ (at : ℕ → Site) (near : ℕ → ℕ) where
         go true e ih = subst (λ (z : ℕ). star (at (near r)) (armsAt (suc z) s (near r)) σ ≡ true) (eqb-true r m e) (new-arm r σ h)
         go false e ih = let ne : r ≡ m → ⊥ = eqb-false r m e in grows (near r) m σ (ih (omega (arith, ne)))
 
+    -- So every arm at a pin is among its longest.
     pin-is : (r i : ℕ) (σ : Stride) → r < n → Arm r i σ → star (at i) (armsAt n s i) σ ≡ true
     pin-is r i σ l (leaves e h) = rw e (far-on r n σ l h)
     pin-is r i σ l (enters e h) = rw e (old-arm r n σ h)
 
+    -- An arm is at an end of its run,
     arm-end : {r i : ℕ} {σ : Stride} → Arm r i σ → (i ≡ near r) ⊎ (i ≡ suc r)
     arm-end (leaves e h) = inl e
     arm-end (enters e h) = inr e
 
+    -- which is a pin of the tree.
     arm-in : {r i : ℕ} {σ : Stride} → r < n → Arm r i σ → i < suc n
     arm-in {r} l (leaves e h) = omega (arith, laid .grown r l)
     arm-in {r} l (enters e h) = omega arith
 
+    -- An arm of a run is one of the same run.
     arm-as : {r q i : ℕ} {σ : Stride} → r ≡ q → Arm r i σ → Arm q i σ
     arm-as {r} {q} {i} {σ} e h = subst (λ (z : ℕ). Arm z i σ) e h
 
+    -- A test that does not hold counts nothing,
     oneIf-none : (t : Bool) → (t ≡ true → ⊥) → oneIf t ≡ 0
     oneIf-none true h = absurd (h refl)
     oneIf-none false h = refl
 
+    -- and one that holds counts 1.
     oneIf-one : {t : Bool} → t ≡ true → oneIf t ≡ 1
     oneIf-one e = rw e
 
@@ -361,7 +378,7 @@ module _ (at : ℕ → Site) (near : ℕ → ℕ) where
 
     -- Run r is straight and covers the stride.
     unfoldable pub straightOn : Stride → ℕ → Bool
-    straightOn σ r = (isStraightRun r && coversOf at near r (s r) σ)
+    straightOn σ r = both (isStraightRun r) (coversOf at near r (s r) σ)
 
     -- On a stride that a straight run covers only its two ends have arms.
     ends-only : (r : ℕ) (σ : Stride) → r < n → isStraightRun r ≡ true → Covering r σ → (i : ℕ) → i < suc n → (i ≡ near r → ⊥) → (i ≡ suc r → ⊥) → pinsOn σ i ≡ true → ⊥
@@ -413,11 +430,11 @@ module _ (at : ℕ → Site) (near : ℕ → ℕ) where
         line r l e h =
             let c1 : oneIf (pinsOn σ (near r)) ≡ 1 = oneIf-one (pin-is r (near r) σ l (two-arms r σ e h .0)) in
             let c2 : oneIf (pinsOn σ (suc r)) ≡ 1 = oneIf-one (pin-is r (suc r) σ l (two-arms r σ e h .1)) in
-            let c3 : oneIf (straightOn σ r) ≡ 1 = oneIf-one (and-both (isStraightRun r) (coversOf at near r (s r) σ) e h) in
+            let c3 : oneIf (straightOn σ r) ≡ 1 = oneIf-one (both-of e h) in
             let c4 =
             sum-only n r (λ q. oneIf (straightOn σ q)) l
             (λ q k ne. oneIf-none (straightOn σ q) (λ z. one-straight r q σ l k (λ y. ne (sym y)) e
-            (and-left (isStraightRun q) (coversOf at near q (s q) σ) z) h (and-right (isStraightRun q) (coversOf at near q (s q) σ) z)))
+            (both-left (isStraightRun q) (coversOf at near q (s q) σ) z) h (both-right (isStraightRun q) (coversOf at near q (s q) σ) z)))
             in
             let c5 =
             sum-pair (suc n) (near r) (suc r) (λ i. oneIf (pinsOn σ i)) (omega (arith, laid .grown r l)) (omega arith)
@@ -429,7 +446,7 @@ module _ (at : ℕ → Site) (near : ℕ → ℕ) where
         bend : (r p : ℕ) → r < n → Arm r p σ → some n (straightOn σ) ≡ false → Goal true
         bend r p l h no-mark =
             let ns : (q : ℕ) → q < n → Covering q σ → isStraightRun q ≡ false =
-            λ q k c. fails-if (isStraightRun q) (λ z. opposite (some-holds n (straightOn σ) q k (and-both (isStraightRun q) (coversOf at near q (s q) σ) z c)) no-mark) in
+            λ q k c. fails-if (isStraightRun q) (λ z. opposite (some-holds n (straightOn σ) q k (both-of z c)) no-mark) in
             let c1 : oneIf (pinsOn σ p) ≡ 1 = oneIf-one (pin-is r p σ l h) in
             let c2 = sum-none n (λ q. oneIf (straightOn σ q)) (λ q k. oneIf-none (straightOn σ q) (λ z. opposite (some-holds n (straightOn σ) q k z) no-mark)) in
             let c3 = sum-only (suc n) p (λ i. oneIf (pinsOn σ i)) (arm-in l h) (λ i k ne. oneIf-none (pinsOn σ i) (pin-only r p σ l h ns i k ne)) in
@@ -438,12 +455,12 @@ module _ (at : ℕ → Site) (near : ℕ → ℕ) where
         go : (x y : Bool) → some n (straightOn σ) ≡ x → covered at near n s σ ≡ y → Goal y
         go true true a b =
             let f = some-of n (straightOn σ) a in
-            line (f .0) (f .1) (and-left (isStraightRun (f .0)) (coversOf at near (f .0) (s (f .0)) σ) (f .2))
-            (and-right (isStraightRun (f .0)) (coversOf at near (f .0) (s (f .0)) σ) (f .2))
+            line (f .0) (f .1) (both-left (isStraightRun (f .0)) (coversOf at near (f .0) (s (f .0)) σ) (f .2))
+            (both-right (isStraightRun (f .0)) (coversOf at near (f .0) (s (f .0)) σ) (f .2))
         go true false a b =
             let f = some-of n (straightOn σ) a in
             absurd (opposite (some-holds n (λ r. coversOf at near r (s r) σ) (f .0) (f .1)
-            (and-right (isStraightRun (f .0)) (coversOf at near (f .0) (s (f .0)) σ) (f .2))) b)
+            (both-right (isStraightRun (f .0)) (coversOf at near (f .0) (s (f .0)) σ) (f .2))) b)
         go false true a b =
             let f = some-of n (λ r. coversOf at near r (s r) σ) b in
             let h = has-arm (f .0) σ (f .2) in
@@ -473,10 +490,12 @@ module _ (at : ℕ → Site) (near : ℕ → ℕ) where
       near-in : (r : ℕ) → r < n → Within m (at (near r))
       near-in r l = inside (near r) (omega (arith, laid .grown r l))
 
+      -- A tip of two sites on the grid is on it.
       tip-in : {i j t : Site} → Within m i → Within m j → Tip i j t → Within m t
       tip-in a b (row-first e f k) = omega (arith, a .x-in, a .y-in, b .x-in, b .y-in)
       tip-in a b (column-first e f k) = omega (arith, a .x-in, a .y-in, b .x-in, b .y-in)
 
+      -- The first arms of a pin stay on the grid,
       start-in : (i : ℕ) → i < suc n → Inside m (at i) (startArms i (entered s i))
       unfolding startArms
       start-in zero l = inside-none m (at 0) (inside 0 l)
@@ -484,6 +503,7 @@ module _ (at : ℕ → Site) (near : ℕ → ℕ) where
           inside-arm m (at (suc r)) (tipFar (s r) r) (inside (suc r) l)
           (tip-in (inside (suc r) l) (near-in r (omega arith)) (tips (s r) (at (near r)) (at (suc r)) (laid .full r (omega arith)) .1))
 
+      -- and so do its arms when some runs lead on.
       arms-in : (i k : ℕ) → i < suc n → k < suc n → Inside m (at i) (armsAt k s i)
       unfolding armsAt shown addArms
       arms-in i zero l h = start-in i l
@@ -503,7 +523,7 @@ module _ (at : ℕ → Site) (near : ℕ → ℕ) where
 
       -- A straight run covers as many strides as it is long.
       straight-count : (r : ℕ) → r < n → over m (λ σ. oneIf (straightOn σ r)) ≡ straightLength r
-      unfolding straightOn straightLength
+      unfolding straightOn straightLength both
       straight-count r l = go (isStraightRun r) refl
         where
           a : Site
@@ -512,13 +532,14 @@ module _ (at : ℕ → Site) (near : ℕ → ℕ) where
           b : Site
           b = at (suc r)
 
-          go : (t : Bool) → isStraightRun r ≡ t → over m (λ σ. oneIf (t && coversOf at near r (s r) σ)) ≡ cond t (span a b) 0
+          go : (t : Bool) → isStraightRun r ≡ t → over m (λ σ. oneIf (both t (coversOf at near r (s r) σ))) ≡ cond t (span a b) 0
           go true e =
               over-same m (λ σ. oneIf (coversOf at near r (s r) σ)) (λ σ. oneIf (star a (armTo a b) σ)) (λ σ. ap oneIf (straight-covers r σ e))
               ∙ star-count m a (armTo a b) (inside-arm m a b (near-in r l) (inside (suc r) (omega arith)))
               ∙ spread-arm a b (straight-true a b e)
           go false e = over-none m
 
+      -- The arms of a pin cover as many strides as they are long.
       pin-count : (i : ℕ) → i < suc n → over m (λ σ. oneIf (pinsOn σ i)) ≡ spread (armsAt n s i)
       unfolding pinsOn
       pin-count i l = star-count m (at i) (armsAt n s i) (arms-in i n l (omega arith))

@@ -1,23 +1,16 @@
 -- Least choices: each run of a tree has one of two shapes, and what is asked pin by pin is the least over all choices at once.
 -- Pins are numbered by when they were reached: 0 is the first, suc r the far pin of run r, and `near r` the near pin of run r. A shape is a
--- Bool: false is lower, true is upper. What a pin shows is of any type: `start` is what the run that reached it leaves there, `add` what a
--- run that leads on adds, `finish` what it costs in the end; `own` is what a run costs for itself. Assumes that near pins are reached first.
+-- Bool: false is lower, true is upper. What a pin shows is of any type, as `copper/Least`: `best` has it. Assumes that near pins are reached first.
 use mathlib.Core.Path.{_≡_, refl, sym, ap, ap₂, _∙_}
 use mathlib.Core.Bool.{Bool, true, false, cond}
-use mathlib.Core.List.{List, [], _∷_}
-use Prim.Native.Nat.{ℕ, zero, suc, _+_, _-_, _*_, _/_, _%_, _^_, _≤_, _<_, min}
-use native.Mathlib.Nat.{pow-suc}
+use Prim.Native.Nat.{ℕ, zero, suc, _+_, _≤_, _<_}
 use native.Mathlib.Decide.{decLe}
 use native.Mathlib.Omega.{arith}
 use lib.Dec.{eqb}
-use lib.Pow.{pow-pos}
 use borrow.Author.Tests.{eq-eqb, ne-eqb, eqb-true, eqb-false}
-use Rattle.copper_laws.proofs.Sums.{oneIf, sumBelow, sum-same, sum-but-one}
-
--- The lesser cost of the shapes that a run may have: a straight run has the lower one only.
-abbrev pub lesser : Bool → ℕ → ℕ → ℕ
-lesser true lower upper = min lower upper
-lesser false lower upper = lower
+use Rattle.refusal.specs.Tests.{choose}
+use Rattle.copper.specs.Least.{lesserOf, best}
+use Rattle.copper_laws.proofs.Sums.{sumBelow, sum-same, sum-but-one}
 
 -- What a run costs in the shape that was chosen, false for lower and true for upper.
 abbrev pub taken : Bool → ℕ → ℕ → ℕ
@@ -29,18 +22,18 @@ abbrev pub May : Bool → Bool → Type 0
 May bent s = bent ≡ false → s ≡ false
 
 -- The lesser cost is at most that of any shape which the run may have ..
-pub lesser-le : (bent s : Bool) (x y : ℕ) → May bent s → lesser bent x y ≤ taken s x y
+pub lesser-le : (bent s : Bool) (x y : ℕ) → May bent s → lesserOf bent x y ≤ taken s x y
 lesser-le true false x y h = omega arith
 lesser-le true true x y h = omega arith
 lesser-le false false x y h = omega arith
 lesser-le false true x y h = absurd (let z : _≡_ {A = ℕ} 0 1 = cc (h refl) in omega arith)
 
 -- .. and is that of one of them.
-pub lesser-is : (bent : Bool) (x y : ℕ) → (s : Bool) × May bent s × (lesser bent x y ≡ taken s x y)
+pub lesser-is : (bent : Bool) (x y : ℕ) → (s : Bool) × May bent s × (lesserOf bent x y ≡ taken s x y)
 lesser-is false x y = (false, λ e. refl, refl)
 lesser-is true x y = go (decLe x y)
   where
-    go : Dec (x ≤ y) → (s : Bool) × May true s × (lesser true x y ≡ taken s x y)
+    go : Dec (x ≤ y) → (s : Bool) × May true s × (lesserOf true x y ≡ taken s x y)
     go (yes h) = (false, λ e. refl, omega arith)
     go (no h) = (true, λ e. e, omega arith)
 
@@ -49,22 +42,10 @@ abbrev pub entered : (ℕ → Bool) → ℕ → Bool
 entered s zero = false
 entered s (suc i) = s i
 
--- A run that leads on from a pin, with what it costs in either shape together with all below it.
-pub record Onward : Type 0 where
-  pub run : ℕ
-  pub lower : ℕ
-  pub upper : ℕ
-
 module _ (A : Type 0) (start : ℕ → Bool → A) (add : A → ℕ → Bool → A) (finish : A → ℕ) (near : ℕ → ℕ) (bent : ℕ → Bool) (own : ℕ → Bool → ℕ) where
-  -- What pin i costs with all below it, where the runs before `next` have left it showing a, and k runs are to come.
-  unfoldable pub best : ℕ → ℕ → ℕ → A → ℕ
-  best zero i next a = finish a
-  best (suc k) i next a =
-      cond (eqb (near next) i)
-      (lesser (bent next)
-      (own next false + best k (suc next) (suc next) (start (suc next) false) + best k i (suc next) (add a next false))
-      (own next true + best k (suc next) (suc next) (start (suc next) true) + best k i (suc next) (add a next true)))
-      (best k i (suc next) a)
+  -- What pin i costs at least with all below it, where it shows a and the k runs from `next` on are to come.
+  abbrev pub asked : ℕ → ℕ → ℕ → A → ℕ
+  asked k i next a = best A start add finish near bent own k i next a
 
   -- What pin i shows when the runs before m have the shapes s.
   unfoldable pub shown : ℕ → (ℕ → Bool) → ℕ → A
@@ -77,49 +58,58 @@ module _ (A : Type 0) (start : ℕ → Bool → A) (add : A → ℕ → Bool →
 
   -- On the way: the runs before m have the shapes s, and the k others are chosen as they come.
   value : ℕ → ℕ → (ℕ → Bool) → ℕ
-  value k m s = sumBelow m (λ r. own r (s r)) + sumBelow (suc m) (λ i. best k i m (shown m s i))
+  value k m s = sumBelow m (λ r. own r (s r)) + sumBelow (suc m) (λ i. asked k i m (shown m s i))
 
   -- What the run `next`, in the shape b, and all that follows for pin i come to.
   abbrev cost : ℕ → ℕ → ℕ → A → Bool → ℕ
-  cost k i next a b = own next b + best k (suc next) (suc next) (start (suc next) b) + best k i (suc next) (add a next b)
+  cost k i next a b = own next b + asked k (suc next) (suc next) (start (suc next) b) + asked k i (suc next) (add a next b)
 
-  best-hit : (k i next : ℕ) (a : A) → near next ≡ i → best (suc k) i next a ≡ lesser (bent next) (cost k i next a false) (cost k i next a true)
-  unfolding best
+  -- A run that leads on from the pin is weighed in both shapes,
+  best-hit : (k i next : ℕ) (a : A) → near next ≡ i → asked (suc k) i next a ≡ lesserOf (bent next) (cost k i next a false) (cost k i next a true)
+  unfolding best choose
   best-hit k i next a h = simp (eq-eqb (near next) i h)
 
-  best-miss : (k i next : ℕ) (a : A) → (near next ≡ i → ⊥) → best (suc k) i next a ≡ best k i (suc next) a
-  unfolding best
+  -- any other is passed.
+  best-miss : (k i next : ℕ) (a : A) → (near next ≡ i → ⊥) → asked (suc k) i next a ≡ asked k i (suc next) a
+  unfolding best choose
   best-miss k i next a h = simp (ne-eqb (near next) i h)
 
+  -- A run that leads on from a pin adds to what it shows,
   shown-hit : (m : ℕ) (s : ℕ → Bool) (i : ℕ) → near m ≡ i → shown (suc m) s i ≡ add (shown m s i) m (s m)
   unfolding shown
   shown-hit m s i h = simp (eq-eqb (near m) i h)
 
+  -- any other does not.
   shown-miss : (m : ℕ) (s : ℕ → Bool) (i : ℕ) → (near m ≡ i → ⊥) → shown (suc m) s i ≡ shown m s i
   unfolding shown
   shown-miss m s i h = simp (ne-eqb (near m) i h)
 
+  -- Where none leads on, a pin shows what it did at first.
   shown-none : (m : ℕ) (s : ℕ → Bool) (i : ℕ) → ((r : ℕ) → r < m → near r ≡ i → ⊥) → shown m s i ≡ start i (entered s i)
   unfolding shown
   shown-none zero s i h = refl
   shown-none (suc m) s i h = shown-miss m s i (h m (omega arith)) ∙ shown-none m s i (λ r l. h r (omega arith))
 
+  -- Shapes that agree on the runs before m agree on the one that reached a pin,
   entered-same : (m i : ℕ) (s t : ℕ → Bool) → i < suc m → ((r : ℕ) → r < m → s r ≡ t r) → entered s i ≡ entered t i
   entered-same m zero s t l h = refl
   entered-same m (suc i) s t l h = h i (omega arith)
 
+  -- on what it shows,
   shown-same : (m : ℕ) (s t : ℕ → Bool) (i : ℕ) → entered s i ≡ entered t i → ((r : ℕ) → r < m → s r ≡ t r) → shown m s i ≡ shown m t i
   unfolding shown
   shown-same zero s t i e h = ap (start i) e
   shown-same (suc m) s t i e h = rw (h m (omega arith), shown-same m s t i e (λ r l. h r (omega arith)))
 
+  -- and on the value.
   value-same : (k m : ℕ) (s t : ℕ → Bool) → ((r : ℕ) → r < m → s r ≡ t r) → value k m s ≡ value k m t
   unfolding value
   value-same k m s t h =
       ap₂ _+_ (sum-same m (λ r. own r (s r)) (λ r. own r (t r)) (λ r l. ap (own r) (h r l)))
-      (sum-same (suc m) (λ i. best k i m (shown m s i)) (λ i. best k i m (shown m t i))
-      (λ i l. ap (best k i m) (shown-same m s t i (entered-same m i s t l h) h)))
+      (sum-same (suc m) (λ i. asked k i m (shown m s i)) (λ i. asked k i m (shown m t i))
+      (λ i l. ap (asked k i m) (shown-same m s t i (entered-same m i s t l h) h)))
 
+  -- The cost in a shape is that of the lower or of the upper.
   cost-taken : (k i m : ℕ) (a : A) (b : Bool) → cost k i m a b ≡ taken b (cost k i m a false) (cost k i m a true)
   cost-taken k i m a false = refl
   cost-taken k i m a true = refl
@@ -128,24 +118,24 @@ module _ (A : Type 0) (start : ℕ → Bool → A) (add : A → ℕ → Bool →
     -- One run on: both values are one amount R, less d, and what the run m costs, in the best shape or in that of s.
     move : (k m : ℕ) (s : ℕ → Bool) → m < n
         → (d : ℕ) × (R : ℕ)
-        × (value (suc k) m s + d ≡ R + lesser (bent m) (cost k (near m) m (shown m s (near m)) false) (cost k (near m) m (shown m s (near m)) true))
+        × (value (suc k) m s + d ≡ R + lesserOf (bent m) (cost k (near m) m (shown m s (near m)) false) (cost k (near m) m (shown m s (near m)) true))
         × (value k (suc m) s + d ≡ R + cost k (near m) m (shown m s (near m)) (s m))
     unfolding value sumBelow
     move k m s lt =
         let j : ℕ = near m in
         let jl : j ≤ m = grown m lt in
-        let f : ℕ → ℕ = λ i. best (suc k) i m (shown m s i) in
-        let g : ℕ → ℕ = λ i. best k i (suc m) (shown (suc m) s i) in
+        let f : ℕ → ℕ = λ i. asked (suc k) i m (shown m s i) in
+        let g : ℕ → ℕ = λ i. asked k i (suc m) (shown (suc m) s i) in
         let W : ℕ = sumBelow m (λ r. own r (s r)) in
         let other : (i : ℕ) → i < suc m → (i ≡ j → ⊥) → f i ≡ g i =
         λ i l ne.
         let miss : near m ≡ i → ⊥ = λ e. ne (sym e) in
-        best-miss k i m (shown m s i) miss ∙ ap (best k i (suc m)) (sym (shown-miss m s i miss)) in
+        best-miss k i m (shown m s i) miss ∙ ap (asked k i (suc m)) (sym (shown-miss m s i miss)) in
         let one : sumBelow (suc m) f + g j ≡ sumBelow (suc m) g + f j = sum-but-one (suc m) j f g (omega arith) other in
         let fj = best-hit k j m (shown m s j) refl in
-        let gj : g j ≡ best k j (suc m) (add (shown m s j) m (s m)) = ap (best k j (suc m)) (shown-hit m s j refl) in
-        let last : g (suc m) ≡ best k (suc m) (suc m) (start (suc m) (s m)) =
-        ap (best k (suc m) (suc m)) (shown-none (suc m) s (suc m) (λ r l e. omega (arith, grown r (omega arith)))) in
+        let gj : g j ≡ asked k j (suc m) (add (shown m s j) m (s m)) = ap (asked k j (suc m)) (shown-hit m s j refl) in
+        let last : g (suc m) ≡ asked k (suc m) (suc m) (start (suc m) (s m)) =
+        ap (asked k (suc m) (suc m)) (shown-none (suc m) s (suc m) (λ r l e. omega (arith, grown r (omega arith)))) in
         (g j, W + sumBelow (suc m) g, omega (arith, one, fj), omega (arith, gj, last))
 
     -- The value never falls on the way to the whole choice.
@@ -158,6 +148,7 @@ module _ (A : Type 0) (start : ℕ → Bool → A) (add : A → ℕ → Bool →
         let c = lesser-le (bent m) (s m) (cost k (near m) m q false) (cost k (near m) m q true) (may m lt) in
         omega (arith, st .2, st .3, c, cost-taken k (near m) m q (s m), never-more k (suc m) s (omega arith) may)
 
+    -- The shapes s with b for run m.
     abbrev changed : (ℕ → Bool) → ℕ → Bool → ℕ → Bool
     changed s m b r = cond (eqb r m) b (s r)
 
@@ -179,7 +170,7 @@ module _ (A : Type 0) (start : ℕ → Bool → A) (add : A → ℕ → Bool →
         let here : s1 m ≡ b = simp (eq-eqb m m refl) in
         let st = move k m s1 lt in
         let qq : q ≡ q1 = shown-same m s s1 j (entered-same m j s s1 (omega (arith, grown m lt)) below) below in
-        let same : lesser (bent m) (cost k j m q1 false) (cost k j m q1 true) ≡ cost k j m q1 (s1 m) =
+        let same : lesserOf (bent m) (cost k j m q1 false) (cost k j m q1 true) ≡ cost k j m q1 (s1 m) =
         rw (here, ← qq) (ch .2 ∙ sym (cost-taken k j m q b)) in
         let may1 : (r : ℕ) → r < suc m → May (bent r) (s1 r) = λ r l. go r l (eqb r m) refl (ch .1) in
         let rec = reached k (suc m) s1 (omega arith) may1 in
@@ -190,162 +181,36 @@ module _ (A : Type 0) (start : ℕ → Bool → A) (add : A → ℕ → Bool →
         go r l true q m2 = λ z. m2 (sym (ap bent (eqb-true r m q)) ∙ z)
         go r l false q m2 = may r (let ne : r ≡ m → ⊥ = eqb-false r m q in omega (arith, ne))
 
+    -- With no run to come the value is the cost of the whole choice,
     final : (s : ℕ → Bool) → value 0 n s ≡ total n s
     unfolding value total best
     final s = refl
 
-    initial : (s : ℕ → Bool) → value n 0 s ≡ best n 0 0 (start 0 false)
+    -- and with all to come it is what is asked of the first pin.
+    initial : (s : ℕ → Bool) → value n 0 s ≡ asked n 0 0 (start 0 false)
     unfolding value sumBelow shown
     initial s = omega arith
 
     -- No whole choice of shapes costs less than what is found pin by pin ..
-    pub best-least : (s : ℕ → Bool) → ((r : ℕ) → r < n → May (bent r) (s r)) → best n 0 0 (start 0 false) ≤ total n s
+    pub best-least : (s : ℕ → Bool) → ((r : ℕ) → r < n → May (bent r) (s r)) → asked n 0 0 (start 0 false) ≤ total n s
     best-least s may = omega (arith, never-more n 0 s (omega arith) may, final s, initial s)
 
     -- .. and some whole choice costs just that.
-    pub best-reached : (s : ℕ → Bool) × ((r : ℕ) → r < n → May (bent r) (s r)) × (best n 0 0 (start 0 false) ≡ total n s)
+    pub best-reached : (s : ℕ → Bool) × ((r : ℕ) → r < n → May (bent r) (s r)) × (asked n 0 0 (start 0 false) ≡ total n s)
     best-reached =
         let none : ℕ → Bool = λ r. false in
         let r = reached n 0 none (omega arith) (λ r l. absurd (omega arith)) in
         (r .0, r .1, sym (initial none) ∙ r .2 ∙ final (r .0))
 
-  -- The runs that lead on from pin i, among the k from `next` on.
-  unfoldable pub onward : ℕ → ℕ → ℕ → List Onward
-  onward zero i next = []
-  onward (suc k) i next =
-      cond (eqb (near next) i)
-      (record {
-        run = next;
-        lower = own next false + best k (suc next) (suc next) (start (suc next) false);
-        upper = own next true + best k (suc next) (suc next) (start (suc next) true);
-      } ∷ onward k i (suc next))
-      (onward k i (suc next))
-
-  -- Their shapes chosen one after the other.
-  unfoldable pub nested : List Onward → A → ℕ
-  nested [] a = finish a
-  nested (x ∷ ks) a = lesser (bent (x .run)) (x .lower + nested ks (add a (x .run) false)) (x .upper + nested ks (add a (x .run) true))
-
-  -- To choose them one after the other is to ask for the best.
-  pub nested-best : (k i next : ℕ) (a : A) → nested (onward k i next) a ≡ best k i next a
-  unfolding nested onward best
-  nested-best zero i next a = refl
-  nested-best (suc k) i next a =
-      go (eqb (near next) i) (nested-best k i (suc next) (add a next false))
-      (nested-best k i (suc next) (add a next true)) (nested-best k i (suc next) a)
-    where
-      x : Onward
-      x =
-          record {
-            run = next;
-            lower = own next false + best k (suc next) (suc next) (start (suc next) false);
-            upper = own next true + best k (suc next) (suc next) (start (suc next) true);
-          }
-
-      go : (b : Bool)
-          → nested (onward k i (suc next)) (add a next false) ≡ best k i (suc next) (add a next false)
-          → nested (onward k i (suc next)) (add a next true) ≡ best k i (suc next) (add a next true)
-          → nested (onward k i (suc next)) a ≡ best k i (suc next) a
-          → nested (cond b (x ∷ onward k i (suc next)) (onward k i (suc next))) a
-          ≡ cond b (lesser (bent next) (cost k i next a false) (cost k i next a true)) (best k i (suc next) a)
-      go true f t m = rw (f, t)
-      go false f t m = m
-
-  -- How many of them are bent.
-  unfoldable pub bentCount : List Onward → ℕ
-  bentCount [] = 0
-  bentCount (x ∷ ks) = oneIf (bent (x .run)) + bentCount ks
-
-  -- What they cost in the combination c, whose binary digits, the lowest first, are the shapes of the bent ones.
-  unfoldable pub priceOf : List Onward → A → ℕ → ℕ
-  priceOf [] a c = finish a
-  priceOf (x ∷ ks) a c =
-      cond (bent (x .run))
-      (cond (eqb (c % 2) 0) (x .lower + priceOf ks (add a (x .run) false) (c / 2)) (x .upper + priceOf ks (add a (x .run) true) (c / 2)))
-      (x .lower + priceOf ks (add a (x .run) false) c)
-
-  -- The least price of the combinations 0 to n.
-  unfoldable pub leastTo : List Onward → A → ℕ → ℕ
-  leastTo ks a zero = priceOf ks a 0
-  leastTo ks a (suc n) = min (priceOf ks a (suc n)) (leastTo ks a n)
-
-  nested-least : (ks : List Onward) (a : A) (c : ℕ) → nested ks a ≤ priceOf ks a c
-  unfolding nested priceOf
-  nested-least [] a c = omega arith
-  nested-least (x ∷ ks) a c = go (bent (x .run)) (eqb (c % 2) 0)
-      (nested-least ks (add a (x .run) false) (c / 2)) (nested-least ks (add a (x .run) true) (c / 2)) (nested-least ks (add a (x .run) false) c)
-    where
-      go : (b d : Bool) {f t p q r : ℕ} → f ≤ p → t ≤ q → f ≤ r → lesser b (x .lower + f) (x .upper + t) ≤ cond b (cond d (x .lower + p) (x .upper + q)) (x .lower + r)
-      go true true u v z = omega arith
-      go true false u v z = omega arith
-      go false d u v z = omega arith
-
-  nested-reached : (ks : List Onward) (a : A) → (c : ℕ) × (c < 2 ^ bentCount ks) × (priceOf ks a c ≡ nested ks a)
-  unfolding nested priceOf bentCount
-  nested-reached [] a = (0, omega arith, refl)
-  nested-reached (x ∷ ks) a = go (bent (x .run)) (nested-reached ks (add a (x .run) false)) (nested-reached ks (add a (x .run) true))
-    where
-      lower-way : A
-      lower-way = add a (x .run) false
-
-      upper-way : A
-      upper-way = add a (x .run) true
-
-      go : (b : Bool)
-          → (c : ℕ) × (c < 2 ^ bentCount ks) × (priceOf ks lower-way c ≡ nested ks lower-way)
-          → (c : ℕ) × (c < 2 ^ bentCount ks) × (priceOf ks upper-way c ≡ nested ks upper-way)
-          → (c : ℕ) × (c < 2 ^ (oneIf b + bentCount ks))
-          × (cond b (cond (eqb (c % 2) 0) (x .lower + priceOf ks lower-way (c / 2)) (x .upper + priceOf ks upper-way (c / 2))) (x .lower + priceOf ks lower-way c)
-          ≡ lesser b (x .lower + nested ks lower-way) (x .upper + nested ks upper-way))
-      go false f t = (f .0, rw (let z : 0 + bentCount ks ≡ bentCount ks = omega arith in z) (f .1), ap (λ (v : ℕ). x .lower + v) (f .2))
-      go true f t = by (decLe (x .lower + nested ks lower-way) (x .upper + nested ks upper-way))
-        where
-          size : 2 ^ (1 + bentCount ks) ≡ 2 ^ bentCount ks * 2
-          size = ap (λ (e : ℕ). 2 ^ e) (let z : 1 + bentCount ks ≡ suc (bentCount ks) = omega arith in z) ∙ pow-suc 2 (bentCount ks)
-
-          by : Dec (x .lower + nested ks lower-way ≤ x .upper + nested ks upper-way)
-              → (c : ℕ) × (c < 2 ^ (1 + bentCount ks))
-              × (cond (eqb (c % 2) 0) (x .lower + priceOf ks lower-way (c / 2)) (x .upper + priceOf ks upper-way (c / 2))
-              ≡ min (x .lower + nested ks lower-way) (x .upper + nested ks upper-way))
-          by (yes h) =
-              let c : ℕ = 2 * f .0 in
-              let d : c % 2 ≡ 0 = omega arith in
-              let e : c / 2 ≡ f .0 = omega arith in
-              (c, omega (arith, f .1, size), rw (d, e, f .2) (omega arith))
-          by (no h) =
-              let c : ℕ = 2 * t .0 + 1 in
-              let d : c % 2 ≡ 1 = omega arith in
-              let e : c / 2 ≡ t .0 = omega arith in
-              (c, omega (arith, t .1, size), rw (d, e, t .2) (omega arith))
-
-  least-le : (ks : List Onward) (a : A) (n c : ℕ) → c ≤ n → leastTo ks a n ≤ priceOf ks a c
-  unfolding leastTo
-  least-le ks a zero c h = rw (let z : c ≡ 0 = omega arith in z) (omega arith)
-  least-le ks a (suc n) c h = go (eqb c (suc n)) refl (λ l. least-le ks a n c l)
-    where
-      go : (b : Bool) → eqb c (suc n) ≡ b → (c ≤ n → leastTo ks a n ≤ priceOf ks a c) → min (priceOf ks a (suc n)) (leastTo ks a n) ≤ priceOf ks a c
-      go true e rec = rw (eqb-true c (suc n) e) (omega arith)
-      go false e rec = let ne : c ≡ suc n → ⊥ = eqb-false c (suc n) e in omega (arith, rec (omega (arith, ne)))
-
-  least-ge : (ks : List Onward) (a : A) (n v : ℕ) → ((c : ℕ) → v ≤ priceOf ks a c) → v ≤ leastTo ks a n
-  unfolding leastTo
-  least-ge ks a zero v h = h 0
-  least-ge ks a (suc n) v h = omega (arith, h (suc n), least-ge ks a n v h)
-
-  -- To count through all combinations finds what choosing one after the other finds ..
-  pub least-nested : (ks : List Onward) (a : A) → leastTo ks a (2 ^ bentCount ks - 1) ≡ nested ks a
-  least-nested ks a =
-      let r = nested-reached ks a in
-      let p : 0 < 2 ^ bentCount ks = pow-pos (bentCount ks) in
-      let l : r .0 ≤ 2 ^ bentCount ks - 1 = omega (arith, r .1) in
-      omega (arith, least-le ks a (2 ^ bentCount ks - 1) (r .0) l, least-ge ks a (2 ^ bentCount ks - 1) (nested ks a) (nested-least ks a), r .2)
-
--- Where two ways of showing and bending agree on the runs before n, they find the same.
-module _ (A : Type 0) (start start' : ℕ → Bool → A) (add add' : A → ℕ → Bool → A) (finish : A → ℕ) (near : ℕ → ℕ) (bent bent' : ℕ → Bool) (own : ℕ → Bool → ℕ)
-    (n : ℕ) (same-start : (r : ℕ) → r < n → (u : Bool) → start (suc r) u ≡ start' (suc r) u) (same-add : (a : A) (r : ℕ) → r < n → (u : Bool) → add a r u ≡ add' a r u)
+-- Where two trees agree on the runs before n, in their near pins, in what pins show and in which runs are bent, they find the same.
+module _ (A : Type 0) (start start' : ℕ → Bool → A) (add add' : A → ℕ → Bool → A) (finish : A → ℕ) (near near' : ℕ → ℕ) (bent bent' : ℕ → Bool)
+    (own : ℕ → Bool → ℕ) (n : ℕ)
+    (same-start : (r : ℕ) → r < n → (u : Bool) → start (suc r) u ≡ start' (suc r) u)
+    (same-add : (a : A) (r : ℕ) → r < n → (u : Bool) → add a r u ≡ add' a r u)
+    (same-near : (r : ℕ) → r < n → near r ≡ near' r)
     (same-bent : (r : ℕ) → r < n → bent r ≡ bent' r) where
   -- So it is with any number of runs to come.
-  pub best-same : (k i next : ℕ) (a : A) → k + next ≤ n → best A start add finish near bent own k i next a ≡ best A start' add' finish near bent' own k i next a
+  pub best-same : (k i next : ℕ) (a : A) → k + next ≤ n → best A start add finish near bent own k i next a ≡ best A start' add' finish near' bent' own k i next a
   unfolding best
   best-same zero i next a l = refl
   best-same (suc k) i next a l =
@@ -354,12 +219,12 @@ module _ (A : Type 0) (start start' : ℕ → Bool → A) (add add' : A → ℕ 
       let one : (u : Bool)
       → own next u + best A start add finish near bent own k (suc next) (suc next) (start (suc next) u)
       + best A start add finish near bent own k i (suc next) (add a next u)
-      ≡ own next u + best A start' add' finish near bent' own k (suc next) (suc next) (start' (suc next) u)
-      + best A start' add' finish near bent' own k i (suc next) (add' a next u) =
+      ≡ own next u + best A start' add' finish near' bent' own k (suc next) (suc next) (start' (suc next) u)
+      + best A start' add' finish near' bent' own k i (suc next) (add' a next u) =
       λ u.
       ap₂ (λ (v w : ℕ). own next u + v + w)
       (best-same k (suc next) (suc next) (start (suc next) u) after
-      ∙ ap (best A start' add' finish near bent' own k (suc next) (suc next)) (same-start next m u))
-      (best-same k i (suc next) (add a next u) after ∙ ap (best A start' add' finish near bent' own k i (suc next)) (same-add a next m u))
+      ∙ ap (best A start' add' finish near' bent' own k (suc next) (suc next)) (same-start next m u))
+      (best-same k i (suc next) (add a next u) after ∙ ap (best A start' add' finish near' bent' own k i (suc next)) (same-add a next m u))
       in
-      rw (same-bent next m, one false, one true, best-same k i (suc next) a after)
+      rw (same-near next m, same-bent next m, one false, one true, best-same k i (suc next) a after)

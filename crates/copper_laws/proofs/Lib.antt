@@ -1,5 +1,4 @@
 -- The laws of copper: the length of a tree of runs as a sum over its pins, and as a least cost asked pin by pin.
-pub mod Tests
 pub mod Sums
 pub mod Least
 pub mod Numbers
@@ -14,4 +13,3 @@ pub mod Moved
 pub mod Tallies
 pub mod Wired
 pub mod Planted
-pub mod Worked

@@ -1,21 +1,20 @@
 -- The words of the definitions, moved by 2 ^ 31: whether a run is straight, and where its corners are. Assumes that places are held by i32.
 use mathlib.Core.Path.{_≡_, refl, ap, ap₂, _∙_}
-use mathlib.Core.Bool.{Bool, true, false, cond, _||_}
+use mathlib.Core.Bool.{Bool, true, false, cond}
 use Prim.Native.Nat.{ℕ, min, max}
 use native.Mathlib.Omega.{arith}
 use lib.Signed.{leZ}
 use lib.Dec.{leb}
 use borrow.Author.Tests.{leb-true, leb-false}
-use Rattle.refusal.specs.Tests.{choose}
+use Rattle.refusal.specs.Tests.{either, choose}
 use Rattle.grid.specs.declared.Place.{Place}
-use Rattle.grid.specs.Place.{sameNumber, isStraight}
+use Rattle.grid.specs.Place.{isStraight}
 use Rattle.grid.proofs.Signed.{off, leZ-off}
-use Rattle.grid.proofs.Flat.{Site, site, Held}
+use Rattle.grid.proofs.Flat.{Site, site, PlaceI32}
 use Rattle.copper.specs.declared.Shape.the-variants.{Straight, Lower, Upper}
 use Rattle.copper.specs.Shapes.{crossing, lowerCorner, upperCorner, cornerOf, shapeOf}
 use Rattle.copper_laws.proofs.Cover.{straight, bend}
 use Rattle.copper_laws.proofs.Sharing.{near-tip, far-tip, straight-false}
-use Rattle.copper_laws.proofs.Counted.{either-is}
 use Rattle.copper_laws.proofs.Measured.{same-x, same-y}
 
 -- Two heights that differ are in one order only.
@@ -36,15 +35,17 @@ bend-turned true a b n =
     (let z : max (b .y) (a .y) ≡ max (a .y) (b .y) = omega arith in z)
 
 -- The run from a to b.
-module _ (a b : Place) (p : Held a) (q : Held b) where
+module _ (a b : Place) (p : PlaceI32 a) (q : PlaceI32 b) where
   -- It is straight where it is so between their sites.
   pub straight-site : isStraight a b ≡ straight (site a) (site b)
   unfolding isStraight straight
-  straight-site = either-is (sameNumber (a .x) (b .x)) (sameNumber (a .y) (b .y)) ∙ ap₂ _||_ (same-x a b p q) (same-y a b p q)
+  straight-site = ap₂ either (same-x a b p q) (same-y a b p q)
 
+  -- Which end is higher does not change.
   height : leZ (a .y) (b .y) ≡ leb (off (a .y)) (off (b .y))
   height = leZ-off (a .y) (b .y) (p .y) (q .y)
 
+  -- Where the lower corner is, by which end is higher,
   lower-by : (t : Bool) → leb (off (a .y)) (off (b .y)) ≡ t
       → site (choose t (crossing b a) (crossing a b)) ≡ record { x = cond t (off (b .x)) (off (a .x)); y = min (off (a .y)) (off (b .y)) }
   unfolding choose
@@ -55,6 +56,7 @@ module _ (a b : Place) (p : Held a) (q : Held b) where
       let h : off (b .y) ≡ min (off (a .y)) (off (b .y)) = omega (arith, leb-false (off (a .y)) (off (b .y)) e) in
       ap (λ (z : ℕ). record { x = off (a .x); y = z }) h
 
+  -- and the upper.
   upper-by : (t : Bool) → leb (off (a .y)) (off (b .y)) ≡ t
       → site (choose t (crossing a b) (crossing b a)) ≡ record { x = cond t (off (a .x)) (off (b .x)); y = max (off (a .y)) (off (b .y)) }
   unfolding choose
@@ -75,31 +77,33 @@ module _ (a b : Place) (p : Held a) (q : Held b) where
   unfolding upperCorner bend
   upper-site = rw height (upper-by (leb (off (a .y)) (off (b .y))) refl)
 
-  crossing-held : Held (crossing a b) × Held (crossing b a)
+  -- Both crossings of two places are held by i32,
+  crossing-held : PlaceI32 (crossing a b) × PlaceI32 (crossing b a)
   crossing-held = (record { x = p .x; y = q .y }, record { x = q .x; y = p .y })
 
-  choose-held : (t : Bool) (c d : Place) → Held c → Held d → Held (choose t c d)
+  -- and so is either of two places that are.
+  choose-held : (t : Bool) (c d : Place) → PlaceI32 c → PlaceI32 d → PlaceI32 (choose t c d)
   unfolding choose
   choose-held true c d h k = h
   choose-held false c d h k = k
 
   -- An i32 holds the lower corner,
-  pub lower-held : Held (lowerCorner a b)
+  pub lower-held : PlaceI32 (lowerCorner a b)
   unfolding lowerCorner
   lower-held = choose-held (leZ (a .y) (b .y)) (crossing b a) (crossing a b) (crossing-held .1) (crossing-held .0)
 
   -- and the upper one.
-  pub upper-held : Held (upperCorner a b)
+  pub upper-held : PlaceI32 (upperCorner a b)
   unfolding upperCorner
   upper-held = choose-held (leZ (a .y) (b .y)) (crossing a b) (crossing b a) (crossing-held .0) (crossing-held .1)
 
-module _ (a b : Place) (p : Held a) (q : Held b) where
+module _ (a b : Place) (p : PlaceI32 a) (q : PlaceI32 b) where
   -- An i32 holds the end of the leg that leaves the near end.
-  pub corner-held : (u : Bool) → Held (cornerOf (shapeOf u a b) a b)
+  pub corner-held : (u : Bool) → PlaceI32 (cornerOf (shapeOf u a b) a b)
   unfolding shapeOf
   corner-held u = go (isStraight a b) u
     where
-      go : (t v : Bool) → Held (cornerOf (choose t Straight (choose v Upper Lower)) a b)
+      go : (t v : Bool) → PlaceI32 (cornerOf (choose t Straight (choose v Upper Lower)) a b)
       go true v = unfold choose in q
       go false true = unfold choose in upper-held a b p q
       go false false = unfold choose in lower-held a b p q
@@ -126,11 +130,11 @@ module _ (a b : Place) (p : Held a) (q : Held b) where
       go false e false = unfold choose in (lower-site b a q p ∙ bend-turned false (site a) (site b) (straight-false (site a) (site b) e .1))
 
   -- An i32 holds that, too.
-  pub far-held : (u : Bool) → Held (cornerOf (shapeOf u a b) b a)
+  pub far-held : (u : Bool) → PlaceI32 (cornerOf (shapeOf u a b) b a)
   unfolding shapeOf
   far-held u = go (isStraight a b) u
     where
-      go : (t v : Bool) → Held (cornerOf (choose t Straight (choose v Upper Lower)) b a)
+      go : (t v : Bool) → PlaceI32 (cornerOf (choose t Straight (choose v Upper Lower)) b a)
       go true v = unfold choose in p
       go false true = unfold choose in upper-held b a q p
       go false false = unfold choose in lower-held b a q p

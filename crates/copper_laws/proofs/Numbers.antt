@@ -13,7 +13,7 @@ use Rattle.grid.specs.Place.{difference, sameNumber}
 use Rattle.grid.proofs.Signed.{off, I32, leZ-off, difference-off}
 use Rattle.grid.proofs.Board.{number-same, number-self}
 use Rattle.copper.specs.Length.{smaller}
-use Rattle.copper_laws.proofs.Tests.{same-test}
+use Rattle.refusal.proofs.Tests.{same-test}
 
 -- How far a number is below -1.
 abbrev pub depth : ℤ → ℕ
@@ -33,6 +33,7 @@ low-held (negsuc n) h = h
 unfoldable pub back : ℕ → ℤ
 back n = subℕ n 2147483648
 
+-- By whether the number was negative.
 off-back-by : (t : Bool) (n : ℕ) → ltb n 2147483648 ≡ t → off (cond t (negsuc (2147483648 - suc n)) (pos (n - 2147483648))) ≡ n
 unfolding off
 off-back-by true n e = omega (arith, ltb-true n 2147483648 e)
@@ -80,6 +81,7 @@ pub smaller-off : (a b : ℤ) → I32 a → I32 b → off (smaller a b) ≡ min 
 unfolding smaller
 smaller-off a b p q = smaller-by (leZ a b) a b (sym (leZ-off a b p q))
 
+-- Either of two numbers that are not too low is not.
 low-choose : (t : Bool) (a b : ℤ) → Low a → Low b → Low (choose t a b)
 unfolding choose
 low-choose true a b p q = p

@@ -1,43 +1,45 @@
--- The runs of a feed, its pins numbered by when they were reached, are laid as the length asks. From pins that stand on the board at places of
--- their own, from near pins that are known by when they were reached, and from a search that found no boxes that meet.
-use mathlib.Core.Path.{_≡_, refl, sym, ap, _∙_, subst}
+-- The runs of a feed, its pins numbered by when they are reached, are laid as the length asks. From pins that stand on the board at places of
+-- their own, and from a search that found no boxes that meet.
+use mathlib.Core.Path.{_≡_, sym, _∙_, subst}
 use mathlib.Core.Bool.{true, false}
 use mathlib.Core.List.{List, [], _∷_, reverseAux}
 use mathlib.Core.Logic.{_⊎_, inl, inr}
-use Prim.Native.Nat.{ℕ, zero, suc, _≤_, _<_}
+use Prim.Native.Nat.{ℕ, suc, _≤_, _<_}
 use native.Mathlib.Omega.{arith}
 use lib.IntN.{ℤ}
-use lib.Dec.{eqb}
-use lib.ListN.{length, getD}
+use lib.ListN.{length}
 use borrow.Author.Tests.{eq-eqb, ne-eqb}
-use Rattle.refusal.specs.Tests.{either, choose}
+use Rattle.refusal.specs.Tests.{either}
 use Rattle.refusal.proofs.Tests.{both-of, opposite}
 use Rattle.grid.specs.declared.Place.{Place}
 use Rattle.feed.specs.declared.Spot.{Spot}
 use Rattle.grid.specs.Place.{sameNumber, samePlace}
 use Rattle.grid.proofs.Signed.{off, I32}
-use Rattle.grid.proofs.Flat.{order, Site, span, site, Held}
+use Rattle.grid.proofs.Flat.{order, Site, span, site, PlaceI32}
 use Rattle.tree.specs.declared.Run.{Run}
-use Rattle.feed.specs.Feeds.{placeOf, spotAt, allWithin}
-use Rattle.tree.specs.Growth.{run, pinsOf, runsOf}
+use Rattle.feed.specs.Feeds.{mostPins, allWithin, placeAt}
+use Rattle.tree.specs.Growth.{pinsOf, runsOf}
+use Rattle.tree.specs.Reached.{runAt, reachedPin, reachedNear, reachedPlace}
 use Rattle.tree.specs.Boxes.{isEnd, common, boxesMeet}
-use Rattle.tree.proofs.Membership.{Among, first, later}
+use Rattle.tree.proofs.Membership.{Among}
 use Rattle.tree.proofs.Numbering.{siteAt, keyAt, stands, fits, keyed}
 use Rattle.tree.proofs.Branches.{HasRun, here, further}
-use Rattle.tree.proofs.Listing.{nearAt, farAt, runs-rooted, runs-grown, pins-low}
+use Rattle.tree.proofs.Listing.{Rooted, runs-rooted, runs-grown, pins-low}
+use Rattle.tree.proofs.Positions.{near-before, near-pin, pin-there, reached-once}
 use Rattle.tree.proofs.Spanning.{in-turned, has-run, entry-in}
 use Rattle.tree.proofs.Neighbours.{Joined, onward, backward, beyond, neighbours}
 use Rattle.tree.proofs.FourPins.{InBox, key-span}
 use Rattle.tree.proofs.Boxes.{point-shared, clash-apart, no-clash}
 use Rattle.copper_laws.proofs.Numbers.{low-held, same-off}
 use Rattle.copper_laws.proofs.Sharing.{Same}
-use Rattle.copper_laws.proofs.Laid.{Joins, out, back, Laid}
+use Rattle.copper_laws.proofs.Laid.{Joins, out, back, Spaced}
 
--- A run of a list joins its ends, both ways.
+-- A run of a list joins its ends.
 run-onward : {s t : ℕ} {rs : List Run} → HasRun s t rs → Joined s t rs
 run-onward (here e f) = onward e f
 run-onward (further h) = beyond (run-onward h)
 
+-- The other way round.
 run-backward : {s t : ℕ} {rs : List Run} → HasRun s t rs → Joined t s rs
 run-backward (here e f) = backward f e
 run-backward (further h) = beyond (run-backward h)
@@ -47,155 +49,121 @@ no-common : (r s : Run) → (r .near ≡ s .near → ⊥) → (r .near ≡ s .fa
 unfolding common isEnd either
 no-common r s a b c d = rw (ne-eqb (r .near) (s .near) a, ne-eqb (r .near) (s .far) b, ne-eqb (r .far) (s .near) c, ne-eqb (r .far) (s .far) d)
 
--- The position of the run that reaches a pin; past the last, where none does.
-unfoldable pub reacher : List Run → ℕ → ℕ
-reacher [] p = 0
-reacher (r ∷ runs) p = choose (eqb p (r .far)) 0 (suc (reacher runs p))
+module _ (feed : List Spot) (full : length feed ≡ mostPins) (ok : allWithin feed ≡ true) (f : ℕ) (left : List ℕ) (e : pinsOf feed ≡ f ∷ left) where
+  abbrev runs : List Run
+  runs = runsOf feed
 
--- When a pin was reached: the first pin at once, the far pin of run r after r runs more.
-unfoldable pub whenReached : ℕ → List Run → ℕ → ℕ
-whenReached first-pin runs p = choose (eqb p first-pin) 0 (suc (reacher runs p))
+  abbrev n : ℕ
+  n = length runs
 
-reacher-far : (runs : List Run) (q : ℕ) → q < length runs → ((i j : ℕ) → i < j → j < length runs → farAt runs i ≡ farAt runs j → ⊥) → reacher runs (farAt runs q) ≡ q
-unfolding reacher choose
-reacher-far [] q l h = absurd (omega arith)
-reacher-far (r ∷ runs) zero l h = rw (eq-eqb (r .far) (r .far) refl)
-reacher-far (r ∷ runs) (suc q) l h =
-    rw (ne-eqb (farAt runs q) (r .far) (λ z. h 0 (suc q) (omega arith) l (sym z)))
-    (ap suc (reacher-far runs q (omega arith) (λ i j a b z. h (suc i) (suc j) (omega arith) (omega arith) z)))
+  abbrev pin : ℕ → ℕ
+  pin = reachedPin runs
 
-module _ (feed : List Spot) (full : length feed ≡ 32) (ok : allWithin feed ≡ true) (f : ℕ) (left : List ℕ) (e : pinsOf feed ≡ f ∷ left) where
-  -- The pin that was reached as the i-th: the first pin, then the far pins of the runs.
-  unfoldable pub pinAt : ℕ → ℕ
-  pinAt zero = f
-  pinAt (suc r) = farAt (runsOf feed) r
+  abbrev at : ℕ → Place
+  at = reachedPlace feed runs
 
-  -- Where it stands.
-  abbrev pub placeAt : ℕ → Place
-  placeAt i = placeOf (spotAt feed (pinAt i))
+  abbrev near : ℕ → ℕ
+  near = reachedNear runs
 
-  -- It is one of the pins.
-  pub pin-there : (i : ℕ) → i ≤ length (runsOf feed) → Among (pinAt i) (f ∷ left)
-  unfolding pinAt
-  pin-there zero l = first refl
-  pin-there (suc r) l = later (runs-rooted feed full ok f left e .far-there r l)
-
-  -- No pin is reached twice.
-  pub pin-once : (i j : ℕ) → i ≤ length (runsOf feed) → j ≤ length (runsOf feed) → pinAt i ≡ pinAt j → i ≡ j
-  unfolding pinAt
-  pin-once zero zero l k q = refl
-  pin-once zero (suc r) l k q = absurd (runs-rooted feed full ok f left e .far-new r k (sym q))
-  pin-once (suc r) zero l k q = absurd (runs-rooted feed full ok f left e .far-new r l q)
-  pin-once (suc r) (suc s) l k q = go (order r s) (order s r)
-    where
-      go : (r ≤ s) ⊎ (s < r) → (s ≤ r) ⊎ (r < s) → suc r ≡ suc s
-      go (inl a) (inl b) = omega arith
-      go (inl a) (inr b) = absurd (runs-rooted feed full ok f left e .far-once r s b k q)
-      go (inr a) b = absurd (runs-rooted feed full ok f left e .far-once s r a l (sym q))
-
-  -- The pin that was reached as the i-th was reached at i.
-  pub when-pin : (i : ℕ) → i ≤ length (runsOf feed) → whenReached f (runsOf feed) (pinAt i) ≡ i
-  unfolding whenReached pinAt choose
-  when-pin zero l = rw (eq-eqb f f refl)
-  when-pin (suc r) l =
-      rw (ne-eqb (farAt (runsOf feed) r) f (runs-rooted feed full ok f left e .far-new r l))
-      (ap suc (reacher-far (runsOf feed) r l (runs-rooted feed full ok f left e .far-once)))
+  -- The runs start at the lowest pin.
+  root : Rooted f left runs
+  root = runs-rooted feed full ok f left e
 
   -- Every place is held by i32.
-  pub place-held : (i : ℕ) → Held (placeAt i)
-  place-held i = stands feed ok (pinAt i) .held
+  pub places-held : (i : ℕ) → PlaceI32 (at i)
+  places-held i = stands feed ok (pin i) .held
 
-  -- The near pins by when they were reached; pins at places of their own; no boxes that meet.
-  module _ (near : ℕ → ℕ) (grown : (r : ℕ) → r < length (runsOf feed) → near r ≤ r)
-      (from : (r : ℕ) → r < length (runsOf feed) → pinAt (near r) ≡ nearAt (runsOf feed) r)
-      (distinct : (a b : ℕ) → Among a (f ∷ left) → Among b (f ∷ left) → samePlace (placeOf (spotAt feed a)) (placeOf (spotAt feed b)) ≡ true → a ≡ b)
+  -- Pins at places of their own; no boxes that meet.
+  module _ (distinct : (a b : ℕ) → Among a (f ∷ left) → Among b (f ∷ left) → samePlace (placeAt feed a) (placeAt feed b) ≡ true → a ≡ b)
       (clear : boxesMeet feed (runsOf feed) ≡ false) where
-    abbrev runs : List Run
-    runs = runsOf feed
+    -- The near pin of a run is one of those that are reached.
+    near-low : (r : ℕ) → r < n → near r < suc n
+    near-low r l = omega (arith, near-before f left runs root r l)
 
-    near-le : (r : ℕ) → r < length runs → near r ≤ length runs
-    near-le r l = omega (arith, grown r l)
+    -- Two numbers tell two pins.
+    differ : (i j : ℕ) → i < suc n → j < suc n → (i ≡ j → ⊥) → pin i ≡ pin j → ⊥
+    differ i j l k ne z = ne (reached-once f left runs root i j l k z)
 
     -- Sites that are the same are of one pin.
-    same-pin : (i j : ℕ) → i ≤ length runs → j ≤ length runs → Same (site (placeAt i)) (site (placeAt j)) → i ≡ j
+    same-pin : (i j : ℕ) → 0 < n → i < suc n → j < suc n → Same (site (at i)) (site (at j)) → i ≡ j
     unfolding Same samePlace
-    same-pin i j l k s =
-        pin-once i j l k
-        (distinct (pinAt i) (pinAt j) (pin-there i l) (pin-there j k)
-        (both-of (number (placeAt i .x) (placeAt j .x) (place-held i .x) (place-held j .x) (s .0))
-        (number (placeAt i .y) (placeAt j .y) (place-held i .y) (place-held j .y) (s .1))))
+    same-pin i j o l k s =
+        reached-once f left runs root i j l k
+        (distinct (pin i) (pin j) (pin-there f left runs root i o l) (pin-there f left runs root j o k)
+        (both-of (number (at i .x) (at j .x) (places-held i .x) (places-held j .x) (s .0))
+        (number (at i .y) (at j .y) (places-held i .y) (places-held j .y) (s .1))))
       where
         number : (a b : ℤ) → I32 a → I32 b → off a ≡ off b → sameNumber a b ≡ true
         number a b p q z = same-off a b (low-held a p) (low-held b q) ∙ eq-eqb (off a) (off b) z
 
-    in-list : (r : ℕ) → r < length runs → HasRun (pinAt (near r)) (pinAt (suc r)) (reverseAux runs [])
-    unfolding pinAt
-    in-list r l = rw (from r l) (has-run (in-turned runs (inl (entry-in runs r l))))
+    -- Each run is one of the list, newest first,
+    in-list : (r : ℕ) → r < n → HasRun (pin (near r)) (pin (suc r)) (reverseAux runs [])
+    unfolding reachedPin
+    in-list r l = rw (near-pin f left runs root r l) (has-run (in-turned runs (inl (entry-in runs r l))))
 
-    joined : (r i j : ℕ) → r < length runs → Joins near r i j → Joined (pinAt i) (pinAt j) (reverseAux runs [])
+    -- so the pins that it joins are joined there,
+    joined : (r i j : ℕ) → r < n → Joins near r i j → Joined (pin i) (pin j) (reverseAux runs [])
     joined r i j l (out a b) = rw (a, b) (run-onward (in-list r l))
     joined r i j l (back a b) = rw (a, b) (run-backward (in-list r l))
 
-    ends-in : (r i j : ℕ) → r < length runs → Joins near r i j → (i ≤ length runs) × (j ≤ length runs)
-    ends-in r i j l (out a b) = let z = near-le r l in (omega arith, omega arith)
-    ends-in r i j l (back a b) = let z = near-le r l in (omega arith, omega arith)
+    -- and both are reached.
+    ends-in : (r i j : ℕ) → r < n → Joins near r i j → (i < suc n) × (j < suc n)
+    ends-in r i j l (out a b) = let z = near-low r l in (omega arith, omega arith)
+    ends-in r i j l (back a b) = let z = near-low r l in (omega arith, omega arith)
 
-    spans : (i j k : ℕ) → i ≤ length runs → j ≤ length runs → k ≤ length runs
-        → Joined (pinAt i) (pinAt j) (reverseAux runs []) → Joined (pinAt i) (pinAt k) (reverseAux runs []) → (j ≡ k → ⊥)
-        → (span (site (placeAt i)) (site (placeAt j)) ≤ span (site (placeAt j)) (site (placeAt k)))
-        × (span (site (placeAt i)) (site (placeAt k)) ≤ span (site (placeAt j)) (site (placeAt k)))
+    -- Two pins joined to one are no nearer to each other than either is to it.
+    spans : (i j k : ℕ) → 0 < n → i < suc n → j < suc n → k < suc n
+        → Joined (pin i) (pin j) (reverseAux runs []) → Joined (pin i) (pin k) (reverseAux runs []) → (j ≡ k → ⊥)
+        → (span (site (at i)) (site (at j)) ≤ span (site (at j)) (site (at k)))
+        × (span (site (at i)) (site (at k)) ≤ span (site (at j)) (site (at k)))
     unfolding keyAt
-    spans i j k li lj lk a b ne =
-        let fj = fits feed ok (pinAt j) (pins-low feed full ok f left e (pinAt j) (pin-there j lj)) in
-        let fk = fits feed ok (pinAt k) (pins-low feed full ok f left e (pinAt k) (pin-there k lk)) in
-        let n = neighbours (keyAt feed) (keyed feed ok .swap) (runs-grown feed full ok f left e) (pinAt i) (pinAt j) (pinAt k) a b (λ z. ne (pin-once j k lj lk z)) in (
-          key-span (siteAt feed (pinAt i)) (pinAt i) (siteAt feed (pinAt j)) (pinAt j) (siteAt feed (pinAt j)) (pinAt j) (siteAt feed (pinAt k)) (pinAt k) fj fk (n .0),
-          key-span (siteAt feed (pinAt i)) (pinAt i) (siteAt feed (pinAt k)) (pinAt k) (siteAt feed (pinAt j)) (pinAt j) (siteAt feed (pinAt k)) (pinAt k) fj fk (n .1),
+    spans i j k o li lj lk a b ne =
+        let fj = fits feed ok (pin j) (pins-low feed full ok f left e (pin j) (pin-there f left runs root j o lj)) in
+        let fk = fits feed ok (pin k) (pins-low feed full ok f left e (pin k) (pin-there f left runs root k o lk)) in
+        let w = neighbours (keyAt feed) (keyed feed ok .swap) (runs-grown feed full ok f left e) (pin i) (pin j) (pin k) a b (differ j k lj lk ne) in (
+          key-span (siteAt feed (pin i)) (pin i) (siteAt feed (pin j)) (pin j) (siteAt feed (pin j)) (pin j) (siteAt feed (pin k)) (pin k) fj fk (w .0),
+          key-span (siteAt feed (pin i)) (pin i) (siteAt feed (pin k)) (pin k) (siteAt feed (pin j)) (pin j) (siteAt feed (pin k)) (pin k) fj fk (w .1),
         )
 
-    abbrev end : ℕ → Run
-    end r = getD runs r (run 0 0)
-
-    differ : (i j : ℕ) → i ≤ length runs → j ≤ length runs → (i ≡ j → ⊥) → pinAt i ≡ pinAt j → ⊥
-    differ i j l k n z = n (pin-once i j l k z)
-
-    box : (i : ℕ) (p : Site) → pinAt (near i) ≡ nearAt runs i → InBox (site (placeAt (near i))) (site (placeAt (suc i))) p
-        → InBox (siteAt feed (nearAt runs i)) (siteAt feed (farAt runs i)) p
-    unfolding pinAt
-    box i p g v = subst (λ (z : ℕ). InBox (siteAt feed z) (siteAt feed (farAt runs i)) p) g v
+    -- The box of a run, by its pins.
+    box : (i : ℕ) (p : Site) → pin (near i) ≡ runAt runs i .near → InBox (site (at (near i))) (site (at (suc i))) p
+        → InBox (siteAt feed (runAt runs i .near)) (siteAt feed (runAt runs i .far)) p
+    unfolding reachedPin
+    box i p g v = subst (λ (z : ℕ). InBox (siteAt feed z) (siteAt feed (runAt runs i .far)) p) g v
 
     -- Two runs without a common pin, the first of them earlier.
-    apart-by : (r q : ℕ) → r < q → q < length runs → (near r ≡ near q → ⊥) → (near r ≡ suc q → ⊥) → (suc r ≡ near q → ⊥)
-        → (p : Site) → InBox (site (placeAt (near r))) (site (placeAt (suc r))) p → InBox (site (placeAt (near q))) (site (placeAt (suc q))) p → ⊥
-    unfolding pinAt
+    apart-by : (r q : ℕ) → r < q → q < n → (near r ≡ near q → ⊥) → (near r ≡ suc q → ⊥) → (suc r ≡ near q → ⊥)
+        → (p : Site) → InBox (site (at (near r))) (site (at (suc r))) p → InBox (site (at (near q))) (site (at (suc q))) p → ⊥
+    unfolding reachedPin
     apart-by r q l m a b c p h k =
-        let lr : r < length runs = omega arith in
-        let er = from r lr in
-        let eq = from q m in
-        let free : common (end r) (end q) ≡ false =
-        no-common (end r) (end q) (λ z. differ (near r) (near q) (near-le r lr) (near-le q m) a (er ∙ z ∙ sym eq))
-        (λ z. differ (near r) (suc q) (near-le r lr) m b (er ∙ z)) (λ z. differ (suc r) (near q) lr (near-le q m) c (z ∙ sym eq))
-        (λ z. differ (suc r) (suc q) lr m (λ w. omega arith) z) in
-        let none = clash-apart feed (end r) (end q) (no-clash feed runs clear r q l m) free in
-        let shared = point-shared (placeOf (spotAt feed (end r .near))) (placeOf (spotAt feed (end r .far)))
-        (placeOf (spotAt feed (end q .near))) (placeOf (spotAt feed (end q .far)))
-        (stands feed ok (end r .near) .held) (stands feed ok (end r .far) .held) (stands feed ok (end q .near) .held) (stands feed ok (end q .far) .held)
+        let lr : r < n = omega arith in
+        let er = near-pin f left runs root r lr in
+        let eq = near-pin f left runs root q m in
+        let free : common (runAt runs r) (runAt runs q) ≡ false =
+        no-common (runAt runs r) (runAt runs q) (λ z. differ (near r) (near q) (near-low r lr) (near-low q m) a (er ∙ z ∙ sym eq))
+        (λ z. differ (near r) (suc q) (near-low r lr) (omega arith) b (er ∙ z)) (λ z. differ (suc r) (near q) (omega arith) (near-low q m) c (z ∙ sym eq))
+        (λ z. differ (suc r) (suc q) (omega arith) (omega arith) (λ w. omega arith) z) in
+        let none = clash-apart feed (runAt runs r) (runAt runs q) (no-clash feed runs clear r q l m) free in
+        let shared = point-shared (placeAt feed (runAt runs r .near)) (placeAt feed (runAt runs r .far))
+        (placeAt feed (runAt runs q .near)) (placeAt feed (runAt runs q .far))
+        (stands feed ok (runAt runs r .near) .held) (stands feed ok (runAt runs r .far) .held)
+        (stands feed ok (runAt runs q .near) .held) (stands feed ok (runAt runs q .far) .held)
         (record { point = p; in-first = box r p er h; in-second = box q p eq k }) in
         opposite shared none
 
     -- The runs are laid as the length asks.
-    pub planted : Laid (λ i. site (placeAt i)) near (length runs)
+    pub planted : Spaced (λ i. site (at i)) near n
     planted =
         record {
-          grown = grown;
-          full = λ r l z. let q = same-pin (near r) (suc r) (near-le r l) l z in omega (arith, grown r l);
+          grown = near-before f left runs root;
+          full = λ r l z. let q = same-pin (near r) (suc r) (omega arith) (near-low r l) (omega arith) z in omega (arith, near-before f left runs root r l);
           separate = λ r q l k ne a b c p h m. go r q l k ne a b c p h m (order r q);
           distant = λ r q i j k l h jr jq ne.
-              spans i j k (ends-in r i j l jr .0) (ends-in r i j l jr .1) (ends-in q i k h jq .1) (joined r i j l jr) (joined q i k h jq) ne;
+              spans i j k (omega arith) (ends-in r i j l jr .0) (ends-in r i j l jr .1) (ends-in q i k h jq .1) (joined r i j l jr) (joined q i k h jq) ne;
         }
       where
-        go : (r q : ℕ) → r < length runs → q < length runs → (r ≡ q → ⊥) → (near r ≡ near q → ⊥) → (near r ≡ suc q → ⊥) → (suc r ≡ near q → ⊥)
-            → (p : Site) → InBox (site (placeAt (near r))) (site (placeAt (suc r))) p → InBox (site (placeAt (near q))) (site (placeAt (suc q))) p
+        go : (r q : ℕ) → r < n → q < n → (r ≡ q → ⊥) → (near r ≡ near q → ⊥) → (near r ≡ suc q → ⊥) → (suc r ≡ near q → ⊥)
+            → (p : Site) → InBox (site (at (near r))) (site (at (suc r))) p → InBox (site (at (near q))) (site (at (suc q))) p
             → (r ≤ q) ⊎ (q < r) → ⊥
         go r q l k ne a b c p h m (inl o) = apart-by r q (omega (arith, ne)) k a b c p h m
         go r q l k ne a b c p h m (inr o) = apart-by q r o l (λ z. a (sym z)) (λ z. c (sym z)) (λ z. b (sym z)) p m h

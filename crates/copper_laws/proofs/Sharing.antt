@@ -1,15 +1,16 @@
 -- Legs of runs that leave one pin: which of them can cover the same stride. The neighbours of a pin are assumed to be at least as far from
 -- each other as from the pin; nothing else is.
 use mathlib.Core.Path.{_≡_, refl, sym, _∙_}
-use mathlib.Core.Bool.{Bool, true, false, cond, _&&_, _||_}
+use mathlib.Core.Bool.{Bool, true, false, cond}
 use mathlib.Core.Logic.{_⊎_, inl, inr}
 use Prim.Native.Nat.{ℕ, _≤_, _<_, min, max}
 use native.Mathlib.Omega.{arith}
 use lib.Dec.{eqb, ltb, leb}
 use borrow.Author.Tests.{eq-eqb, eqb-true, eqb-false, ltb-true, lt-ltb, leb-true, leb-false, le-leb}
+use Rattle.refusal.specs.Tests.{both, either}
+use Rattle.refusal.proofs.Tests.{both-left, both-right, both-of, either-which, either-left, either-second, either-false}
 use Rattle.tree.proofs.FourPins.{InBox}
 use Rattle.grid.proofs.Flat.{order, gap, gap-up, gap-down, Site, span}
-use Rattle.copper_laws.proofs.Tests.{and-left, and-right, and-both, or-which, or-left, or-right, or-neither}
 use Rattle.copper_laws.proofs.Cover.{Stride, along, rise, covers, straight, bend, runCovers}
 
 -- What it says that a leg covers a stride.
@@ -17,20 +18,21 @@ pub data On (a b : Site) : Stride → Type 0 where
   in-row : {x y : ℕ} → y ≡ a .y → y ≡ b .y → min (a .x) (b .x) ≤ x → x < max (a .x) (b .x) → On a b (along x y)
   in-column : {x y : ℕ} → x ≡ a .x → x ≡ b .x → min (a .y) (b .y) ≤ y → y < max (a .y) (b .y) → On a b (rise x y)
 
-four-of : (p q k v lo hi : ℕ) → (eqb p q && (eqb p k && (leb lo v && ltb v hi))) ≡ true → (p ≡ q) × (p ≡ k) × (lo ≤ v) × (v < hi)
+-- The four parts of what a leg says, taken apart,
+four-of : (p q k v lo hi : ℕ) → both (eqb p q) (both (eqb p k) (both (leb lo v) (ltb v hi))) ≡ true → (p ≡ q) × (p ≡ k) × (lo ≤ v) × (v < hi)
 four-of p q k v lo hi e =
-    let e1 = and-right (eqb p q) (eqb p k && (leb lo v && ltb v hi)) e in
-    let e2 = and-right (eqb p k) (leb lo v && ltb v hi) e1 in (
-      eqb-true p q (and-left (eqb p q) (eqb p k && (leb lo v && ltb v hi)) e),
-      eqb-true p k (and-left (eqb p k) (leb lo v && ltb v hi) e1),
-      leb-true lo v (and-left (leb lo v) (ltb v hi) e2),
-      ltb-true v hi (and-right (leb lo v) (ltb v hi) e2),
+    let e1 = both-right (eqb p q) (both (eqb p k) (both (leb lo v) (ltb v hi))) e in
+    let e2 = both-right (eqb p k) (both (leb lo v) (ltb v hi)) e1 in (
+      eqb-true p q (both-left (eqb p q) (both (eqb p k) (both (leb lo v) (ltb v hi))) e),
+      eqb-true p k (both-left (eqb p k) (both (leb lo v) (ltb v hi)) e1),
+      leb-true lo v (both-left (leb lo v) (ltb v hi) e2),
+      ltb-true v hi (both-right (leb lo v) (ltb v hi) e2),
     )
 
-four-hold : (p q k v lo hi : ℕ) → p ≡ q → p ≡ k → lo ≤ v → v < hi → (eqb p q && (eqb p k && (leb lo v && ltb v hi))) ≡ true
+-- and put together.
+four-hold : (p q k v lo hi : ℕ) → p ≡ q → p ≡ k → lo ≤ v → v < hi → both (eqb p q) (both (eqb p k) (both (leb lo v) (ltb v hi))) ≡ true
 four-hold p q k v lo hi e f l h =
-    and-both (eqb p q) (eqb p k && (leb lo v && ltb v hi)) (eq-eqb p q e)
-    (and-both (eqb p k) (leb lo v && ltb v hi) (eq-eqb p k f) (and-both (leb lo v) (ltb v hi) (le-leb lo v l) (lt-ltb v hi h)))
+    both-of (eq-eqb p q e) (both-of (eq-eqb p k f) (both-of (le-leb lo v l) (lt-ltb v hi h)))
 
 -- Where the test holds, the leg covers the stride,
 pub on-of : (a b : Site) (s : Stride) → covers a b s ≡ true → On a b s
@@ -69,6 +71,7 @@ gap-same a b e = omega (arith, gap-up a b (omega arith))
 beyond : (a b v : ℕ) → a ≤ v → min a b ≤ v → v < max a b → v < b
 beyond a b v o l h = omega arith
 
+-- And on the other side.
 before : (a b v : ℕ) → v < a → min a b ≤ v → v < max a b → b ≤ v
 before a b v o l h = omega arith
 
@@ -153,17 +156,22 @@ Same a b = (a .x ≡ b .x) × (a .y ≡ b .y)
 -- The ends of a straight run share x or y;
 pub straight-true : (a b : Site) → straight a b ≡ true → (a .x ≡ b .x) ⊎ (a .y ≡ b .y)
 unfolding straight
-straight-true a b e = go (or-which (eqb (a .x) (b .x)) (eqb (a .y) (b .y)) e)
+straight-true a b e = go (either-which (eqb (a .x) (b .x)) (eqb (a .y) (b .y)) e)
   where
     go : (eqb (a .x) (b .x) ≡ true) ⊎ (eqb (a .y) (b .y) ≡ true) → (a .x ≡ b .x) ⊎ (a .y ≡ b .y)
     go (inl h) = inl (eqb-true (a .x) (b .x) h)
     go (inr h) = inr (eqb-true (a .y) (b .y) h)
 
+-- seen from the other end they share it too;
+pub shared-turned : (a b : Site) → (a .x ≡ b .x) ⊎ (a .y ≡ b .y) → (b .x ≡ a .x) ⊎ (b .y ≡ a .y)
+shared-turned a b (inl e) = inl (sym e)
+shared-turned a b (inr e) = inr (sym e)
+
 -- those of any other share neither.
 pub straight-false : (a b : Site) → straight a b ≡ false → (a .x ≡ b .x → ⊥) × (a .y ≡ b .y → ⊥)
 unfolding straight
 straight-false a b e =
-    let z = or-neither (eqb (a .x) (b .x)) (eqb (a .y) (b .y)) e in
+    let z = either-false (eqb (a .x) (b .x)) (eqb (a .y) (b .y)) e in
     (eqb-false (a .x) (b .x) (z .0), eqb-false (a .y) (b .y) (z .1))
 
 -- The bend is in the column of one end and in the row of the other.
@@ -201,11 +209,13 @@ module _ (u : Bool) (a b : Site) where
   unfolding far-tip
   far-bent e = rw e
 
+  -- The other end of a straight run is a tip,
   tip-straight : (i j : Site) → (Same i j → ⊥) → (i .x ≡ j .x) ⊎ (i .y ≡ j .y) → Tip i j j
   unfolding Same
   tip-straight i j n (inl e) = column-first (sym e) refl (λ z. n (e, z))
   tip-straight i j n (inr e) = row-first refl (sym e) (λ z. n (z, e))
 
+  -- and so is the bend, from either end.
   tip-bend : (c : Site) → (a .x ≡ b .x → ⊥) → (a .y ≡ b .y → ⊥) → ((c .x ≡ b .x) × (c .y ≡ a .y)) ⊎ ((c .x ≡ a .x) × (c .y ≡ b .y)) → Tip a b c × Tip b a c
   tip-bend c n m (inl e) = (row-first (e .0) (e .1) n, column-first (e .0) (e .1) (λ z. m (sym z)))
   tip-bend c n m (inr e) = (column-first (e .0) (e .1) m, row-first (e .0) (e .1) (λ z. n (sym z)))
@@ -215,14 +225,10 @@ module _ (u : Bool) (a b : Site) where
   unfolding Same
   tips n = go (straight a b) refl
     where
-      turn : (a .x ≡ b .x) ⊎ (a .y ≡ b .y) → (b .x ≡ a .x) ⊎ (b .y ≡ a .y)
-      turn (inl e) = inl (sym e)
-      turn (inr e) = inr (sym e)
-
       go : (t : Bool) → straight a b ≡ t → Tip a b (near-tip u a b) × Tip b a (far-tip u a b)
       go true e = (
         rw (near-straight e) (tip-straight a b n (straight-true a b e)),
-        rw (far-straight e) (tip-straight b a (λ z. n (sym (z .0), sym (z .1))) (turn (straight-true a b e))),
+        rw (far-straight e) (tip-straight b a (λ z. n (sym (z .0), sym (z .1))) (shared-turned a b (straight-true a b e))),
       )
       go false e =
           let z = straight-false a b e in
@@ -234,15 +240,18 @@ module _ (u : Bool) (a b : Site) where
   unfolding runCovers
   run-straight σ e = rw e
 
-  run-bent : (σ : Stride) → straight a b ≡ false → runCovers u a b σ ≡ (covers a (bend u a b) σ || covers (bend u a b) b σ)
+  -- The two legs of a bent run.
+  run-bent : (σ : Stride) → straight a b ≡ false → runCovers u a b σ ≡ either (covers a (bend u a b) σ) (covers (bend u a b) b σ)
   unfolding runCovers
   run-bent σ e = rw e
 
+  -- A stride of a straight run lies on it,
   straight-on : {σ : Stride} → straight a b ≡ true → runCovers u a b σ ≡ true → On a b σ
   straight-on {σ} e h = on-of a b σ (sym (run-straight σ e) ∙ h)
 
+  -- and one of a bent run on one of its legs.
   bent-on : {σ : Stride} → straight a b ≡ false → runCovers u a b σ ≡ true → On a (bend u a b) σ ⊎ On (bend u a b) b σ
-  bent-on {σ} e h = go (or-which (covers a (bend u a b) σ) (covers (bend u a b) b σ) (sym (run-bent σ e) ∙ h))
+  bent-on {σ} e h = go (either-which (covers a (bend u a b) σ) (covers (bend u a b) b σ) (sym (run-bent σ e) ∙ h))
     where
       go : (covers a (bend u a b) σ ≡ true) ⊎ (covers (bend u a b) b σ ≡ true) → On a (bend u a b) σ ⊎ On (bend u a b) b σ
       go (inl z) = inl (on-of a (bend u a b) σ z)
@@ -287,7 +296,7 @@ module _ (u : Bool) (a b : Site) where
       go : (t : Bool) → straight a b ≡ t → runCovers u a b s ≡ true
       go true e = run-straight s e ∙ on-covers a b (rw (near-straight e) at h)
       go false e =
-          run-bent s e ∙ or-left (covers a (bend u a b) s) (covers (bend u a b) b s) (on-covers a (bend u a b) (rw (near-bent e) at h))
+          run-bent s e ∙ either-left (covers (bend u a b) b s) (on-covers a (bend u a b) (rw (near-bent e) at h))
 
   -- and what the leg that leaves the far end covers.
   pub far-covers : {s : Stride} → On b (far-tip u a b) s → runCovers u a b s ≡ true
@@ -297,7 +306,7 @@ module _ (u : Bool) (a b : Site) where
       go true e = run-straight s e ∙ on-covers a b (on-turned b a (rw (far-straight e) at h))
       go false e =
           run-bent s e
-          ∙ or-right (covers a (bend u a b) s) (covers (bend u a b) b s)
+          ∙ either-second (covers a (bend u a b) s)
           (on-covers (bend u a b) b (on-turned b (bend u a b) (rw (far-bent e) at h)))
 
   -- The legs that leave the two ends of a bent run share no stride ..
@@ -314,6 +323,7 @@ module _ (u : Bool) (a b : Site) where
   pub both-arms : {s : Stride} → straight a b ≡ true → runCovers u a b s ≡ true → On a (near-tip u a b) s × On b (far-tip u a b) s
   both-arms e h = (rw (near-straight e) (straight-on e h), rw (far-straight e) (on-turned a b (straight-on e h)))
 
+  -- A stride of one of the two legs starts in the box of the run,
   box-leg : (c : Site) → ((c .x ≡ b .x) × (c .y ≡ a .y)) ⊎ ((c .x ≡ a .x) × (c .y ≡ b .y)) → {s : Stride} → On a c s ⊎ On c b s → InBox a b (origin s)
   unfolding origin
   box-leg c (inl z) (inl (in-row e f l h)) = record { left = rw (z .0) at l; right = omega arith; bottom = omega arith; top = omega arith }
@@ -325,6 +335,7 @@ module _ (u : Bool) (a b : Site) where
   box-leg c (inr z) (inr (in-row e f l h)) = record { left = rw (z .0) at l; right = omega arith; bottom = omega arith; top = omega arith }
   box-leg c (inr z) (inr (in-column e f l h)) = absurd (omega arith)
 
+  -- and so does one of a straight run.
   box-straight : {s : Stride} → On a b s → InBox a b (origin s)
   unfolding origin
   box-straight (in-row e f l h) = record { left = l; right = omega arith; bottom = omega arith; top = omega arith }

@@ -27,9 +27,9 @@ module _ (d : Desk) (s : ℕ) {f : Found} (g : f ≡ foundAt d s) where
 
   module _ (n : NoneHolds (namingRows (lookAtFound f [] 0))) where
     -- Undo: an edit stands, and the seat owns it; its pin is at most 31.
-    pub undo-fits : (f .seat .standing ≡ 0 → ⊥)
-        → (d .used ≤ mostRecords) × (0 < f .seat .standing) × (f .seat .standing ≤ length (editsOf d s))
-        × (pinOf (getD (editsOf d s) (f .seat .standing - 1) noEdit) < mostPins)
+    pub undo-fits : (f .state .standing ≡ 0 → ⊥)
+        → (d .used ≤ mostRecords) × (0 < f .state .standing) × (f .state .standing ≤ length (editsOf d s))
+        × (pinOf (getD (editsOf d s) (f .state .standing - 1) noEdit) < mostPins)
     undo-fits z =
         let k = sound-there d s g n in
         let h = seat-there d s g n in
@@ -38,8 +38,8 @@ module _ (d : Desk) (s : ℕ) {f : Found} (g : f ≡ foundAt d s) where
         rw (same-there d s g n) (used-within d k, omega (arith, y), standing-within d k s h o, undo-numbered d k s h o y)
 
     -- Redo: the seat owns an edit that does not stand; its pin is at most 31.
-    pub redo-fits : f .seat .standing < length (editsOf d s)
-        → (d .used ≤ mostRecords) × (f .seat .standing < length (editsOf d s)) × (pinOf (getD (editsOf d s) (f .seat .standing) noEdit) < mostPins)
+    pub redo-fits : f .state .standing < length (editsOf d s)
+        → (d .used ≤ mostRecords) × (f .state .standing < length (editsOf d s)) × (pinOf (getD (editsOf d s) (f .state .standing) noEdit) < mostPins)
     redo-fits z =
         let k = sound-there d s g n in
         let h = seat-there d s g n in

@@ -1,33 +1,31 @@
 -- What a call finds is what it looks at on the desk: the rows of what is found answer as the call is answered. Assumes nothing.
 use mathlib.Core.Path.{_≡_, refl, ap, sym, _∙_}
-use mathlib.Core.Bool.{Bool, true, false, not, false≢true}
-use mathlib.Core.List.{List, [], _∷_, _++_}
+use mathlib.Core.Bool.{Bool, true, false, not}
+use mathlib.Core.List.{List, []}
 use Prim.Native.Nat.{ℕ, _-_, _<_}
 use native.Mathlib.Omega.{arith}
 use borrow.Author.Tests.{eqb-false, leb-false, not-false}
-use lib.Dec.{eqb, leb}
+use lib.Dec.{leb}
 use lib.ListN.{length}
-use Rattle.refusal.specs.Tests.{both, either, choose}
+use Rattle.refusal.specs.Tests.{both, choose}
 use Rattle.refusal.specs.Refusals.{accepted, turn}
 use Rattle.refusal.specs.declared.Verdict.{Verdict}
-use Rattle.refusal.specs.declared.Verdict.the-variants.{Accepted, NoSuchPin, PinThere, Outside, PlaceTaken, NothingStands, NothingTakenBack, JournalFull}
+use Rattle.refusal.specs.declared.Verdict.the-variants.{Accepted, JournalFull}
 use Rattle.refusal.proofs.Tests.{choose-yes, choose-no}
-use Rattle.refusal.proofs.Rows.{Row, firstOf, NoneHolds}
+use Rattle.refusal.proofs.Rows.{Row, firstOf, NoneHolds, distinct, unlike, behind}
 use Rattle.grid.specs.declared.Place.{Place}
-use Rattle.grid.specs.Place.{inside}
-use Rattle.feed.specs.Feeds.{mostPins, crowded}
-use Rattle.drawing.specs.Pins.{isThere, feedOf}
-use Rattle.drawing.specs.Edits.{standsAt}
+use Rattle.feed.specs.Feeds.{mostPins}
 use Rattle.pinmap.specs.declared.Reading.{Reading}
-use Rattle.pinmap.specs.Map.{refusedBy, readMap}
+use Rattle.pinmap.specs.Map.{readMap}
 use Rattle.journal.specs.Journal.{mostSeats, own}
 use Rattle.seats.specs.declared.Seat.{Seat}
 use Rattle.rows.specs.declared.Found.{Found}
-use Rattle.rows.specs.Found.{foundIn, lookAtFound, readingIn}
-use Rattle.rows.proofs.Rows.{refusing, passed, none-before, joined, namingRows, thereRows, openingRows, opening-refusing, naming-passed, there-passed, there-number, number-there, empty-read}
+use Rattle.rows.specs.Answers.{mapRead}
+use Rattle.rows.specs.Found.{foundIn, lookAtFound}
+use Rattle.rows.proofs.Rows.{all-passed, none-before, namingRows, takingRows, placingBeforeFull, thereRows, movingBeforeFull, undoingRows, redoingRows, naming-passed, there-passed, there-number, number-there}
 use Rattle.desk.specs.declared.Desk.{Desk}
 use Rattle.desk.specs.Calls.{opening, closing, placing, moving, removing, undoing, redoing}
-use Rattle.desk.specs.Refusals.{Look, pinAt, full, turnedOpening, turnedNaming, turnedClosing, turnedPlacing, turnedMoving, turnedRemoving, turnedUndoing, turnedRedoing, verdictOf}
+use Rattle.desk.specs.Refusals.{Look, full, turnedOpening, turnedNaming, turnedClosing, turnedPlacing, turnedMoving, turnedRemoving, turnedUndoing, turnedRedoing, verdictOf}
 use Rattle.desk.specs.Desk.{seatOf, inUse, editsOf, jobsOf, lookAt, sound, answerOf}
 
 -- What a call finds on a desk.
@@ -36,97 +34,85 @@ foundAt d s = foundIn (d .seats) (d .journal) (d .used) s
 
 -- That with the seat as the desk has it, also above 7.
 abbrev seenAt : Desk → ℕ → Found
-seenAt d s = record { broken = not (sound d); number = s; seat = seatOf d s }
+seenAt d s = record { broken = not (sound d); seat = s; state = seatOf d s }
 
--- The rows of placing but 12,
-abbrev placingRows : Look → ℕ → Place → List Row
-placingRows l p at =
-    namingRows l
-    ++ (record { condition = leb mostPins p; refusal = NoSuchPin }
-    ∷ record { condition = isThere (pinAt l p); refusal = PinThere }
-    ∷ record { condition = not (inside at); refusal = Outside }
-    ∷ record { condition = crowded (feedOf (l .pins)) p at; refusal = PlaceTaken }
-    ∷ [])
-
--- those of moving but 12,
-abbrev movingRows : Look → ℕ → Place → List Row
-movingRows l p at =
-    thereRows l p
-    ++ (record { condition = not (inside at); refusal = Outside }
-    ∷ record { condition = either (standsAt (pinAt l p) at) (crowded (feedOf (l .pins)) p at); refusal = PlaceTaken }
-    ∷ [])
-
--- those of undo,
-abbrev undoingRows : Look → List Row
-undoingRows l = namingRows l ++ (record { condition = eqb (l .standing) 0; refusal = NothingStands } ∷ [])
-
--- and those of redo.
-abbrev redoingRows : Look → List Row
-redoingRows l = namingRows l ++ (record { condition = eqb (l .takenBack) 0; refusal = NothingTakenBack } ∷ [])
+-- Rows of which one may turn a call away, and then 12: all of them one after the other.
+full-after : (l : Look) (rows : List Row) → distinct rows ≡ true
+    → choose (accepted (firstOf rows Accepted)) (turn (full l) JournalFull Accepted) (firstOf rows Accepted) ≡ firstOf rows (turn (full l) JournalFull Accepted)
+full-after l rows d = behind (λ (v : Verdict). v) (λ v. v) (λ v. refl) (turn (full l) JournalFull Accepted) rows d
 
 -- The rows look at the seat only where 1 does not apply.
 module _ (d : Desk) (s : ℕ) where
+  -- What is found answers closing as the call is answered,
   closing-by : (t : Bool) → leb mostSeats s ≡ t → turnedNaming (lookAtFound (foundAt d s) [] 0) ≡ answerOf d (closing s)
   unfolding answerOf verdictOf turnedClosing sound turn choose
   closing-by true e = rw e
   closing-by false e = rw e
 
+  -- undo,
   undoing-by : (t : Bool) → leb mostSeats s ≡ t → turnedUndoing (lookAtFound (foundAt d s) [] 0) ≡ answerOf d (undoing s)
   unfolding answerOf verdictOf turnedUndoing sound turn choose
   undoing-by true e = rw e
   undoing-by false e = rw e
 
+  -- and redo;
   redoing-by : (t : Bool) → leb mostSeats s ≡ t
-      → turnedRedoing (lookAtFound (foundAt d s) [] (length (editsOf d s) - foundAt d s .seat .standing)) ≡ answerOf d (redoing s)
+      → turnedRedoing (lookAtFound (foundAt d s) [] (length (editsOf d s) - foundAt d s .state .standing)) ≡ answerOf d (redoing s)
   unfolding answerOf verdictOf turnedRedoing sound turn choose
   redoing-by true e = rw e
   redoing-by false e = rw e
 
+  -- placing as what is seen, the journal having room,
   placing-by : (p : ℕ) (at : Place) (t : Bool) → leb mostSeats s ≡ t
       → turnedPlacing (lookAtFound (foundAt d s) [] 0) p at ≡ turnedPlacing (lookAtFound (seenAt d s) [] 0) p at
   unfolding turnedPlacing sound turn choose
   placing-by p at true e = rw e
   placing-by p at false e = rw e
 
+  -- moving,
   moving-by : (p : ℕ) (at : Place) (t : Bool) → leb mostSeats s ≡ t
       → turnedMoving (lookAtFound (foundAt d s) [] 0) p at ≡ turnedMoving (lookAtFound (seenAt d s) [] 0) p at
   unfolding turnedMoving sound turn choose
   moving-by p at true e = rw e
   moving-by p at false e = rw e
 
+  -- and removing;
   removing-by : (p : ℕ) (t : Bool) → leb mostSeats s ≡ t
       → turnedRemoving (lookAtFound (foundAt d s) [] 0) p ≡ turnedRemoving (lookAtFound (seenAt d s) [] 0) p
   unfolding turnedRemoving sound turn choose
   removing-by p true e = rw e
   removing-by p false e = rw e
 
+  -- and opening as the call is answered.
   opening-by : (job : ℕ) (map : List ℕ) (t : Bool) → leb mostSeats s ≡ t
       → turnedOpening (lookAtFound (foundAt d s) (jobsOf d) 0) job map ≡ answerOf d (opening s job map)
   unfolding answerOf verdictOf turnedOpening sound turn choose
   opening-by job map true e = rw e
   opening-by job map false e = rw e
 
-  -- With 12 after the other rows an edit is answered as its call is.
+  -- With 12 after the other rows placing is answered as its call is,
   placing-joined : (p : ℕ) (at : Place)
       → choose (accepted (turnedPlacing (lookAtFound (seenAt d s) [] 0) p at)) (turn (full (lookAt d s)) JournalFull Accepted)
       (turnedPlacing (lookAtFound (seenAt d s) [] 0) p at)
       ≡ answerOf d (placing s p at)
-  unfolding answerOf verdictOf turnedPlacing firstOf refusing both accepted turn choose
-  placing-joined p at = joined (placingRows (lookAt d s) p at) Accepted (turn (full (lookAt d s)) JournalFull Accepted) refl refl
+  unfolding answerOf verdictOf turnedPlacing firstOf distinct unlike both accepted turn choose
+  placing-joined p at = full-after (lookAt d s) (placingBeforeFull (lookAt d s) p at) refl
 
+  -- moving,
   moving-joined : (p : ℕ) (at : Place)
       → choose (accepted (turnedMoving (lookAtFound (seenAt d s) [] 0) p at)) (turn (full (lookAt d s)) JournalFull Accepted)
       (turnedMoving (lookAtFound (seenAt d s) [] 0) p at)
       ≡ answerOf d (moving s p at)
-  unfolding answerOf verdictOf turnedMoving firstOf refusing both accepted turn choose
-  moving-joined p at = joined (movingRows (lookAt d s) p at) Accepted (turn (full (lookAt d s)) JournalFull Accepted) refl refl
+  unfolding answerOf verdictOf turnedMoving firstOf distinct unlike both accepted turn choose
+  moving-joined p at = full-after (lookAt d s) (movingBeforeFull (lookAt d s) p at) refl
 
+  -- and removing.
   removing-joined : (p : ℕ)
       → choose (accepted (turnedRemoving (lookAtFound (seenAt d s) [] 0) p)) (turn (full (lookAt d s)) JournalFull Accepted)
       (turnedRemoving (lookAtFound (seenAt d s) [] 0) p)
       ≡ answerOf d (removing s p)
-  unfolding answerOf verdictOf turnedRemoving firstOf refusing both accepted turn choose
-  removing-joined p = joined (thereRows (lookAt d s) p) Accepted (turn (full (lookAt d s)) JournalFull Accepted) refl refl
+  unfolding answerOf verdictOf turnedRemoving firstOf distinct unlike both accepted turn choose
+  removing-joined p = full-after (lookAt d s) (thereRows (lookAt d s) p) refl
 
 -- A call answered by a verdict, or by what comes after that where it is accepted.
 module _ (rest : Verdict) {v w a : Verdict} (e : v ≡ w) (j : choose (accepted w) rest w ≡ a) where
@@ -151,7 +137,7 @@ module _ (d : Desk) (s : ℕ) {f : Found} (g : f ≡ foundAt d s) (n : NoneHolds
   seat-there = leb-false mostSeats s (rw g at (n .1 .0))
 
   -- that seat was found,
-  pub same-there : f .seat ≡ seatOf d s
+  pub same-there : f .state ≡ seatOf d s
   unfolding NoneHolds
   same-there = rw g (choose-no _ _ (rw g at (n .1 .0)))
 
@@ -162,7 +148,7 @@ module _ (d : Desk) (s : ℕ) {f : Found} (g : f ≡ foundAt d s) (n : NoneHolds
 
   -- So much is asked before an edit of that seat is made, and that its pin is at most 31.
   pub edit-fits : {p : ℕ} → p < mostPins
-      → (sound d ≡ true) × (s < mostSeats) × (f .seat ≡ seatOf d s) × (seatOf d s .opened ≡ true) × (p < mostPins)
+      → (sound d ≡ true) × (s < mostSeats) × (f .state ≡ seatOf d s) × (seatOf d s .opened ≡ true) × (p < mostPins)
   edit-fits k = (sound-there, seat-there, same-there, open-there, k)
 
 -- What each call is answered, and what holds where it is accepted.
@@ -183,40 +169,40 @@ module _ (d : Desk) (s : ℕ) {f : Found} (g : f ≡ foundAt d s) {v : Verdict} 
 
     -- where it is accepted, none of its refusals applies:
     undo-rows : accepted v ≡ true → NoneHolds (undoingRows (lookAtFound f [] 0))
-    unfolding turnedUndoing firstOf refusing both accepted
-    undo-rows y = passed (undoingRows (lookAtFound f [] 0)) Accepted refl e y
+    unfolding turnedUndoing firstOf unlike both
+    undo-rows y = all-passed (undoingRows (lookAtFound f [] 0)) Accepted refl e y
 
     -- neither 28, 1 nor 2,
     pub undo-there : accepted v ≡ true → NoneHolds (namingRows (lookAtFound f [] 0))
     undo-there y = none-before (namingRows (lookAtFound f [] 0)) _ (undo-rows y)
 
     -- nor 10, so an edit stands.
-    pub undo-stands : accepted v ≡ true → f .seat .standing ≡ 0 → ⊥
+    pub undo-stands : accepted v ≡ true → f .state .standing ≡ 0 → ⊥
     unfolding NoneHolds
     undo-stands y = eqb-false _ _ (undo-rows y .1 .1 .1 .0)
 
-  module _ (e : v ≡ turnedRedoing (lookAtFound f [] (length (own (f .number) (inUse d)) - f .seat .standing))) where
+  module _ (e : v ≡ turnedRedoing (lookAtFound f [] (length (own (f .seat) (inUse d)) - f .state .standing))) where
     -- Redo is answered as what is found says;
     pub redo-answer : answerOf d (redoing s) ≡ v
     redo-answer =
-        sym (e ∙ ap (λ (q : Found). turnedRedoing (lookAtFound q [] (length (own (q .number) (inUse d)) - q .seat .standing))) g ∙ redoing-by d s _ refl)
+        sym (e ∙ ap (λ (q : Found). turnedRedoing (lookAtFound q [] (length (own (q .seat) (inUse d)) - q .state .standing))) g ∙ redoing-by d s _ refl)
 
     -- where it is accepted, none of its refusals applies:
-    redo-rows : accepted v ≡ true → NoneHolds (redoingRows (lookAtFound f [] (length (own (f .number) (inUse d)) - f .seat .standing)))
-    unfolding turnedRedoing firstOf refusing both accepted
-    redo-rows y = passed (redoingRows (lookAtFound f [] (length (own (f .number) (inUse d)) - f .seat .standing))) Accepted refl e y
+    redo-rows : accepted v ≡ true → NoneHolds (redoingRows (lookAtFound f [] (length (own (f .seat) (inUse d)) - f .state .standing)))
+    unfolding turnedRedoing firstOf unlike both
+    redo-rows y = all-passed (redoingRows (lookAtFound f [] (length (own (f .seat) (inUse d)) - f .state .standing))) Accepted refl e y
 
     -- neither 28, 1 nor 2,
     pub redo-there : accepted v ≡ true → NoneHolds (namingRows (lookAtFound f [] 0))
     redo-there y = none-before (namingRows (lookAtFound f [] 0)) _ (redo-rows y)
 
     -- nor 11, so an edit is taken back.
-    pub redo-waits : accepted v ≡ true → f .seat .standing < length (editsOf d s)
+    pub redo-waits : accepted v ≡ true → f .state .standing < length (editsOf d s)
     unfolding NoneHolds
     redo-waits y =
-        let n : f .number ≡ s = ap (λ (q : Found). q .number) g in
-        let h : length (own (f .number) (inUse d)) - f .seat .standing ≡ 0 → ⊥ = eqb-false _ _ (redo-rows y .1 .1 .1 .0) in
-        let k : length (editsOf d s) - f .seat .standing ≡ 0 → ⊥ = rw n at h in
+        let n : f .seat ≡ s = ap (λ (q : Found). q .seat) g in
+        let h : length (own (f .seat) (inUse d)) - f .state .standing ≡ 0 → ⊥ = eqb-false _ _ (redo-rows y .1 .1 .1 .0) in
+        let k : length (editsOf d s) - f .state .standing ≡ 0 → ⊥ = rw n at h in
         omega (arith, k)
 
   module _ (p : ℕ) where
@@ -234,9 +220,9 @@ module _ (d : Desk) (s : ℕ) {f : Found} (g : f ≡ foundAt d s) {v : Verdict} 
       place-room = told-room _ place-told (placing-joined d s p at)
 
       -- and none of the refusals before it applies:
-      place-rows : accepted v ≡ true → NoneHolds (placingRows (lookAtFound f [] 0) p at)
-      unfolding turnedPlacing firstOf refusing both accepted turn choose
-      place-rows y = passed (placingRows (lookAtFound f [] 0) p at) Accepted refl e y
+      place-rows : accepted v ≡ true → NoneHolds (placingBeforeFull (lookAtFound f [] 0) p at)
+      unfolding turnedPlacing firstOf unlike both turn choose
+      place-rows y = all-passed (placingBeforeFull (lookAtFound f [] 0) p at) Accepted refl e y
 
       -- neither 28, 1 nor 2,
       pub place-there : accepted v ≡ true → NoneHolds (namingRows (lookAtFound f [] 0))
@@ -261,9 +247,9 @@ module _ (d : Desk) (s : ℕ) {f : Found} (g : f ≡ foundAt d s) {v : Verdict} 
       move-room = told-room _ move-told (moving-joined d s p at)
 
       -- and none of the refusals before it applies:
-      move-rows : accepted v ≡ true → NoneHolds (movingRows (lookAtFound f [] 0) p at)
-      unfolding turnedMoving firstOf refusing both accepted turn choose
-      move-rows y = passed (movingRows (lookAtFound f [] 0) p at) Accepted refl e y
+      move-rows : accepted v ≡ true → NoneHolds (movingBeforeFull (lookAtFound f [] 0) p at)
+      unfolding turnedMoving firstOf unlike both turn choose
+      move-rows y = all-passed (movingBeforeFull (lookAtFound f [] 0) p at) Accepted refl e y
 
       -- neither 28, 1 nor 2,
       pub move-there : accepted v ≡ true → NoneHolds (namingRows (lookAtFound f [] 0))
@@ -299,51 +285,30 @@ module _ (d : Desk) (s : ℕ) {f : Found} (g : f ≡ foundAt d s) {v : Verdict} 
       pub remove-number : accepted v ≡ true → p < mostPins
       remove-number y = there-number (lookAtFound f [] 0) p refl e y
 
--- Opening: what reading says after 28, 1, 3, 4 and 5.
-module _ (d : Desk) (s job : ℕ) (map : List ℕ) {f : Found} (g : f ≡ foundAt d s) {r : Reading} (e : r ≡ readingIn f (jobsOf d) job map) where
-  -- What opening is told of what is found, up to the map.
-  abbrev before : Verdict
-  before = turnedOpening (lookAtFound f (jobsOf d) 0) job []
-
-  -- The verdict of the reading: that, or what the map says.
-  reading-by : (t : Bool) → accepted before ≡ t → choose t (readMap map job) (refusedBy before) .verdict ≡ choose t (readMap map job .verdict) before
-  unfolding choose
-  reading-by true q = refl
-  reading-by false q = refl
-
+-- Opening, with what it reads.
+module _ (d : Desk) (s job : ℕ) (map : List ℕ) {f : Found} (g : f ≡ foundAt d s) {r : Reading} (e : r ≡ mapRead (lookAtFound f (jobsOf d) 0) job map) where
   -- Opening is answered as the reading says.
   pub open-answer : answerOf d (opening s job map) ≡ r .verdict
-  unfolding readingIn turnedOpening firstOf accepted
   open-answer =
       sym (
       ap (λ (q : Reading). q .verdict) e
-      ∙ reading-by _ refl
-      ∙ joined (openingRows (lookAtFound f (jobsOf d) 0) job) (readMap [] job .verdict) (readMap map job .verdict)
-      (opening-refusing (lookAtFound f (jobsOf d) 0) job) (ap accepted (sym (empty-read job)))
       ∙ ap (λ (q : Found). turnedOpening (lookAtFound q (jobsOf d) 0) job map) g
       ∙ opening-by d s job map _ refl
       )
 
-  -- Where the reading is accepted, so was what came before the map:
-  read-there : (t : Bool) → accepted before ≡ t → accepted (choose t (readMap map job) (refusedBy before) .verdict) ≡ true → t ≡ true
-  unfolding choose
-  read-there true q y = refl
-  read-there false q y = absurd (false≢true (sym q ∙ y))
-
   module _ (y : accepted (r .verdict) ≡ true) where
-    before-accepted : accepted before ≡ true
-    unfolding readingIn
-    before-accepted = read-there _ refl (ap (λ (q : Reading). accepted (q .verdict)) (sym e) ∙ y)
+    -- Where it is accepted, so is the row of what is found,
+    row-accepted : accepted (turnedOpening (lookAtFound f (jobsOf d) 0) job map) ≡ true
+    row-accepted = ap (λ (q : Reading). accepted (q .verdict)) (sym e) ∙ y
 
-    -- the map was read,
-    pub open-read : r ≡ readMap map job
-    unfolding readingIn
-    open-read = e ∙ choose-yes _ _ before-accepted
+    -- the pins are those of the map,
+    pub open-read : r .pins ≡ readMap map job .pins
+    open-read = ap (λ (q : Reading). q .pins) e ∙ choose-yes _ _ row-accepted
 
     -- and the seat is one of the eight.
     pub open-seat : s < mostSeats
-    unfolding turnedOpening firstOf NoneHolds
+    unfolding turnedOpening firstOf NoneHolds unlike both
     open-seat =
-        let n : NoneHolds (openingRows (lookAtFound f (jobsOf d) 0) job) =
-        passed (openingRows (lookAtFound f (jobsOf d) 0) job) (readMap [] job .verdict) (opening-refusing (lookAtFound f (jobsOf d) 0) job) refl before-accepted in
+        let n : NoneHolds (takingRows (lookAtFound f (jobsOf d) 0) job) =
+        all-passed (takingRows (lookAtFound f (jobsOf d) 0) job) (readMap map job .verdict) refl refl row-accepted in
         leb-false mostSeats s (rw g at (n .1 .0))

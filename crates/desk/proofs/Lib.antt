@@ -1,6 +1,6 @@
 -- The laws of the desk that other crates cite.
 pub mod Sound
-mod Found
+pub mod Found
 mod Back
 mod Steps
 mod Writing

@@ -74,11 +74,12 @@ module _ (d : Desk) (h : sound d ≡ true) where
 
   -- An open seat of it.
   module _ (s : ℕ) (k : s < mostSeats) (o : seatOf d s .opened ≡ true) where
+    -- It is sound as an open one,
     opened : soundOpen (seatOf d s) (editsOf d s) ≡ true
     unfolding soundSeat
     opened = sym (choose-yes _ _ o) ∙ seat-sound s k
 
-    -- Its job is not 0,
+    -- its job is not 0,
     pub job-not-zero : seatOf d s .job ≡ 0 → ⊥
     unfolding soundOpen
     job-not-zero = eqb-false _ _ (not-true _ (both-left _ _ opened))

@@ -1,33 +1,32 @@
 -- The desk: when it is broken, and what each call makes of it.
 use mathlib.Core.Bool.{Bool, not}
 use mathlib.Core.List.{List}
-use Prim.Native.Nat.{ℕ, _+_, _-_}
+use Prim.Native.Nat.{ℕ, _+_}
 use lib.ListN.{length, replicate, take, getD, set}
 use Rattle.refusal.specs.Tests.{choose}
 use Rattle.refusal.specs.Refusals.{accepted, turn}
 use Rattle.refusal.specs.declared.Verdict.{Verdict}
 use Rattle.refusal.specs.declared.Verdict.the-variants.{Accepted, JournalFull}
 use Rattle.drawing.specs.declared.Edit.{Edit}
-use Rattle.drawing.specs.Pins.{feedOf}
 use Rattle.drawing.specs.Edits.{placed, moved, removed}
-use Rattle.pinmap.specs.Map.{readMap, mapOf, written}
+use Rattle.pinmap.specs.Map.{readMap}
 use Rattle.copper.specs.declared.Leg.{Leg}
-use Rattle.wiring.specs.Answer.{wiringOf, turnedAway}
 use Rattle.lent.specs.Lent.{filledWith}
 use Rattle.journal.specs.declared.Record.{Record}
-use Rattle.journal.specs.Journal.{mostSeats, mostRecords, blank, own, kept, added, filled}
+use Rattle.journal.specs.Journal.{mostSeats, mostRecords, blank, own, kept, added, compacted}
 use Rattle.seats.specs.declared.Seat.{Seat}
-use Rattle.seats.specs.Seats.{editedSeat, undoneSeat, redoneSeat}
+use Rattle.seats.specs.Seats.{editedSeat, undoneSeat, redoneSeat, takenBackCount}
+use Rattle.rows.specs.Answers.{mapWritten, bufferWritten, feedWired}
 use Rattle.desk.specs.declared.Desk.{Desk}
 use Rattle.desk.specs.declared.Answered.{Answered}
 use Rattle.desk.specs.declared.Written.{Written}
 use Rattle.desk.specs.declared.Wired.{Wired}
 use Rattle.desk.specs.declared.WiredSeat.{WiredSeat}
 use Rattle.desk.specs.Calls.{Call, seatIn, opening, closing, placing, moving, removing, undoing, redoing, writing, wiring}
-use Rattle.desk.specs.Refusals.{Look, full, verdictOf, turnedNaming}
-pub use Rattle.seats.specs.Seats.{closedSeat, noSeat, openSeat, withPins, jobsIn}
+use Rattle.desk.specs.Refusals.{Look, full, verdictOf}
+pub use Rattle.seats.specs.Seats.{closedSeat, noSeat, openSeat, withPins, jobsIn, jobsApart}
 pub use Rattle.seats.specs.Sound.{standingAmong, takenBackAmong}
-unfoldable pub use Rattle.seats.specs.Seats.{jobOf, jobsApart}
+unfoldable pub use Rattle.seats.specs.Seats.{jobOf}
 unfoldable pub use Rattle.seats.specs.Sound.{soundOpen, soundClosed, soundSeat, soundTo, soundAll}
 
 -- The seat of that number.
@@ -69,7 +68,7 @@ lookAt d s =
       job = seatOf d s .job;
       pins = seatOf d s .pins;
       standing = seatOf d s .standing;
-      takenBack = length (editsOf d s) - seatOf d s .standing;
+      takenBack = takenBackCount (seatOf d s) (editsOf d s);
       jobs = jobsOf d;
       used = d .used;
     }
@@ -86,13 +85,17 @@ withSeat d s t = record { seats = set (d .seats) s t; journal = d .journal; used
 abbrev pub withRecord : Desk → Record → Desk
 withRecord d r = record { seats = d .seats; journal = set (d .journal) (d .used) r; used = d .used + 1 }
 
--- The desk with one seat changed and other records in use, blanks after them.
+-- The desk with these records in use, and no others.
+abbrev pub withInUse : Desk → List Record → Desk
+withInUse d l = record { seats = d .seats; journal = compacted l .journal; used = compacted l .used }
+
+-- The desk with one seat changed and these records in use.
 abbrev pub withRecords : Desk → ℕ → Seat → List Record → Desk
-withRecords d s t l = record { seats = set (d .seats) s t; journal = filled l; used = length l }
+withRecords d s t l = withSeat (withInUse d l) s t
 
 -- The desk with a seat's records beyond its first k freed.
 abbrev pub freed : Desk → ℕ → ℕ → Desk
-freed d s k = record { seats = d .seats; journal = filled (kept s k (inUse d)); used = length (kept s k (inUse d)) }
+freed d s k = withInUse d (kept s k (inUse d))
 
 -- A new edit first frees the taken-back records of its own seat, then takes a record.
 unfoldable pub edited : Desk → ℕ → Edit → Desk
@@ -128,33 +131,21 @@ answerOf d c = verdictOf (lookAt d (seatIn c)) c
 unfoldable pub step : Desk → Call → Answered
 step d c = record { desk = choose (accepted (answerOf d c)) (effect d c) d; verdict = answerOf d c }
 
--- Writing: the desk as it is, and the number of bytes written, none where it is refused.
+-- Writing: the desk as it is, the answer, and the number of bytes written.
 unfoldable pub writtenOf : Desk → ℕ → List ℕ → Written
-writtenOf d s buffer =
-    record {
-      desk = d;
-      verdict = answerOf d (writing s (length buffer));
-      bytes =
-          choose (accepted (answerOf d (writing s (length buffer)))) (length (mapOf (seatOf d s .job) (seatOf d s .pins))) 0;
-    }
+writtenOf d s buffer = record { desk = d; verdict = mapWritten (lookAt d s) buffer .verdict; bytes = mapWritten (lookAt d s) buffer .bytes }
 
--- The lent buffer after writing: the map, the bytes after it as they were; where it is refused, the buffer as it was.
+-- The lent buffer after writing.
 unfoldable pub bufferOf : Desk → ℕ → List ℕ → List ℕ
-bufferOf d s buffer =
-    choose (accepted (answerOf d (writing s (length buffer)))) (written (mapOf (seatOf d s .job) (seatOf d s .pins)) buffer) buffer
+bufferOf d s buffer = bufferWritten (lookAt d s) buffer
 
 -- The empty desk: eight closed seats, no record in use.
 unfoldable pub emptyDesk : Desk
 emptyDesk = record { seats = replicate mostSeats closedSeat; journal = replicate mostRecords blank; used = 0 }
 
--- Wiring a seat: 28, 1 and 2 as for every call naming a seat; then the wiring of its drawing's feed, with room for so many legs. The desk as it is.
+-- Wiring a seat, with room for so many legs: the desk as it is, and the answer with its legs.
 unfoldable pub wiredOf : Desk → ℕ → ℕ → Wired
-wiredOf d s room =
-    record {
-      desk = d;
-      laid =
-          choose (accepted (turnedNaming (lookAt d s))) (wiringOf (feedOf (seatOf d s .pins)) room) (turnedAway (turnedNaming (lookAt d s)));
-    }
+wiredOf d s room = record { desk = d; laid = feedWired (lookAt d s) room }
 
 -- Wiring into a lent list of legs: its length is the room. The desk as it is, and the answer.
 unfoldable pub wiredSeatOf : Desk → ℕ → List Leg → WiredSeat

@@ -1,7 +1,8 @@
--- What is turned away: for each call its row of refusals in document 01's order, over what the call looks at. The rows stand in `rows`.
+-- The row of refusals that each call is answered by; the rows stand in `rows`.
 use Rattle.refusal.specs.declared.Verdict.{Verdict}
 use Rattle.desk.specs.Calls.{Call, opening, closing, placing, moving, removing, undoing, redoing, writing, wiring}
-unfoldable pub use Rattle.seats.specs.Seats.{sameJob, jobAmong}
+pub use Rattle.seats.specs.Seats.{jobAmong}
+unfoldable pub use Rattle.seats.specs.Seats.{sameJob}
 pub use Rattle.rows.specs.Refusals.{Look, seatAbove, pinAt, notThere, full, turnedNaming}
 unfoldable pub use Rattle.rows.specs.Refusals.{turnedOpening, turnedClosing, turnedPlacing, turnedMoving, turnedRemoving, turnedUndoing, turnedRedoing, turnedWriting, turnedWiring}
 

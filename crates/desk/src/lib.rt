@@ -206,7 +206,7 @@ impl Desk {
         let found = self.find(seat);
         let verdict = rows::turned_placing(found, pin, at);
         if refusal::is_accepted(verdict) {
-            let s = found.seat;
+            let s = found.state;
             let edit = drawing::edit_placing(pin, at);
             self.entered(seat, s, edit)
         } else {
@@ -221,7 +221,7 @@ impl Desk {
         let found = self.find(seat);
         let verdict = rows::turned_moving(found, pin, to);
         if refusal::is_accepted(verdict) {
-            let s = found.seat;
+            let s = found.state;
             let pins = s.pins;
             let edit = drawing::edit_moving(pins, pin, to);
             self.entered(seat, s, edit)
@@ -237,7 +237,7 @@ impl Desk {
         let found = self.find(seat);
         let verdict = rows::turned_removing(found, pin);
         if refusal::is_accepted(verdict) {
-            let s = found.seat;
+            let s = found.state;
             let pins = s.pins;
             let edit = drawing::edit_removing(pins, pin);
             self.entered(seat, s, edit)
@@ -253,7 +253,7 @@ impl Desk {
         let found = self.find(seat);
         let verdict = rows::turned_undoing(found);
         if refusal::is_accepted(verdict) {
-            let s = found.seat;
+            let s = found.state;
             let records = self.journal;
             let former = seats::undone(s, records, self.used, seat);
             let earlier = self.with_seat(seat, former);
@@ -274,7 +274,7 @@ impl Desk {
         let records = self.journal;
         let verdict = rows::turned_redoing(found, records, self.used);
         if refusal::is_accepted(verdict) {
-            let s = found.seat;
+            let s = found.state;
             let remade = seats::redone(s, records, self.used, seat);
             let later = self.with_seat(seat, remade);
             Answered {

@@ -1,6 +1,5 @@
 -- The laws of drawings that other crates cite.
 pub mod Rules
 pub mod Making
-mod Loops
 mod Tests
 mod Worked

@@ -4,7 +4,7 @@ use mathlib.Core.Path.{_≡_, refl, ap, sym, _∙_}
 use mathlib.Core.Bool.{true, false, not}
 use mathlib.Core.List.{List}
 use mathlib.Core.Logic.{⊎-elim}
-use Prim.Native.Nat.{ℕ, _<_}
+use Prim.Native.Nat.{ℕ, _<_, _≤_}
 use borrow.Author.Tests.{not-true, ltb-true, lt-ltb}
 use lib.ListN.{length, getD, set}
 use lib.Seq.{getD-set-same, set-set, set-getD, set-out}
@@ -21,11 +21,12 @@ use Rattle.drawing.specs.declared.Edit.{Edit}
 use Rattle.drawing.specs.declared.Edit.the-variants.{Placed, Moved, Removed}
 use Rattle.feed.specs.declared.Spot.{Spot}
 use Rattle.feed.specs.declared.Spot.the-variants as spot
-use Rattle.feed.specs.Feeds.{mostPins, within, tooNearOther, crowded, settled}
+use Rattle.feed.specs.Feeds.{mostPins, within, tooNearOther, crowded}
+use Rattle.feed.specs.Settled.{settled}
 use Rattle.feed.proofs.Rules.{absent-clear}
 use Rattle.drawing.specs.Pins.{absent, there, holding, thereIn, isThere, samePin, samePins, spotOf, feedOf, lawful}
 use Rattle.drawing.specs.Edits.{pinOf, movedPin, made, unmade, standsIn, standsAt, fits, placeable, movable, makeable, takeable}
-use Rattle.drawing.proofs.Rules.{pin-same, pin-self, pins-same, pins-self, one-changed, lawful-set, lawful-settled, settled-lawful}
+use Rattle.drawing.proofs.Rules.{pin-same, pin-self, pins-same, pins-self, one-changed, lawful-set, settled-lawful}
 
 -- The edit that does what taking an edit back does.
 abbrev pub flipped : Edit → Edit
@@ -63,6 +64,10 @@ unfolding unmade
 unmade-is l (Placed p h) = refl
 unmade-is l (Moved p a b) = refl
 unmade-is l (Removed p h) = refl
+
+-- An edit that names no pin of these leaves them as they are.
+pub unmade-out : (l : List Pin) (e : Edit) → length l ≤ pinOf e → unmade l e ≡ l
+unmade-out l e h = unmade-is l e ∙ set-out l (pinOf e) (after (was l e) (flipped e)) h
 
 -- Taken back and made again, an edit gives the same drawing just where it gives the same pin.
 pub remade-same : (l : List Pin) (e : Edit) → pinOf e < length l
@@ -109,7 +114,7 @@ absent-free feed p = absent-clear (set feed p spot.Absent)
 parts : (l : List Pin) (e : Edit) → makeable l e ≡ true → Makeable l e
 unfolding makeable placeable movable fits crowded within spotOf movedPin
 parts l (Placed p h) m =
-    let t : placeable l p h ≡ true = both-right _ _ m in
+    let t : placeable (getD l p absent) (feedOf l) p h ≡ true = both-right _ _ m in
     let f : fits (feedOf l) p (h .place) ≡ true = both-right _ _ t in
     record {
       number = ltb-true p mostPins (both-left _ _ m);
@@ -118,7 +123,7 @@ parts l (Placed p h) m =
       free = not-true _ (both-right _ _ f);
     }
 parts l (Moved p a b) m =
-    let t : movable l p a b ≡ true = both-right _ _ m in
+    let t : movable (getD l p absent) (feedOf l) p a b ≡ true = both-right _ _ m in
     let f : fits (feedOf l) p b ≡ true = both-right _ _ (both-right _ _ t) in
     let q : getD l p absent ≡ there (holding a) = pin-there (getD l p absent) a (both-left _ _ t) in
     record {
@@ -160,15 +165,20 @@ module _ (l : List Pin) (e : Edit) (m : makeable l e ≡ true) where
   -- What was made can be taken back.
   pub made-takeable : lawful l ≡ true → takeable (made l e) e ≡ true
   unfolding takeable
-  made-takeable k = rw unmade-made (both-of m (both-of (lawful-settled l (pinOf e) k) (pins-self (made l e))))
+  made-takeable k = rw unmade-made (both-of k (both-of m (pins-self (made l e))))
 
 -- ---- an edit that can be taken back
 
 module _ (l : List Pin) (e : Edit) (t : takeable l e ≡ true) where
-  -- On the pins with it taken back it can be made.
+  -- The pins with it taken back keep the rules,
+  pub unmade-lawful : lawful (unmade l e) ≡ true
+  unfolding takeable
+  unmade-lawful = both-left _ _ t
+
+  -- and on them it can be made.
   pub unmade-makeable : makeable (unmade l e) e ≡ true
   unfolding takeable
-  unmade-makeable = both-left _ _ t
+  unmade-makeable = both-left _ _ (both-right _ _ t)
 
   -- It names a pin from 0 to 31.
   pub takeable-number : pinOf e < mostPins
@@ -179,12 +189,11 @@ module _ (l : List Pin) (e : Edit) (t : takeable l e ≡ true) where
   unfolding takeable
   made-unmade = pins-same (made (unmade l e) e) l (both-right _ _ (both-right _ _ t))
 
-  -- A drawing that keeps the rules kept them before.
-  pub unmade-lawful : lawful l ≡ true → lawful (unmade l e) ≡ true
-  unfolding takeable
-  unmade-lawful k =
-      let s : settled (feedOf (unmade l e)) (pinOf e) ≡ true = both-left _ _ (both-right _ _ t) in
-      rw (unmade-is l e) (settled-lawful l (pinOf e) (after (was l e) (flipped e)) k takeable-number (rw (unmade-is l e) at s))
+-- From pins that keep the rules an edit is taken back, and the pin that it names is settled: the pins keep the rules.
+pub settled-unmade : (l : List Pin) (e : Edit) → lawful l ≡ true → pinOf e < mostPins → settled (feedOf (unmade l e)) (pinOf e) ≡ true
+    → lawful (unmade l e) ≡ true
+settled-unmade l e k n s =
+    rw (unmade-is l e) (settled-lawful l (pinOf e) (after (was l e) (flipped e)) k n (rw (unmade-is l e) at s))
 
 -- ---- what the refusals 6 to 9 leave
 

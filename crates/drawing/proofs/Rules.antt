@@ -7,10 +7,12 @@ use native.Mathlib.Omega.{arith}
 use borrow.Author.Tests.{eqb-true, eq-eqb}
 use lib.ListN.{length, getD, set, length-set, length-map, List·getD-map}
 use Rattle.refusal.proofs.Tests.{both-left, both-right, both-of, both-yes}
+use Rattle.refusal.proofs.Anyone.{each-set}
 use Rattle.refusal.specs.Tests.{both}
 use Rattle.grid.proofs.Board.{place-same, place-self}
-use Rattle.feed.specs.Feeds.{mostPins, spotAt, within, tooNearOther, settled, allWithin, allApart}
-use Rattle.feed.proofs.Rules.{apart-set, within-set, all-settled, settled-set}
+use Rattle.feed.specs.Feeds.{mostPins, spotAt, within, tooNearOther, allWithin, allApart}
+use Rattle.feed.specs.Settled.{settled}
+use Rattle.feed.proofs.Rules.{apart-set, all-settled, settled-set}
 use Rattle.drawing.specs.declared.Held.{Held}
 use Rattle.drawing.specs.declared.Stand.{Stand}
 use Rattle.drawing.specs.declared.Stand.the-variants.{Absent, There}
@@ -128,7 +130,7 @@ lawful-set l p q e w m =
     lawful-whole (set l p q)
     (record {
       long = length-set l p q ∙ h .long;
-      board = rw (feed-set l p q) (within-set (spotOf q) (feedOf l) p (h .board) w);
+      board = rw (feed-set l p q) (each-set within (feedOf l) p (spotOf q) (h .board) w);
       apart = rw (feed-set l p q) (apart-set (spotOf q) (feedOf l) p (h .apart) m);
     })
 
@@ -137,7 +139,8 @@ pub lawful-settled : (l : List Pin) (p : ℕ) → lawful l ≡ true → settled 
 lawful-settled l p e = let h : Lawful l = lawful-parts l e in all-settled (feedOf l) p (h .board) (h .apart)
 
 -- and a change to a settled pin keeps the rules.
-pub settled-lawful : (l : List Pin) (p : ℕ) (q : Pin) → lawful l ≡ true → p < mostPins → settled (feedOf (set l p q)) p ≡ true → lawful (set l p q) ≡ true
+pub settled-lawful : (l : List Pin) (p : ℕ) (q : Pin) → lawful l ≡ true → p < mostPins → settled (feedOf (set l p q)) p ≡ true
+    → lawful (set l p q) ≡ true
 settled-lawful l p q e n s =
     let f = feed-long l e in
     let k : p < length (feedOf l) = omega arith in

@@ -14,8 +14,8 @@ use Rattle.drawing.specs.declared.Pin.{Pin}
 use Rattle.drawing.specs.declared.Edit.{Edit}
 use Rattle.drawing.specs.declared.Edit.the-variants.{Placed, Moved, Removed}
 use Rattle.feed.specs.declared.Spot.{Spot}
-use Rattle.feed.specs.Feeds.{mostPins, crowded, settled}
-use Rattle.drawing.specs.Pins.{absent, there, holding, isThere, samePin, samePins, feedOf}
+use Rattle.feed.specs.Feeds.{mostPins, crowded}
+use Rattle.drawing.specs.Pins.{absent, there, holding, isThere, samePin, samePins, feedOf, lawful}
 
 -- The number of the pin that an edit names.
 abbrev pub pinOf : Edit → ℕ
@@ -23,12 +23,12 @@ pinOf (Placed p h) = p
 pinOf (Moved p a b) = p
 pinOf (Removed p h) = p
 
--- What stands at a pin, moved to a place: where it is absent it stays so.
+-- What stands at a pin, moved to a place, which is all that a pin holds; where it is absent it stays so.
 abbrev pub movedIn : Stand → Place → Pin
 movedIn Absent to = absent
 movedIn (There h) to = there (holding to)
 
--- A pin that is there keeps what it holds but for its place.
+-- The pin, moved to a place.
 unfoldable pub movedPin : Pin → Place → Pin
 movedPin q to = movedIn (q .stand) to
 
@@ -57,24 +57,24 @@ standsAt q at = standsIn (q .stand) at
 unfoldable pub fits : List Spot → ℕ → Place → Bool
 fits feed p at = both (inside at) (not (crowded feed p at))
 
--- A pin that is not there can be placed where it fits.
-unfoldable pub placeable : List Pin → ℕ → Held → Bool
-placeable l p h = both (not (isThere (getD l p absent))) (fits (feedOf l) p (h .place))
+-- A pin that is not there can be placed, as pin p of a feed, where it fits.
+unfoldable pub placeable : Pin → List Spot → ℕ → Held → Bool
+placeable q feed p h = both (not (isThere q)) (fits feed p (h .place))
 
--- A pin can be moved from where it stands to another place where it fits.
-unfoldable pub movable : List Pin → ℕ → Place → Place → Bool
-movable l p a b = both (standsAt (getD l p absent) a) (both (not (samePlace a b)) (fits (feedOf l) p b))
+-- A pin, pin p of a feed, can be moved from where it stands to another place where it fits.
+unfoldable pub movable : Pin → List Spot → ℕ → Place → Place → Bool
+movable q feed p a b = both (standsAt q a) (both (not (samePlace a b)) (fits feed p b))
 
 -- An edit can be made on these pins.
 unfoldable pub makeable : List Pin → Edit → Bool
-makeable l (Placed p h) = both (ltb p mostPins) (placeable l p h)
-makeable l (Moved p a b) = both (ltb p mostPins) (movable l p a b)
+makeable l (Placed p h) = both (ltb p mostPins) (placeable (getD l p absent) (feedOf l) p h)
+makeable l (Moved p a b) = both (ltb p mostPins) (movable (getD l p absent) (feedOf l) p a b)
 makeable l (Removed p h) = both (ltb p mostPins) (samePin (getD l p absent) (there h))
 
--- An edit that stands on these pins could have been made: with it taken back, it can be made, its pin is settled, and making it gives
--- these pins.
+-- An edit that stands on these pins could have been made: with it taken back the pins keep the rules, the edit can be made there, and
+-- making it gives these pins.
 unfoldable pub takeable : List Pin → Edit → Bool
-takeable l e = both (makeable (unmade l e) e) (both (settled (feedOf (unmade l e)) (pinOf e)) (samePins (made (unmade l e) e) l))
+takeable l e = both (lawful (unmade l e)) (both (makeable (unmade l e) e) (samePins (made (unmade l e) e) l))
 
 -- What a pin that is there holds; for an absent one, as if it stood in the middle of the board.
 abbrev pub heldIn : Stand → Held

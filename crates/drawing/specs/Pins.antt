@@ -2,7 +2,7 @@
 use mathlib.Core.Bool.{Bool, true, false}
 use mathlib.Core.List.{List, [], _∷_, map}
 use lib.Dec.{eqb}
-use lib.ListN.{length}
+use lib.ListN.{length, replicate}
 use Rattle.refusal.specs.Tests.{both}
 use Rattle.grid.specs.declared.Place.{Place}
 use Rattle.feed.specs.declared.Spot.{Spot}
@@ -17,6 +17,10 @@ use Rattle.feed.specs.Feeds.{mostPins, allWithin, allApart}
 -- A pin that is absent holds nothing else.
 abbrev pub absent : Pin
 absent = record { stand = Absent }
+
+-- A drawing without pins.
+abbrev pub noPins : List Pin
+noPins = replicate mostPins absent
 
 -- A pin that is there, with what it holds.
 abbrev pub there : Held → Pin

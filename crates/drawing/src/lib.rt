@@ -3,13 +3,11 @@ use feed::PINS;
 use feed::Spot;
 use grid::Place;
 ghost use mathlib.Core.Path.{_≡_};
-ghost use mathlib.Core.Bool.{not};
+ghost use mathlib.Core.Bool.{true};
 ghost use Prim.Native.Nat.{_<_};
-ghost use Rattle.refusal.specs.Tests.{both};
-ghost use Rattle.grid.specs.Place.{samePlace};
 ghost use Rattle.feed.specs.Feeds.{mostPins, crowded};
-ghost use Rattle.drawing.specs.Pins.{absent, there, isThere, sameHeld, samePin, spotOf, feedOf, lawful};
-ghost use Rattle.drawing.specs.Edits.{pinOf, movedPin, standsAt, fits, makeable, made, unmade, takeable, heldBy, placed, moved, removed};
+ghost use Rattle.drawing.specs.Pins.{absent, there, isThere, sameHeld, samePin, spotOf, feedOf, lawful, noPins};
+ghost use Rattle.drawing.specs.Edits.{pinOf, movedPin, standsAt, fits, placeable, movable, makeable, made, unmade, takeable, heldBy, placed, moved, removed};
 
 // What a pin holds: its place.
 pub struct Held {
@@ -34,6 +32,12 @@ pub enum Edit {
     Removed(usize, Held),
 }
 
+// The pins with an edit taken back, and whether it could have been made on them.
+pub struct TakenBack {
+    pub able: bool,
+    pub pins: [Pin; PINS],
+}
+
 // A pin that is absent.
 pub fn absent_pin() -> Pin
     ensures { λ r. ⌜ r ≡ absent ⌝ }
@@ -41,6 +45,14 @@ pub fn absent_pin() -> Pin
     Pin {
         stand: Stand::Absent,
     }
+}
+
+// The pins of a drawing without pins.
+pub fn no_pins() -> [Pin; PINS]
+    ensures { λ r. ⌜ r ≡ noPins ⌝ }
+{
+    let pin = absent_pin();
+    [pin; PINS]
 }
 
 // A pin that is there with what it holds.
@@ -216,7 +228,7 @@ fn can_stand(spots: [Spot; PINS], number: usize, at: Place) -> bool
 // Whether a pin of this number could be placed among these spots.
 fn can_place(pin: Pin, spots: [Spot; PINS], number: usize, held: Held) -> bool
     requires { ⌜ number < mostPins ⌝ }
-    ensures { λ r. ⌜ r ≡ both (not (isThere pin)) (fits spots number (held .place)) ⌝ }
+    ensures { λ r. ⌜ r ≡ placeable pin spots number held ⌝ }
 {
     if is_there(pin) {
         return false;
@@ -228,7 +240,7 @@ fn can_place(pin: Pin, spots: [Spot; PINS], number: usize, held: Held) -> bool
 // Whether a pin of this number could be moved among these spots.
 fn can_move(pin: Pin, spots: [Spot; PINS], number: usize, from: Place, to: Place) -> bool
     requires { ⌜ number < mostPins ⌝ }
-    ensures { λ r. ⌜ r ≡ both (standsAt pin from) (both (not (samePlace from to)) (fits spots number to)) ⌝ }
+    ensures { λ r. ⌜ r ≡ movable pin spots number from to ⌝ }
 {
     if !stands_at(pin, from) {
         return false;
@@ -278,15 +290,12 @@ pub fn can_make(pins: [Pin; PINS], edit: Edit) -> bool
     can_be_made(pins, spots, edit)
 }
 
-// Whether an edit that stands on these pins could have been made, so that it can be taken back.
-pub fn can_take_back(pins: [Pin; PINS], edit: Edit) -> bool
+// Whether an edit that stands on these pins could have been made on those before it. Since the pins keep the rules, of those before only the one that the edit names is judged.
+fn could_have_been_made(pins: [Pin; PINS], before: [Pin; PINS], edit: Edit) -> bool
+    requires { ⌜ (lawful pins ≡ true) × (before ≡ unmade pins edit) × (pinOf edit < mostPins) ⌝ }
     ensures { λ r. ⌜ r ≡ takeable pins edit ⌝ }
 {
     let number = pin_of(edit);
-    if PINS <= number {
-        return false;
-    }
-    let before = take_back(pins, edit);
     let spots = feed_of(before);
     if !can_be_made(before, spots, edit) {
         return false;
@@ -300,6 +309,19 @@ pub fn can_take_back(pins: [Pin; PINS], edit: Edit) -> bool
     same_pin(remade, pin)
 }
 
+// The pins with an edit taken back, from pins that keep the rules, and whether it could have been made there.
+pub fn taken_back(pins: [Pin; PINS], edit: Edit) -> TakenBack
+    requires { ⌜ lawful pins ≡ true ⌝ }
+    ensures { λ r. ⌜ (r .able ≡ takeable pins edit) × (r .pins ≡ unmade pins edit) ⌝ }
+{
+    if PINS <= pin_of(edit) {
+        return TakenBack { able: false, pins };
+    }
+    let before = take_back(pins, edit);
+    let able = could_have_been_made(pins, before, edit);
+    TakenBack { able, pins: before }
+}
+
 // What a pin holds; as if it stood in the middle of the board where it is not there.
 fn held_by(pin: Pin) -> Held
     ensures { λ r. ⌜ r ≡ heldBy pin ⌝ }
@@ -307,7 +329,7 @@ fn held_by(pin: Pin) -> Held
     let s = pin.stand;
     match s {
         Stand::Absent => Held {
-            place: Place { x: 0, y: 0 },
+            place: grid::middle(),
         },
         Stand::There(h) => h,
     }

@@ -1,4 +1,3 @@
 -- The laws of feeds that other crates cite.
 pub mod Near
 pub mod Rules
-pub mod Loops

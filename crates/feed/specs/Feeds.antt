@@ -1,9 +1,9 @@
 -- Feeds: what stands at each pin number, and the rules that the pins keep.
-use mathlib.Core.Bool.{Bool, true, false, not}
-use mathlib.Core.List.{List, [], _∷_}
+use mathlib.Core.Bool.{Bool, true, false}
+use mathlib.Core.List.{List}
 use Prim.Native.Nat.{ℕ}
 use lib.ListN.{getD, set}
-use Rattle.refusal.specs.Tests.{both, either}
+use Rattle.refusal.specs.Tests.{anyOf, eachOf, noTwo}
 use Rattle.grid.specs.declared.Place.{Place}
 use Rattle.grid.specs.Place.{inside, middle, tooNear}
 use Rattle.feed.specs.declared.Spot.{Spot}
@@ -27,6 +27,10 @@ placeOf (At p) = p
 abbrev pub spotAt : List Spot → ℕ → Spot
 spotAt feed i = getD feed i Absent
 
+-- Where the pin with this number stands; the middle of the board stands in for one that is not there.
+abbrev pub placeAt : List Spot → ℕ → Place
+placeAt feed i = placeOf (spotAt feed i)
+
 -- A pin, if it is there, is on the board.
 unfoldable pub within : Spot → Bool
 within Absent = true
@@ -39,9 +43,8 @@ spotsTooNear (At p) Absent = false
 spotsTooNear (At p) (At q) = tooNear p q
 
 -- A pin is too near one of these.
-unfoldable pub tooNearAny : Spot → List Spot → Bool
-tooNearAny s [] = false
-tooNearAny s (t ∷ feed) = either (spotsTooNear s t) (tooNearAny s feed)
+abbrev pub tooNearAny : Spot → List Spot → Bool
+tooNearAny s feed = anyOf (spotsTooNear s) feed
 
 -- Were this pin p, another pin would be too near to it.
 unfoldable pub tooNearOther : List Spot → ℕ → Spot → Bool
@@ -51,16 +54,10 @@ tooNearOther feed p s = tooNearAny s (set feed p Absent)
 unfoldable pub crowded : List Spot → ℕ → Place → Bool
 crowded feed p at = tooNearOther feed p (At at)
 
--- Pin p, if it is there, is on the board, and no other pin is too near to it.
-unfoldable pub settled : List Spot → ℕ → Bool
-settled feed p = both (within (spotAt feed p)) (not (tooNearOther feed p (spotAt feed p)))
-
 -- Every pin that is there is on the board.
-unfoldable pub allWithin : List Spot → Bool
-allWithin [] = true
-allWithin (s ∷ feed) = both (within s) (allWithin feed)
+abbrev pub allWithin : List Spot → Bool
+allWithin feed = eachOf within feed
 
 -- No two pins are too near each other: at a least gap of 1, no two have the same place.
-unfoldable pub allApart : List Spot → Bool
-allApart [] = true
-allApart (s ∷ feed) = both (not (tooNearAny s feed)) (allApart feed)
+abbrev pub allApart : List Spot → Bool
+allApart feed = noTwo spotsTooNear feed

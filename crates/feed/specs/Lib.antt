@@ -1,2 +1,3 @@
 -- What the words of a feed mean.
 pub mod Feeds
+pub mod Settled

@@ -3,7 +3,8 @@ use grid::Place;
 ghost use mathlib.Core.Path.{_≡_};
 ghost use Prim.Native.Nat.{_<_, _≤_};
 ghost use lib.ListN.{drop};
-ghost use Rattle.feed.specs.Feeds.{mostPins, present, placeOf, spotAt, within, spotsTooNear, tooNearAny, tooNearOther, crowded, settled, allWithin, allApart};
+ghost use Rattle.feed.specs.Feeds.{mostPins, present, placeOf, within, spotsTooNear, tooNearAny, tooNearOther, crowded, allWithin, allApart, placeAt};
+ghost use Rattle.feed.specs.Settled.{settled};
 
 // Pins are numbered from 0 to one less than this.
 pub const PINS: usize = 32;
@@ -29,20 +30,20 @@ pub fn place_of(spot: Spot) -> Place
     ensures { λ r. ⌜ r ≡ placeOf spot ⌝ }
 {
     match spot {
-        Spot::Absent => Place { x: 0, y: 0 },
+        Spot::Absent => grid::middle(),
         Spot::At(place) => place,
     }
 }
 
 // Where the pin with this number stands; the middle of the board where none does.
 pub fn place_at(feed: [Spot; PINS], pin: usize) -> Place
-    ensures { λ r. ⌜ r ≡ placeOf (spotAt feed pin) ⌝ }
+    ensures { λ r. ⌜ r ≡ placeAt feed pin ⌝ }
 {
     if pin < PINS {
         let spot = feed[pin];
         return place_of(spot);
     }
-    Place { x: 0, y: 0 }
+    grid::middle()
 }
 
 // Whether a pin, if it is there, is on the board.

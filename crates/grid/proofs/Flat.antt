@@ -84,12 +84,12 @@ abbrev pub site : Place → Site
 site a = record { x = off (a .x); y = off (a .y) }
 
 -- The numbers of a place are those of an i32, as the code's always are.
-pub record Held (a : Place) : Type 0 where
+pub record PlaceI32 (a : Place) : Type 0 where
   pub x : I32 (a .x)
   pub y : I32 (a .y)
 
 -- So are those of a place of the board.
-pub place-held : (a : Place) → inside a ≡ true → Held a
+pub place-held : (a : Place) → inside a ≡ true → PlaceI32 a
 unfolding inside
 place-held a e = record { x = number-held (a .x) (both-left _ _ e); y = number-held (a .y) (both-right _ _ e) }
 
@@ -99,7 +99,7 @@ unfolding gap
 difference-gap = difference-off
 
 -- The distance of two places is that of their sites.
-pub distance-span : {a b : Place} → Held a → Held b → distanceOf a b ≡ span (site a) (site b)
+pub distance-span : {a b : Place} → PlaceI32 a → PlaceI32 b → distanceOf a b ≡ span (site a) (site b)
 unfolding distanceOf span
 distance-span {a} {b} p q =
     omega (arith, difference-gap (a .x) (b .x) (p .x) (q .x), difference-gap (a .y) (b .y) (p .y) (q .y))

@@ -18,7 +18,7 @@ use Rattle.grid.specs.Place.{inside, onBoard, difference, larger}
 use Rattle.grid.specs.Weight.{weightOf, pairOf, byPart, byNumber, comesBefore, distanceOf}
 use Rattle.grid.proofs.Signed.{off, I32, ltb-same, ltZ-off, neg-off, max-off, off-range}
 use Rattle.grid.proofs.Board.{board, difference-small, larger-small}
-use Rattle.grid.proofs.Flat.{gap, gap-swap, order, Site, span, site, Held, difference-gap, distance-span}
+use Rattle.grid.proofs.Flat.{gap, gap-swap, order, Site, span, site, PlaceI32, difference-gap, distance-span}
 
 -- Two digits as one number, the first deciding.
 unfoldable pub lex : ℕ → ℕ → ℕ
@@ -139,12 +139,12 @@ by-off a b m n r ha hb f g f' g' =
 
 -- A place of the board whose numbers an i32 holds.
 pub record OnBoard (a : Place) : Type 0 where
-  pub held : Held a
+  pub held : PlaceI32 a
   pub x : onBoard (a .x) ≡ true
   pub y : onBoard (a .y) ≡ true
 
 -- A place that is inside, whose numbers an i32 holds, is such a place.
-pub on-board : {a : Place} → Held a → inside a ≡ true → OnBoard a
+pub on-board : {a : Place} → PlaceI32 a → inside a ≡ true → OnBoard a
 unfolding inside
 on-board {a} h e = record { held = h; x = both-left _ _ e; y = both-right (onBoard (a .x)) _ e }
 

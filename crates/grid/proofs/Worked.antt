@@ -2,15 +2,11 @@
 use mathlib.Core.Path.{_≡_, refl}
 use mathlib.Core.Bool.{true, false}
 use mathlib.Core.List.{[], _∷_}
-use lib.IntN.{ℤ, pos, negsuc}
+use lib.IntN.{pos, negsuc}
 use Rattle.refusal.specs.Tests.{both, choose}
-use Rattle.grid.specs.declared.Place.{Place}
 use Rattle.grid.specs.Number.{numberAt, putAt, firstByte, secondByte, thirdByte, fourthByte}
-use Rattle.grid.specs.Place.{onBoard, tooNear, closer, difference, larger}
+use Rattle.grid.specs.Place.{place, onBoard, tooNear, closer, difference, larger}
 use Rattle.grid.specs.Weight.{weightOf, distanceOf, pairOf, comesBefore, byPart, byNumber}
-
-abbrev at : ℤ → ℤ → Place
-at a b = record { x = a; y = b }
 
 -- FF FF FF FF is -1, 7F FF FF FF the largest, 80 00 00 00 the smallest.
 bytes-minus-one : numberAt (255 ∷ 255 ∷ 255 ∷ 255 ∷ []) 0 ≡ negsuc 0
@@ -40,30 +36,30 @@ unfolding onBoard both
 ends = (refl, refl, refl, refl)
 
 -- Places one step apart are not too near, a place is too near to itself.
-steps-apart : (tooNear (at (pos 0) (pos 0)) (at (negsuc 0) (pos 0)) ≡ false) × (tooNear (at (negsuc 4) (pos 3)) (at (negsuc 4) (pos 3)) ≡ true)
+steps-apart : (tooNear (place (pos 0) (pos 0)) (place (negsuc 0) (pos 0)) ≡ false) × (tooNear (place (negsuc 4) (pos 3)) (place (negsuc 4) (pos 3)) ≡ true)
 unfolding tooNear closer difference both
 steps-apart = (refl, refl)
 
 -- The weight of (-1, 2) and (3, -1): distance 7, minus 3, minus 3.
-weight-case : weightOf (at (negsuc 0) (pos 2)) (at (pos 3) (negsuc 0)) ≡ record { distance = pos 7; rise = negsuc 2; right = negsuc 2 }
+weight-case : weightOf (place (negsuc 0) (pos 2)) (place (pos 3) (negsuc 0)) ≡ record { distance = pos 7; rise = negsuc 2; right = negsuc 2 }
 unfolding weightOf distanceOf difference larger choose
 weight-case = refl
 
 -- The weight of two places left of zero has a third part above zero.
-weight-left : weightOf (at (negsuc 4) (pos 0)) (at (negsuc 2) (pos 0)) ≡ record { distance = pos 2; rise = pos 0; right = pos 3 }
+weight-left : weightOf (place (negsuc 4) (pos 0)) (place (negsuc 2) (pos 0)) ≡ record { distance = pos 2; rise = pos 0; right = pos 3 }
 unfolding weightOf distanceOf difference larger choose
 weight-left = refl
 
 -- The board's ends: distance 80,000.
-weight-ends : weightOf (at (negsuc 19999) (negsuc 19999)) (at (pos 20000) (pos 20000)) ≡ record { distance = pos 80000; rise = negsuc 39999; right = negsuc 19999 }
+weight-ends : weightOf (place (negsuc 19999) (negsuc 19999)) (place (pos 20000) (pos 20000)) ≡ record { distance = pos 80000; rise = negsuc 39999; right = negsuc 19999 }
 unfolding weightOf distanceOf difference larger choose
 weight-ends = refl
 
 -- At equal distance the taller pair comes first; where all parts are equal, the lower pin numbers decide.
-taller : comesBefore (pairOf 2 (at (pos 0) (pos 0)) 3 (at (pos 1) (pos 2))) (pairOf 0 (at (pos 5) (pos 0)) 1 (at (pos 7) (pos 1))) ≡ true
+taller : comesBefore (pairOf 2 (place (pos 0) (pos 0)) 3 (place (pos 1) (pos 2))) (pairOf 0 (place (pos 5) (pos 0)) 1 (place (pos 7) (pos 1))) ≡ true
 unfolding comesBefore pairOf weightOf distanceOf difference larger choose byPart byNumber
 taller = refl
 
-numbers : comesBefore (pairOf 3 (at (pos 0) (pos 2)) 1 (at (pos 1) (pos 1))) (pairOf 0 (at (pos 0) (pos 0)) 2 (at (pos 1) (pos 1))) ≡ false
+numbers : comesBefore (pairOf 3 (place (pos 0) (pos 2)) 1 (place (pos 1) (pos 1))) (pairOf 0 (place (pos 0) (pos 0)) 2 (place (pos 1) (pos 1))) ≡ false
 unfolding comesBefore pairOf weightOf distanceOf difference larger choose byPart byNumber
 numbers = refl

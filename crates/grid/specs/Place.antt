@@ -7,6 +7,10 @@ use lib.Dec.{ltb, eqb}
 use Rattle.refusal.specs.Tests.{both, either, choose}
 use Rattle.grid.specs.declared.Place.{Place}
 
+-- A place, x before y.
+abbrev pub place : ℤ → ℤ → Place
+place x y = record { x = x; y = y }
+
 -- x and y go from -20,000 to 20,000.
 abbrev pub limit : ℕ
 limit = 20000
@@ -25,7 +29,7 @@ inside a = both (onBoard (a .x)) (onBoard (a .y))
 
 -- The middle of the board; it stands in where there is no pin.
 abbrev pub middle : Place
-middle = record { x = pos 0; y = pos 0 }
+middle = place (pos 0) (pos 0)
 
 -- How far two numbers are apart.
 unfoldable pub difference : ℤ → ℤ → ℕ

@@ -6,7 +6,7 @@ ghost use lib.ListN.{length};
 ghost use mir.Syntax.{w32};
 ghost use mir.Val.{toZ, ofZ};
 ghost use Rattle.grid.specs.Number.{joined, numberAt, putAt};
-ghost use Rattle.grid.specs.Place.{onBoard, inside, difference, closer, tooNear, sameNumber, samePlace, larger};
+ghost use Rattle.grid.specs.Place.{onBoard, inside, middle, difference, closer, tooNear, sameNumber, samePlace, larger};
 ghost use Rattle.grid.specs.Weight.{weightOf, pairOf, byPart, byNumber, comesBefore};
 
 // x and y go from -LIMIT to LIMIT.
@@ -98,6 +98,13 @@ pub fn is_inside(place: Place) -> bool
     if x { y } else { false }
 }
 
+// The middle of the board; it stands in where there is no pin.
+pub fn middle() -> Place
+    ensures { λ r. ⌜ r ≡ middle ⌝ }
+{
+    Place { x: 0, y: 0 }
+}
+
 // How far two numbers are apart.
 pub fn apart(a: i32, b: i32) -> u64
     ensures { λ r. ⌜ r ≡ difference a b ⌝ }
@@ -146,7 +153,7 @@ fn larger_of(a: i32, b: i32) -> i32
 }
 
 // The weight of the pair of two places of the board.
-pub fn weigh(a: Place, b: Place) -> Weight
+pub fn weight_of(a: Place, b: Place) -> Weight
     requires { ⌜ (inside a ≡ true) × (inside b ≡ true) ⌝ }
     ensures { λ r. ⌜ r ≡ weightOf a b ⌝ }
 {
@@ -165,7 +172,7 @@ pub fn pair_of(i: usize, a: Place, j: usize, b: Place) -> Pair
     requires { ⌜ (inside a ≡ true) × (inside b ≡ true) ⌝ }
     ensures { λ r. ⌜ r ≡ pairOf i a j b ⌝ }
 {
-    let weight = weigh(a, b);
+    let weight = weight_of(a, b);
     if i < j {
         Pair {
             weight,

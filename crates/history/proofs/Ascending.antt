@@ -1,6 +1,6 @@
 -- Rows of refusals that stand in ascending rank: each refusal exactly, also where two have one number and carry different records.
 -- From the definition of rows; assumes nothing.
-use mathlib.Core.Path.{_≡_, refl, ap}
+use mathlib.Core.Path.{_≡_, refl, sym, ap}
 use mathlib.Core.Bool.{Bool, true, false}
 use mathlib.Core.List.{List, [], _∷_}
 use Prim.Native.Nat.{ℕ, zero, suc, _+_, _*_, _<_, _≤_}
@@ -13,7 +13,8 @@ use Rattle.refusal.specs.declared.Verdict.{Verdict}
 use Rattle.refusal.specs.declared.Verdict.the-variants.{Accepted}
 use Rattle.refusal.specs.declared.Carried.{Carried}
 use Rattle.refusal.specs.declared.Carried.the-variants.{Nothing, Record}
-use Rattle.refusal.proofs.Rows.{Row, firstOf, Given, NoneHolds, refusalAt, Exactly, given-is, none-is, to-first, to-later}
+use Rattle.refusal.proofs.Rows.{Row, firstOf, Given, NoneHolds, refusalAt, Exactly, given-is, none-is}
+use Rattle.refusal.proofs.Tests.{first-chosen, second-chosen}
 
 -- By how much the record that a refusal carries raises its rank.
 abbrev carriedIn : Carried → ℕ
@@ -49,6 +50,7 @@ below-first v [] z y a e = omega (arith, ap rank e)
 below-first v (r ∷ rows) z y a e =
     by (r .condition) e (below-first v rows z y (later-ranks (rank v) (rank (r .refusal)) rows (omega (arith, a .0)) (a .1)))
   where
+    -- Neither is it the first row's refusal, nor a later one's.
     by : (b : Bool) → v ≡ choose b (r .refusal) (firstOf rows Accepted) → (v ≡ firstOf rows Accepted → ⊥) → ⊥
     by true f k = omega (arith, a .0, ap rank f)
     by false f k = k f
@@ -63,22 +65,19 @@ only-given : (rows : List Row) (n : ℕ) → Ascending n rows → (i : ℕ) → 
 unfolding firstOf refusalAt Given turn Ascending
 only-given [] n a i h e = absurd (omega arith)
 only-given (r ∷ rows) n a zero h e =
-    to-first (r .condition) (r .refusal) (firstOf rows Accepted)
-    (below-first (r .refusal) rows (omega (arith, a .0)) accepted-rank (a .1)) e
+    first-chosen (r .condition) (below-first (r .refusal) rows (omega (arith, a .0)) accepted-rank (a .1)) (sym e) .0
 only-given (r ∷ rows) n a (suc i) h e =
     let b : rank (r .refusal) < rank (refusalAt rows i) = below-at (rank (r .refusal)) rows i (a .1) (omega arith) in
-    let l = to-later (r .condition) (r .refusal) (firstOf rows Accepted) (refusalAt rows i)
-    (λ (f : r .refusal ≡ refusalAt rows i). omega (arith, ap rank f)) e in
-    (l .0, only-given rows (rank (r .refusal)) (a .1) i (omega arith) (l .1))
+    let l = second-chosen (r .condition) (λ (f : refusalAt rows i ≡ r .refusal). omega (arith, ap rank f)) (sym e) in
+    (l .0, only-given rows (rank (r .refusal)) (a .1) i (omega arith) (sym (l .1)))
 
 -- and accepted only where none holds.
 only-none : (rows : List Row) (n : ℕ) → Ascending n rows → firstOf rows Accepted ≡ Accepted → NoneHolds rows
 unfolding firstOf NoneHolds turn Ascending
 only-none [] n a e = tt
 only-none (r ∷ rows) n a e =
-    let l = to-later (r .condition) (r .refusal) (firstOf rows Accepted) Accepted
-    (λ (f : r .refusal ≡ Accepted). omega (arith, ap rank f, accepted-rank, a .0)) e in
-    (l .0, only-none rows (rank (r .refusal)) (a .1) (l .1))
+    let l = second-chosen (r .condition) (λ (f : Accepted ≡ r .refusal). omega (arith, ap rank f, accepted-rank, a .0)) (sym e) in
+    (l .0, only-none rows (rank (r .refusal)) (a .1) (sym (l .1)))
 
 -- Each refusal of ascending rows is given exactly where its condition holds and none before it does; accepted exactly where none holds.
 pub exactly-ascending : (rows : List Row) → Ascending 0 rows → Exactly rows Accepted (firstOf rows Accepted)

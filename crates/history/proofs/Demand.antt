@@ -6,18 +6,20 @@ use mathlib.Core.List.{List, [], _∷_}
 use Prim.Native.Nat.{ℕ, _<_}
 use native.Mathlib.Omega.{arith}
 use lib.ListN.{length-replicate, getD-replicate}
-use Rattle.journal.specs.Journal.{mostSeats, mostRecords, blank, own, seated}
+use Rattle.refusal.specs.Tests.{eachOf}
+use Rattle.journal.specs.Journal.{mostSeats, mostRecords, blank, own}
+use Rattle.refusal.specs.Sums.{sum}
 use Rattle.desk.specs.declared.Desk.{Desk}
 use Rattle.desk.specs.Calls.{Call}
 use Rattle.desk.specs.Desk.{closedSeat, noSeat, seatOf, editsOf, standingOf, takenBackOf, sound, step, emptyDesk}
-use Rattle.history.specs.History.{Past, closed, isOpen, jobIn, pinsIn, standingIn, takenBackIn, sum, pastOf, usedIn, pastAfter, nothing, history, after, answers, answersIn}
+use Rattle.history.specs.History.{Past, closed, isOpen, jobIn, pinsIn, standingIn, takenBackIn, pastOf, usedIn, pastAfter, nothing, history, after, answers, answersIn}
 use Rattle.history.proofs.Sane.{Sane, sane-after, sane-nothing, sane-history}
 use Rattle.history.proofs.Simulation.{At, Agrees, used-same, shown-open, shown-job, shown-pins, shown-standing, shown-takenBack}
 use Rattle.history.proofs.Steps.{agrees-sound, step-answer, step-agrees}
 
 -- The empty desk agrees with no history.
 agrees-empty : Agrees emptyDesk nothing
-unfolding emptyDesk own seated sum At
+unfolding emptyDesk own eachOf sum At
 agrees-empty =
     record {
       whole = length-replicate mostRecords blank;

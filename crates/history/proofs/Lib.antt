@@ -11,7 +11,6 @@ pub mod Opened
 pub mod Sounding
 pub mod Again
 pub mod Ascending
-pub mod MapRows
 pub mod Refused
 pub mod Wired
 pub mod Maps

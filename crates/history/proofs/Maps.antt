@@ -19,6 +19,7 @@ use Rattle.pinmap.proofs.Records.{Bytes}
 use Rattle.pinmap.proofs.RoundTrip.{map-opens, same-bytes}
 use Rattle.journal.specs.Journal.{mostSeats}
 use Rattle.seats.specs.declared.Seat.{Seat}
+use Rattle.rows.proofs.Rows.{takingRows}
 use Rattle.desk.specs.declared.Desk.{Desk}
 use Rattle.desk.specs.declared.Answered.{Answered}
 use Rattle.desk.specs.Calls.{Call, opening}
@@ -28,7 +29,6 @@ use Rattle.desk.proofs.Sound.{eight-seats, pins-lawful}
 use Rattle.history.specs.History.{after}
 use Rattle.history.proofs.Passed.{writes}
 use Rattle.history.proofs.Opened.{NoneAt, isEditOrClosing, JobsFit, job-fits, opened-map-read, opened-seat, opened-without-edits, same-until-edit}
-use Rattle.history.proofs.Refused.{takingRows}
 
 -- The bytes that writing a seat wrote: so many of the lent buffer.
 abbrev pub bytesFrom : Desk → ℕ → List ℕ → List ℕ

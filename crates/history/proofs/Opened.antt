@@ -11,11 +11,11 @@ use lib.ListN.{length, replicate, take, drop, getD, set}
 use lib.Seq.{getD-set-same}
 use Rattle.refusal.specs.Tests.{both, choose}
 use Rattle.refusal.specs.Refusals.{accepted}
+use Rattle.refusal.proofs.Lists.{empty}
 use Rattle.drawing.specs.declared.Pin.{Pin}
 use Rattle.drawing.specs.declared.Edit.{Edit}
 use Rattle.pinmap.specs.Map.{readMap}
 use Rattle.journal.specs.Journal.{mostSeats, own, kept}
-use Rattle.pinmap.proofs.Back.{none-there}
 use Rattle.journal.proofs.Own.{own-kept}
 use Rattle.journal.proofs.Filled.{take-filled}
 use Rattle.seats.specs.declared.Seat.{Seat}
@@ -233,7 +233,7 @@ module _ (d : Desk) (s job : ℕ) (map : List ℕ) (z : accepted (step d (openin
   unfolding effect
   opened-without-edits =
       ap (λ (x : Desk). editsOf x s) (accepted-takes-effect d (opening s job map) z)
-      ∙ none-there (editsOf d s) (closed-owns-none d (not-false _ (opens-here .unbroken)) s (opens-here .low) (opens-here .shown))
+      ∙ empty (editsOf d s) (closed-owns-none d (not-false _ (opens-here .unbroken)) s (opens-here .low) (opens-here .shown))
 
   -- none stands, and none is taken back.
   pub opened-anew : (standingOf (step d (opening s job map) .desk) s ≡ []) × (takenBackOf (step d (opening s job map) .desk) s ≡ [])

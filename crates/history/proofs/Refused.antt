@@ -2,119 +2,46 @@
 -- From the rows of `turned..` and the law of rows; assumes nothing.
 use mathlib.Core.Path.{_≡_, refl, ap, sym, _∙_}
 use mathlib.Core.Bool.{Bool, true, false, not, true≢false}
-use mathlib.Core.List.{List, [], _∷_, _++_}
+use mathlib.Core.List.{List, [], _∷_}
 use mathlib.Core.Logic.{_⊎_, inl, inr, ⊎-elim, _↔_}
-use Prim.Native.Nat.{ℕ, suc, _<_}
+use Prim.Native.Nat.{ℕ, zero, suc, _+_, _*_, _/_, _<_}
 use native.Mathlib.Omega.{arith}
 use borrow.Author.Tests.{not-true}
-use lib.Dec.{eqb, leb, ltb}
-use lib.ListN.{length}
-use Rattle.refusal.specs.Tests.{both, either, choose}
+use lib.ListN.{length, drop}
+use Rattle.refusal.specs.Tests.{both, choose}
 use Rattle.refusal.specs.Refusals.{accepted}
 use Rattle.refusal.specs.declared.Verdict.{Verdict}
-use Rattle.refusal.specs.declared.Verdict.the-variants.{Accepted, SeatAbove, NotOpen, OpenAlready, JobZero, JobElsewhere, NoSuchPin, PinThere, Outside, PlaceTaken, NothingStands, NothingTakenBack, JournalFull, RoomTooSmall, DeskBroken}
-use Rattle.refusal.proofs.Rows.{Row, firstOf, Given, NoneHolds, refusalAt, unlike, distinct, Exactly, exactly, given, numberOf, unlike-first}
+use Rattle.refusal.specs.declared.Verdict.the-variants.{Accepted, JournalFull, DeskBroken}
+use Rattle.refusal.proofs.Rows.{Row, firstOf, Given, NoneHolds, refusalAt, unlike, distinct, Exactly, exactly, numberOf, unlike-first}
 use Rattle.grid.specs.declared.Place.{Place}
-use Rattle.grid.specs.Place.{inside}
-use Rattle.feed.specs.Feeds.{mostPins, crowded}
-use Rattle.drawing.specs.Pins.{isThere, feedOf}
-use Rattle.drawing.specs.Edits.{standsAt}
-use Rattle.pinmap.specs.Map.{mapOf}
+use Rattle.drawing.specs.declared.Pin.{Pin}
+use Rattle.drawing.specs.Pins.{noPins, feedOf}
+use Rattle.pinmap.specs.Record.{recordSize}
+use Rattle.wiring.proofs.Refusing.{wiring-verdict}
+use Rattle.rows.proofs.MapRows.{recordRows, mapRows, map-first}
+use Rattle.rows.proofs.Rows.{openingRows, namingRows, placingRows, movingRows, removingRows, undoingRows, redoingRows, writingRows, wiringRows}
 use Rattle.desk.specs.declared.Desk.{Desk}
-use Rattle.wiring.proofs.Refusing.{feedRows, wiring-verdict}
 use Rattle.desk.specs.Calls.{Call, seatIn, opening, closing, placing, moving, removing, undoing, redoing, writing, wiring}
-use Rattle.desk.specs.Refusals.{Look, seatAbove, jobAmong, pinAt, notThere, full, turnedOpening, turnedClosing, turnedPlacing, turnedMoving, turnedRemoving, turnedUndoing, turnedRedoing, turnedWriting, turnedWiring, verdictOf}
+use Rattle.desk.specs.Refusals.{Look, turnedOpening, turnedClosing, turnedPlacing, turnedMoving, turnedRemoving, turnedUndoing, turnedRedoing, turnedWriting, turnedWiring, verdictOf}
 use Rattle.desk.specs.Desk.{sound, lookAt, answerOf, step, emptyDesk}
 use Rattle.history.specs.History.{after}
 use Rattle.history.proofs.Ascending.{rank, Ascending, exactly-ascending}
-use Rattle.history.proofs.MapRows.{mapRows, map-first, map-ascends}
 use Rattle.history.proofs.Demand.{desk-as-past}
 
--- The desk can take a job at a seat: 28, 1, 3, 4, 5.
-abbrev pub takingRows : Look → ℕ → List Row
-takingRows l job =
-    given (l .broken) DeskBroken
-    ∷ given (seatAbove l) SeatAbove
-    ∷ given (l .opened) OpenAlready
-    ∷ given (eqb job 0) JobZero
-    ∷ given (jobAmong job (l .jobs)) JobElsewhere
-    ∷ []
+-- The rows of the records stand in ascending rank,
+records-ascend : (left : ℕ) (map : List ℕ) (job number next : ℕ) (earlier : List Pin) (n : ℕ) → n < 28 + 4 * number
+    → Ascending n (recordRows left map job number next earlier)
+unfolding recordRows Ascending rank choose
+records-ascend zero map job number next earlier n h = tt
+records-ascend (suc left) map job number next earlier n h =
+    (h, (omega arith, records-ascend left (drop recordSize map) job (number + 1) _ _ _ (omega arith)))
 
--- Opening: 28, 1, 3, 4, 5, 13, then the first faulty record, 14 before 15.
-abbrev pub openingRows : Look → ℕ → List ℕ → List Row
-openingRows l job map = takingRows l job ++ mapRows map job
+-- so do those of the whole map,
+map-ascends : (map : List ℕ) (job n : ℕ) → n < 26 → Ascending n (mapRows map job)
+unfolding Ascending rank choose
+map-ascends map job n h = (h, records-ascend (length map / recordSize) map job 0 0 noPins 26 (omega arith))
 
--- Closing: 28, 1, 2.
-abbrev pub closingRows : Look → List Row
-closingRows l = given (l .broken) DeskBroken ∷ given (seatAbove l) SeatAbove ∷ given (not (l .opened)) NotOpen ∷ []
-
--- Placing: 28, 1, 2, 6, 7, 8, 9, 12.
-abbrev pub placingRows : Look → ℕ → Place → List Row
-placingRows l p at =
-    given (l .broken) DeskBroken
-    ∷ given (seatAbove l) SeatAbove
-    ∷ given (not (l .opened)) NotOpen
-    ∷ given (leb mostPins p) NoSuchPin
-    ∷ given (isThere (pinAt l p)) PinThere
-    ∷ given (not (inside at)) Outside
-    ∷ given (crowded (feedOf (l .pins)) p at) PlaceTaken
-    ∷ given (full l) JournalFull
-    ∷ []
-
--- Moving: 28, 1, 2, 6, 8, 9, 12.
-abbrev pub movingRows : Look → ℕ → Place → List Row
-movingRows l p at =
-    given (l .broken) DeskBroken
-    ∷ given (seatAbove l) SeatAbove
-    ∷ given (not (l .opened)) NotOpen
-    ∷ given (notThere l p) NoSuchPin
-    ∷ given (not (inside at)) Outside
-    ∷ given (either (standsAt (pinAt l p) at) (crowded (feedOf (l .pins)) p at)) PlaceTaken
-    ∷ given (full l) JournalFull
-    ∷ []
-
--- Removing: 28, 1, 2, 6, 12.
-abbrev pub removingRows : Look → ℕ → List Row
-removingRows l p =
-    given (l .broken) DeskBroken
-    ∷ given (seatAbove l) SeatAbove
-    ∷ given (not (l .opened)) NotOpen
-    ∷ given (notThere l p) NoSuchPin
-    ∷ given (full l) JournalFull
-    ∷ []
-
--- Undo: 28, 1, 2, 10.
-abbrev pub undoingRows : Look → List Row
-undoingRows l =
-    given (l .broken) DeskBroken
-    ∷ given (seatAbove l) SeatAbove
-    ∷ given (not (l .opened)) NotOpen
-    ∷ given (eqb (l .standing) 0) NothingStands
-    ∷ []
-
--- Redo: 28, 1, 2, 11.
-abbrev pub redoingRows : Look → List Row
-redoingRows l =
-    given (l .broken) DeskBroken
-    ∷ given (seatAbove l) SeatAbove
-    ∷ given (not (l .opened)) NotOpen
-    ∷ given (eqb (l .takenBack) 0) NothingTakenBack
-    ∷ []
-
--- Writing: 28, 1, 2, 19.
-abbrev pub writingRows : Look → ℕ → List Row
-writingRows l room =
-    given (l .broken) DeskBroken
-    ∷ given (seatAbove l) SeatAbove
-    ∷ given (not (l .opened)) NotOpen
-    ∷ given (ltb room (length (mapOf (l .job) (l .pins)))) RoomTooSmall
-    ∷ []
-
--- Wiring: 28, 1, 2, 17, 18, 19.
-abbrev pub wiringRows : Look → ℕ → List Row
-wiringRows l room = closingRows l ++ feedRows (feedOf (l .pins)) room
-
--- Opening's rows stand in ascending rank.
+-- and so do opening's.
 opening-ascends : (l : Look) (job : ℕ) (map : List ℕ) → Ascending 0 (openingRows l job map)
 unfolding Ascending rank choose
 opening-ascends l job map = (omega arith, (omega arith, (omega arith, (omega arith, (omega arith, map-ascends map job 10 (omega arith))))))
@@ -125,9 +52,9 @@ unfolding turnedOpening firstOf
 exactly-opening l job map = rw (← map-first map job) (exactly-ascending (openingRows l job map) (opening-ascends l job map))
 
 -- Each of closing's refusals exactly under its condition.
-pub exactly-closing : (l : Look) → Exactly (closingRows l) Accepted (turnedClosing l)
+pub exactly-closing : (l : Look) → Exactly (namingRows l) Accepted (turnedClosing l)
 unfolding turnedClosing firstOf distinct unlike accepted both
-exactly-closing l = exactly (closingRows l) Accepted refl refl
+exactly-closing l = exactly (namingRows l) Accepted refl refl
 
 -- Each of placing's refusals exactly under its condition.
 pub exactly-placing : (l : Look) (p : ℕ) (at : Place) → Exactly (placingRows l p at) Accepted (turnedPlacing l p at)
@@ -167,7 +94,7 @@ exactly-wiring l room = rw (wiring-verdict (feedOf (l .pins)) room) (exactly (wi
 -- The rows of a call.
 abbrev pub rowsOf : Look → Call → List Row
 rowsOf l (opening s job map) = openingRows l job map
-rowsOf l (closing s) = closingRows l
+rowsOf l (closing s) = namingRows l
 rowsOf l (placing s p at) = placingRows l p at
 rowsOf l (moving s p at) = movingRows l p at
 rowsOf l (removing s p) = removingRows l p
@@ -200,6 +127,7 @@ unfolding Given NoneHolds
 one-or-none [] = inr tt
 one-or-none (r ∷ rows) = by (r .condition) refl (one-or-none rows)
   where
+    -- The first row is given, or one after it, or none.
     by : (b : Bool) → r .condition ≡ b → ((i : ℕ) × (i < length rows) × Given rows i) ⊎ NoneHolds rows
         → ((i : ℕ) × (i < length (r ∷ rows)) × Given (r ∷ rows) i) ⊎ NoneHolds (r ∷ rows)
     by true e k = inl (0, omega arith, e)

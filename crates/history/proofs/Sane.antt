@@ -8,15 +8,15 @@ use Prim.Native.Nat.{ℕ, _<_}
 use native.Mathlib.Omega.{arith}
 use lib.ListN.{length, set, length-set, length-replicate}
 use lib.Seq.{getD-set-same, getD-set-other, map-set-same}
-use Rattle.refusal.specs.Tests.{both, either, choose}
+use Rattle.refusal.specs.Tests.{both, either, choose, anyOf, noTwo}
 use Rattle.refusal.specs.Refusals.{accepted}
+use Rattle.refusal.proofs.Lists.{blank-at}
 use Rattle.grid.proofs.Flat.{same-or-not}
 use Rattle.drawing.specs.declared.Pin.{Pin}
 use Rattle.drawing.specs.declared.Edit.{Edit}
 use Rattle.drawing.specs.Pins.{lawful}
 use Rattle.drawing.specs.Edits.{makeable, made, placed, moved, removed}
 use Rattle.drawing.proofs.Rules.{map-set}
-use Rattle.pinmap.proofs.Opening.{alike}
 use Rattle.pinmap.proofs.RoundTrip.{read-lawful}
 use Rattle.journal.specs.Journal.{mostSeats, makeableAll}
 use Rattle.journal.proofs.Turns.{turn-nil, turn-first, turn-rest, turn-cons}
@@ -169,8 +169,8 @@ module _ (h : List Past) (g : Sane h) where
 
 -- Before any call the history is sane.
 pub sane-nothing : Sane nothing
-unfolding sane jobsApart jobAmong sameJob both either
-sane-nothing = record { eight = length-replicate mostSeats closed; each = λ s. rw (alike mostSeats s closed) tt; jobs = refl }
+unfolding sane noTwo anyOf sameJob both either
+sane-nothing = record { eight = length-replicate mostSeats closed; each = λ s. rw (blank-at mostSeats s closed) tt; jobs = refl }
 
 -- Any calls keep a history sane.
 pub sane-history : (calls : List Call) (h : List Past) → Sane h → Sane (history h calls)

@@ -8,6 +8,7 @@ use Prim.Native.Nat.{ℕ, zero, suc, _+_, _<_, _≤_}
 use native.Mathlib.Omega.{arith}
 use lib.ListN.{length, getD, set, take, drop, length-set, length-map, length-reverse, length-reverseAux, List·getD-map}
 use lib.Seq.{getD-set-same, getD-set-other, ext-getD, take-at, drop-at, getD-at, take-nil, drop-nil, length-take-le}
+use Rattle.refusal.specs.Sums.{sum}
 use Rattle.refusal.specs.Tests.{choose}
 use Rattle.refusal.proofs.Tests.{choose-yes, choose-no}
 use Rattle.grid.proofs.Flat.{same-or-not}
@@ -19,10 +20,10 @@ use Rattle.journal.proofs.Filled.{take-filled, filled-length}
 use Rattle.seats.specs.declared.Seat.{Seat}
 use Rattle.desk.specs.declared.Desk.{Desk}
 use Rattle.desk.specs.Desk.{noSeat, inUse, jobOf, jobsOf, withSeat, withRecords}
-use Rattle.history.specs.History.{Past, closed, opened, pinsBy, isOpen, jobIn, pinsIn, standingIn, takenBackIn, editsIn, sum, pastOf, usedIn}
+use Rattle.history.specs.History.{Past, closed, opened, pinsBy, isOpen, jobIn, pinsIn, standingIn, takenBackIn, editsIn, pastOf, usedIn}
 
 -- An open seat with its own edits of the journal holds its past.
-pub record Held (q : Seat) (l : List Edit) (j : ℕ) (p : List Pin) (standing takenBack : List Edit) : Type 0 where
+pub record HoldsPast (q : Seat) (l : List Edit) (j : ℕ) (p : List Pin) (standing takenBack : List Edit) : Type 0 where
   pub shown : q .opened ≡ true
   pub job : q .job ≡ j
   pub pins : q .pins ≡ p
@@ -32,7 +33,7 @@ pub record Held (q : Seat) (l : List Edit) (j : ℕ) (p : List Pin) (standing ta
 -- A seat holds its past; a closed one owns no records.
 unfoldable pub At : Seat → List Edit → Past → Type 0
 At q l closed = (q .opened ≡ false) × (l ≡ [])
-At q l (opened job first standing takenBack) = Held q l job (pinsBy first standing) standing takenBack
+At q l (opened job first standing takenBack) = HoldsPast q l job (pinsBy first standing) standing takenBack
 
 -- Seats and records in use hold a history.
 pub record Holds (q : List Seat) (l : List Record) (h : List Past) : Type 0 where

@@ -8,16 +8,17 @@ use Prim.Native.Nat.{ℕ, zero, suc, _+_, _<_, _≤_}
 use native.Mathlib.Omega.{arith}
 use lib.ListN.{length, take, length-append, length-reverse, take-append-drop, List·getD-append, List·getD-eq-default}
 use lib.Seq.{getD-at, length-take-le}
+use Rattle.refusal.specs.Sums.{sum}
 use Rattle.refusal.specs.Tests.{choose}
+use Rattle.refusal.proofs.Lists.{empty}
 use Rattle.grid.proofs.Flat.{order, same-or-not}
-use Rattle.pinmap.proofs.Back.{none-there}
 use Rattle.journal.specs.Journal.{mostSeats}
 use Rattle.journal.proofs.Seated.{ownedBelow, owned-all}
 use Rattle.desk.specs.declared.Desk.{Desk}
 use Rattle.desk.specs.Calls.{Call}
 use Rattle.desk.specs.Desk.{seatOf, inUse, editsOf, standingOf, takenBackOf, sound, step}
 use Rattle.desk.proofs.Sound.{eight-seats, whole-journal, used-within, all-seated, jobs-apart, closed-owns-none, job-not-zero, standing-within, pins-lawful, standing-takeable, taken-back-replayable}
-use Rattle.history.specs.History.{Past, closed, opened, editsIn, sum, pastOf, usedIn, pastAfter, history, after, answers, answersIn}
+use Rattle.history.specs.History.{Past, closed, opened, editsIn, pastOf, usedIn, pastAfter, history, after, answers, answersIn}
 use Rattle.history.proofs.Stood.{pinsBefore, Traced, traced}
 use Rattle.history.proofs.Sane.{sane, Sane, sane-after, sane-history}
 use Rattle.history.proofs.Simulation.{At, Agrees, shown-length, jobs-same}
@@ -65,7 +66,7 @@ module _ (d : Desk) (h : sound d ≡ true) (s : ℕ) (k : s < mostSeats) where
           redoes = rw (t .ends) (taken-back-replayable d h s k o);
         },
       )
-  past-by false o = ((o, none-there _ (closed-owns-none d h s k o)), tt)
+  past-by false o = ((o, empty _ (closed-owns-none d h s k o)), tt)
 
   -- Each seat holds its past,
   past-at : At (seatOf d s) (editsOf d s) (pastAt d s)

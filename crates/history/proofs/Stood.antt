@@ -49,7 +49,7 @@ unfolding pinsBefore stood pinsBy
 traced [] q h t = record { start = h; stands = tt; ends = refl }
 traced (e ∷ l) q h t =
     let m : takeable q e ≡ true = turn-first takeable unmade q e l t in
-    let i : Traced (unmade q e) l = traced l (unmade q e) (unmade-lawful q e m h) (turn-rest takeable unmade q e l t) in
+    let i : Traced (unmade q e) l = traced l (unmade q e) (unmade-lawful q e m) (turn-rest takeable unmade q e l t) in
     record {
       start = i .start;
       stands = (rw (i .ends) (unmade-makeable q e m), i .stands);

@@ -4,10 +4,11 @@ use mathlib.Core.Path.{_≡_, refl, ap, _∙_}
 use mathlib.Core.Bool.{Bool, true, false}
 use mathlib.Core.List.{List}
 use Prim.Native.Nat.{ℕ}
+use lib.ListN.{length}
 use lib.Seq.{getD-set-other}
 use Rattle.refusal.specs.Tests.{choose}
 use Rattle.refusal.specs.Refusals.{accepted}
-use Rattle.refusal.proofs.Tests.{choose-yes, choose-no}
+use Rattle.refusal.proofs.Tests.{choose-yes, choose-no, choose-same}
 use Rattle.journal.specs.declared.Record.{Record}
 use Rattle.journal.specs.Journal.{own}
 use Rattle.journal.proofs.Own.{own-other, other-added}
@@ -15,6 +16,7 @@ use Rattle.journal.proofs.Filled.{take-filled}
 use Rattle.seats.specs.declared.Seat.{Seat}
 use Rattle.desk.specs.declared.Desk.{Desk}
 use Rattle.desk.specs.Calls.{Call, seatIn, opening, closing, placing, moving, removing, undoing, redoing, writing, wiring}
+use Rattle.desk.specs.Refusals.{verdictOf}
 use Rattle.desk.specs.Desk.{noSeat, seatOf, inUse, editsOf, standingOf, takenBackOf, withSeat, withRecords, edited, effect, answerOf, step, writtenOf, bufferOf, wiredOf}
 
 -- A seat of a desk is the same on another: open or closed, job, pins and number of standing edits; and so are its edits, standing and taken back.
@@ -72,21 +74,15 @@ pub refused-leaves-the-desk : (d : Desk) (c : Call) → accepted (step d c .verd
 unfolding step
 refused-leaves-the-desk d c e = choose-no _ _ e
 
--- Of two that are the same it does not matter which is chosen.
-same-either : {A : Type 0} (b : Bool) (a : A) → choose b a a ≡ a
-unfolding choose
-same-either true a = refl
-same-either false a = refl
-
 -- Writing leaves the desk as it is, accepted or not.
 pub writing-leaves-the-desk : (d : Desk) (s room : ℕ) → step d (writing s room) .desk ≡ d
 unfolding step effect
-writing-leaves-the-desk d s room = same-either (accepted (answerOf d (writing s room))) d
+writing-leaves-the-desk d s room = choose-same (accepted (answerOf d (writing s room))) d
 
 -- Wiring leaves the desk as it is, accepted or not.
 pub wiring-leaves-the-desk : (d : Desk) (s room : ℕ) → step d (wiring s room) .desk ≡ d
 unfolding step effect
-wiring-leaves-the-desk d s room = same-either (accepted (answerOf d (wiring s room))) d
+wiring-leaves-the-desk d s room = choose-same (accepted (answerOf d (wiring s room))) d
 
 -- The answer of wiring hands back the desk that it was given,
 pub wired-leaves-the-desk : (d : Desk) (s room : ℕ) → wiredOf d s room .desk ≡ d
@@ -97,6 +93,11 @@ wired-leaves-the-desk d s room = refl
 pub written-leaves-the-desk : (d : Desk) (s : ℕ) (buffer : List ℕ) → writtenOf d s buffer .desk ≡ d
 unfolding writtenOf
 written-leaves-the-desk d s buffer = refl
+
+-- The verdict in the answer of writing is what the call is answered.
+pub written-verdict : (d : Desk) (s : ℕ) (buffer : List ℕ) → writtenOf d s buffer .verdict ≡ answerOf d (writing s (length buffer))
+unfolding writtenOf answerOf verdictOf
+written-verdict d s buffer = refl
 
 -- A refused writing leaves the lent buffer as it was, and writes no bytes.
 pub refused-leaves-the-buffer : (d : Desk) (s : ℕ) (buffer : List ℕ) → accepted (writtenOf d s buffer .verdict) ≡ false

@@ -13,31 +13,31 @@ use Rattle.refusal.specs.declared.Verdict.{Verdict}
 use Rattle.refusal.specs.declared.Verdict.the-variants.{Accepted, BoxesMeet}
 use Rattle.refusal.proofs.Rows.{Row, firstOf, Given, refusalAt, unlike, distinct, Exactly}
 use Rattle.drawing.specs.declared.Pin.{Pin}
-use Rattle.drawing.specs.Pins.{lawful, feedOf}
+use Rattle.drawing.specs.Pins.{noPins, lawful, feedOf}
 use Rattle.drawing.proofs.Rules.{lawful-parts, feed-long}
 use Rattle.pinmap.specs.Record.{recordSize}
-use Rattle.pinmap.specs.Map.{noPins}
 use Rattle.journal.specs.Journal.{mostSeats}
 use Rattle.tree.proofs.Apart.{never-meet}
 use Rattle.tree.specs.Trees.{mostRuns}
 use Rattle.copper.specs.declared.Shape.the-variants.{Straight}
 use Rattle.copper.specs.declared.Leg.{Leg}
 use Rattle.wiring.specs.declared.Wiring.{Wiring}
-use Rattle.wiring.specs.Answer.{shaped, runEntries, turnedAway, wiringOf}
+use Rattle.wiring.specs.Answer.{runEntry, runEntries, turnedAway, wiringOf}
 use Rattle.wiring.proofs.Refusing.{laid-behind}
 use Rattle.lent.proofs.Untouched.{Alone, turned-by, wiring-turned, untouched}
+use Rattle.rows.proofs.MapRows.{recordRows, map-first}
+use Rattle.rows.proofs.Rows.{openingRows, namingRows, placingRows, movingRows, removingRows, undoingRows, redoingRows, writingRows, wiringRows}
 use Rattle.desk.specs.declared.Desk.{Desk}
 use Rattle.desk.specs.Calls.{Call, opening, closing, placing, moving, removing, undoing, redoing, writing, wiring}
 use Rattle.desk.specs.Refusals.{turnedNaming, turnedOpening, turnedClosing, turnedPlacing, turnedMoving, turnedRemoving, turnedUndoing, turnedRedoing, turnedWriting, turnedWiring, verdictOf}
 use Rattle.desk.specs.Desk.{seatOf, lookAt, answerOf, step, wiredOf, wiredSeatOf, lentOf}
 use Rattle.desk.proofs.Sound.{pins-lawful}
-use Rattle.history.proofs.MapRows.{recordRows, map-first}
-use Rattle.history.proofs.Refused.{openingRows, closingRows, placingRows, movingRows, removingRows, undoingRows, redoingRows, writingRows, wiringRows, exactly-wiring, each-refusal-exactly, never-given}
+use Rattle.history.proofs.Refused.{exactly-wiring, each-refusal-exactly, never-given}
 
 -- The verdict in the answer of wiring a seat is what the call is answered,
 pub wired-verdict : (d : Desk) (s room : ℕ) → wiredOf d s room .laid .wiring .verdict ≡ answerOf d (wiring s room)
 unfolding wiredOf answerOf verdictOf turnedClosing turnedWiring firstOf distinct unlike both accepted
-wired-verdict d s room = laid-behind (closingRows (lookAt d s)) refl (wiringOf (feedOf (seatOf d s .pins)) room)
+wired-verdict d s room = laid-behind (namingRows (lookAt d s)) refl (wiringOf (feedOf (seatOf d s .pins)) room)
 
 -- with a lent list its length is the room;
 pub lent-verdict : (d : Desk) (s : ℕ) (lent : List Leg) → wiredSeatOf d s lent .wiring .verdict ≡ answerOf d (wiring s (length lent))
@@ -74,7 +74,7 @@ pub never-18 : (d : Desk) (c : Call) → step d c .verdict ≡ BoxesMeet → ⊥
 unfolding step answerOf verdictOf turnedOpening turnedClosing turnedPlacing turnedMoving turnedRemoving turnedUndoing turnedRedoing turnedWriting firstOf unlike both
 never-18 d (opening s job map) e =
     other-rows (openingRows (lookAt d s) job map) (records-unlike (length map / recordSize) map job 0 0 noPins) (rw (← map-first map job) at e)
-never-18 d (closing s) e = other-rows (closingRows (lookAt d s)) refl e
+never-18 d (closing s) e = other-rows (namingRows (lookAt d s)) refl e
 never-18 d (placing s p at) e = other-rows (placingRows (lookAt d s) p at) refl e
 never-18 d (moving s p at) e = other-rows (movingRows (lookAt d s) p at) refl e
 never-18 d (removing s p) e = other-rows (removingRows (lookAt d s) p) refl e
@@ -93,10 +93,10 @@ wired-never-18 d s room e = wiring-never-18 d s room (sym (wired-verdict d s roo
 -- Length, runs, legs and choices zero, and every run entry 0, 0, straight.
 pub record Empty (w : Wiring) : Type 0 where
   pub length-zero : w .length ≡ 0
-  pub runs-zero : w .count ≡ 0
+  pub runs-zero : w .runs ≡ 0
   pub legs-zero : w .legs ≡ 0
   pub choices-zero : w .weighed ≡ 0
-  pub entries-blank : w .runs ≡ replicate mostRuns (shaped 0 0 Straight)
+  pub entries-blank : w .entries ≡ replicate mostRuns (runEntry 0 0 Straight)
 
 -- A wiring that was turned away is such.
 away-empty : (v : Verdict) → Empty (turnedAway v .wiring)

@@ -1,9 +1,10 @@
--- The history of calls: what each seat's own calls come to, written from demand 3's sentences alone, with no journal in it.
+-- The history of calls: what each seat's own calls come to, in demand 3's sentences, with the rows of refusals and 01's used count; and what they make of a desk.
 use mathlib.Core.Bool.{Bool, true, false}
 use mathlib.Core.List.{List, [], _∷_, map}
 use Prim.Native.Nat.{ℕ, _+_}
 use lib.ListN.{length, replicate, getD, set}
 use Rattle.refusal.specs.Tests.{choose}
+use Rattle.refusal.specs.Sums.{sum}
 use Rattle.refusal.specs.Refusals.{accepted}
 use Rattle.refusal.specs.declared.Verdict.{Verdict}
 use Rattle.drawing.specs.declared.Pin.{Pin}
@@ -55,11 +56,6 @@ takenBackIn (opened job first standing takenBack) = takenBack
 -- Standing and taken-back edits both occupy records.
 abbrev pub editsIn : Past → ℕ
 editsIn t = length (standingIn t) + length (takenBackIn t)
-
--- The sum of some numbers.
-unfoldable pub sum : List ℕ → ℕ
-sum [] = 0
-sum (n ∷ l) = n + sum l
 
 -- The past of a seat; nothing is open above 7.
 abbrev pub pastOf : List Past → ℕ → Past

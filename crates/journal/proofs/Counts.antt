@@ -1,39 +1,25 @@
--- How many records each seat owns: each count is that of the seat's edits, and what one record more makes of them. From `countsFrom`; assumes nothing.
-use mathlib.Core.Path.{_≡_, refl, ap, sym, _∙_}
+-- How many records each seat owns: each count is that of the seat's edits, and what one record more makes of them. From `countsOf`; assumes nothing.
+use mathlib.Core.Path.{_≡_, refl, sym, _∙_}
 use mathlib.Core.List.{List, [], _∷_, _++_, append-nil}
 use mathlib.Core.Logic.{⊎-elim}
-use Prim.Native.Nat.{ℕ, zero, suc, _+_, _<_, _≤_}
-use native.Mathlib.Numerals.{add-one}
+use Prim.Native.Nat.{ℕ, _+_, _<_, _≤_}
 use native.Mathlib.Omega.{arith}
 use lib.ListN.{length, take, getD, set, replicate, length-append, length-set}
-use lib.Seq.{length-take-le, take-suc, getD-set-same, getD-set-other, ext-getD}
+use lib.Seq.{length-take-le, getD-set-same, getD-set-other, ext-getD}
+use Rattle.refusal.specs.Lists.{valuesFrom}
+use Rattle.refusal.proofs.Lists.{first-more, values-long, value-at}
 use Rattle.grid.proofs.Flat.{same-or-not}
 use Rattle.journal.specs.declared.Record.{Record}
-use Rattle.journal.specs.Journal.{mostSeats, blank, own, countsFrom, countsOf}
+use Rattle.journal.specs.Journal.{mostSeats, blank, own, countsOf}
 use Rattle.journal.proofs.Own.{own-nil, own-here, own-past, own-append, own-length}
-
--- There are as many counts as seats are asked for,
-from-length : (s k : ℕ) (l : List Record) → length (countsFrom s k l) ≡ k
-unfolding countsFrom
-from-length s zero l = refl
-from-length s (suc k) l = ap suc (from-length (suc s) k l)
-
--- and the count n places on is that of the seat n further on.
-from-at : (s k n : ℕ) (l : List Record) → n < k → getD (countsFrom s k l) n 0 ≡ length (own (s + n) l)
-unfolding countsFrom
-from-at s zero n l h = absurd (omega arith)
-from-at s (suc k) zero l h = let e : s + 0 ≡ s = omega arith in rw e
-from-at s (suc k) (suc n) l h =
-    let e : s + suc n ≡ suc s + n = omega arith in
-    rw e (from-at (suc s) k n l (omega arith))
 
 -- Each seat of the desk has its count,
 counts-length : (l : List Record) → length (countsOf l) ≡ mostSeats
-counts-length l = from-length 0 mostSeats l
+counts-length l = values-long (λ s. length (own s l)) 0 mostSeats
 
 -- which is how many edits are the seat's.
 pub count-at : (l : List Record) (s : ℕ) → s < mostSeats → getD (countsOf l) s 0 ≡ length (own s l)
-count-at l s h = let e : 0 + s ≡ s = omega arith in rw e at (from-at 0 mostSeats s l h)
+count-at l s h = value-at (λ t. length (own t l)) mostSeats s 0 h
 
 -- No count is above the number of records.
 count-most : (l : List Record) (s : ℕ) → s < mostSeats → getD (countsOf l) s 0 ≤ length l
@@ -41,7 +27,7 @@ count-most l s h = omega (arith, count-at l s h, own-length s l)
 
 -- Of no records no seat owns one.
 pub counts-nil : countsOf [] ≡ replicate mostSeats 0
-unfolding countsFrom own
+unfolding valuesFrom own
 counts-nil = refl
 
 -- One record more, after the others.
@@ -88,18 +74,14 @@ module _ (l : List Record) (r : Record) where
 
 -- A pass over the records: the counts are those of the records before i.
 module _ (j : List Record) (i : ℕ) (c : List ℕ) (f : i < length j) (e : c ≡ countsOf (take i j)) where
-  -- The records before the next are those before i, and then the record i.
-  before-next : take (i + 1) j ≡ take i j ++ (getD j i blank ∷ [])
-  before-next = rw add-one (take-suc j i blank f)
-
   -- Where it is of a seat of the desk, that seat's count is one more;
   pub pass-more : getD j i blank .seat < mostSeats
       → set c (getD j i blank .seat) (getD c (getD j i blank .seat) 0 + 1) ≡ countsOf (take (i + 1) j)
-  pass-more h = rw (before-next, e) (sym (counts-more (take i j) (getD j i blank) h))
+  pass-more h = rw (← first-more blank j i f, e) (sym (counts-more (take i j) (getD j i blank) h))
 
   -- where it is not, all stay.
   pub pass-same : mostSeats ≤ getD j i blank .seat → c ≡ countsOf (take (i + 1) j)
-  pass-same h = rw (before-next, e) (sym (counts-same (take i j) (getD j i blank) h))
+  pass-same h = rw (← first-more blank j i f, e) (sym (counts-same (take i j) (getD j i blank) h))
 
   -- A count so far is at most i.
   pub pass-most : (s : ℕ) → s < mostSeats → getD c s 0 ≤ i

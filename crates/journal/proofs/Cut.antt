@@ -2,15 +2,15 @@
 use mathlib.Core.Path.{_≡_, refl, ap, sym, _∙_}
 use mathlib.Core.List.{List, [], _∷_, reverse, reverse-append}
 use Prim.Native.Nat.{ℕ, _+_, _-_, _<_}
-use native.Mathlib.Numerals.{add-one}
 use native.Mathlib.Omega.{arith}
 use lib.ListN.{length, take, getD, length-reverse}
-use lib.Seq.{take-suc, drop-cons}
+use lib.Seq.{drop-cons}
+use Rattle.refusal.proofs.Lists.{first-more}
 use Rattle.journal.proofs.Passing.{turned}
 
 -- One edit more stands than the first n: the edit of number n, counted from 0, is the latest.
 pub stands-more : {A : Type 0} (l : List A) (n : ℕ) (d : A) → n < length l → reverse (take (n + 1) l) ≡ getD l n d ∷ reverse (take n l)
-stands-more l n d h = rw (add-one, take-suc l n d h) (reverse-append (take n l) (getD l n d ∷ []))
+stands-more l n d h = rw (← first-more d l n h) (reverse-append (take n l) (getD l n d ∷ []))
 
 -- The edit of number n is the one that has all but the first n + 1 after it.
 pub counted-back : {A : Type 0} (l : List A) (n : ℕ) (d : A) → n < length l → getD (reverse l) (length l - (n + 1)) d ≡ getD l n d

@@ -2,41 +2,28 @@
 use mathlib.Core.Path.{_≡_, ap, sym, _∙_}
 use mathlib.Core.List.{List, [], _∷_, _++_, append-nil, reverse, reverse-append}
 use Prim.Native.Nat.{ℕ, suc, _+_, _-_, _<_, _≤_}
-use native.Mathlib.Numerals.{add-one}
 use native.Mathlib.Omega.{arith}
-use lib.ListN.{length, take, drop, getD, drop-of-length-le, take-append-drop, length-drop, length-reverse}
-use lib.Seq.{length-take-le, drop-cons, getD-take, take-suc, drop-at}
+use lib.ListN.{length, take, drop, getD, take-append-drop, length-drop, length-reverse}
+use lib.Seq.{take-suc, drop-at}
+use Rattle.refusal.proofs.Lists.{front-of, none-left}
 use Rattle.journal.specs.declared.Record.{Record}
 use Rattle.journal.specs.Journal.{blank, own}
 use Rattle.journal.proofs.Own.{own-nil, own-here, own-past, own-append}
 
 -- Forwards: the records from i on.
 module _ (j : List Record) (u i : ℕ) (f : u ≤ length j) where
-  -- The next is the record i;
-  pub next : i < u → drop i (take u j) ≡ getD j i blank ∷ drop (i + 1) (take u j)
-  next h =
-      let a : length (take u j) ≡ u = length-take-le u j f in
-      drop-cons (take u j) i blank (omega arith) ∙ rw (getD-take u j i blank h, add-one)
-
-  -- past those in use none is left.
-  pub none-left : u ≤ i → drop i (take u j) ≡ []
-  none-left h =
-      let a : length (take u j) ≡ u = length-take-le u j f in
-      let b : length (take u j) ≤ i = omega arith in
-      drop-of-length-le (take u j) b
-
   module _ (s : ℕ) where
     -- Where it is the seat's, it is the next of the seat's edits;
     pub next-own : i < u → getD j i blank .seat ≡ s → own s (drop i (take u j)) ≡ getD j i blank .edit ∷ own s (drop (i + 1) (take u j))
-    next-own h e = rw (next h) (own-here s _ _ e)
+    next-own h e = rw (front-of blank j u i f h) (own-here s _ _ e)
 
     -- where it is another's, the seat's edits are those after it;
     pub next-other : i < u → (getD j i blank .seat ≡ s → ⊥) → own s (drop i (take u j)) ≡ own s (drop (i + 1) (take u j))
-    next-other h d = rw (next h) (own-past s _ _ d)
+    next-other h d = rw (front-of blank j u i f h) (own-past s _ _ d)
 
     -- at the end none of the seat's is left.
     pub own-left : u ≤ i → own s (drop i (take u j)) ≡ []
-    own-left h = rw (none-left h) (own-nil s)
+    own-left h = rw (none-left j u i h) (own-nil s)
 
 -- Backwards: the records below i, the latest first.
 module _ (j : List Record) (s i : ℕ) (h : 0 < i) (f : i ≤ length j) where

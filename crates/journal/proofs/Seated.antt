@@ -1,74 +1,47 @@
 -- Records whose seats are the desk's: dropping and appending keep them so, and the seats own all of them together. From `seated`; assumes nothing.
 use mathlib.Core.Path.{_≡_, refl}
-use mathlib.Core.Bool.{true, false}
-use mathlib.Core.List.{List, [], _∷_, _++_}
+use mathlib.Core.Bool.{true}
+use mathlib.Core.List.{List, [], _∷_}
 use mathlib.Core.Logic.{⊎-elim}
 use Prim.Native.Nat.{ℕ, zero, suc, _+_, _<_, _≤_}
 use native.Mathlib.Omega.{arith}
-use borrow.Author.Tests.{ltb-true, lt-ltb, le-ltb}
+use borrow.Author.Tests.{ltb-true, lt-ltb}
 use lib.ListN.{length}
-use Rattle.refusal.proofs.Tests.{both-left, both-right, both-of, both-yes, both-no}
+use Rattle.refusal.proofs.Anyone.{each-end, each-first, each-rest, each-more, each-append}
 use Rattle.grid.proofs.Flat.{same-or-not}
 use Rattle.drawing.specs.declared.Edit.{Edit}
 use Rattle.journal.specs.declared.Record.{Record}
-use Rattle.journal.specs.Journal.{mostSeats, recorded, kept, added, seated, own}
+use Rattle.journal.specs.Journal.{mostSeats, recorded, kept, added, ofDesk, seated, own}
 use Rattle.journal.proofs.Own.{own-nil, own-here, own-past, kept-nil, kept-here, kept-none, kept-past}
 
 -- One record more at the front.
 module _ (r : Record) (l : List Record) where
-  -- Where all are seated, so is the first,
+  -- Where all are seated, so is the first;
   seated-first : seated (r ∷ l) ≡ true → r .seat < mostSeats
-  unfolding seated
-  seated-first h = ltb-true _ _ (both-left _ _ h)
+  seated-first h = ltb-true _ _ (each-first ofDesk r l h)
 
-  -- and so are the others;
-  seated-rest : seated (r ∷ l) ≡ true → seated l ≡ true
-  unfolding seated
-  seated-rest h = both-right _ _ h
-
-  -- where both are, all are.
+  -- where it is and the others are, all are.
   seated-cons : r .seat < mostSeats → seated l ≡ true → seated (r ∷ l) ≡ true
-  unfolding seated
-  seated-cons p q = both-of (lt-ltb _ _ p) q
-
-  -- The first record decides: where it passes, what is left are the others;
-  pub seated-yes : r .seat < mostSeats → seated (r ∷ l) ≡ seated l
-  unfolding seated
-  seated-yes p = both-yes _ (lt-ltb _ _ p)
-
-  -- where it fails, all is said.
-  pub seated-no : mostSeats ≤ r .seat → seated (r ∷ l) ≡ false
-  unfolding seated
-  seated-no p = both-no _ (le-ltb _ _ p)
-
--- Where there are no records, all are seated.
-pub seated-nil : seated [] ≡ true
-unfolding seated
-seated-nil = refl
-
--- Seated records put together are seated.
-seated-append : (l m : List Record) → seated l ≡ true → seated m ≡ true → seated (l ++ m) ≡ true
-seated-append [] m h k = k
-seated-append (r ∷ l) m h k = seated-cons r (l ++ m) (seated-first r l h) (seated-append l m (seated-rest r l h) k)
+  seated-cons p q = each-more ofDesk r l (lt-ltb _ _ p) q
 
 -- Dropping keeps records seated.
 pub seated-kept : (s k : ℕ) (l : List Record) → seated l ≡ true → seated (kept s k l) ≡ true
 seated-kept s k [] h = rw (kept-nil s k) h
 seated-kept s zero (r ∷ l) h =
-    let i : seated (kept s zero l) ≡ true = seated-kept s zero l (seated-rest r l h) in
+    let i : seated (kept s zero l) ≡ true = seated-kept s zero l (each-rest ofDesk r l h) in
     ⊎-elim
     (λ e. rw (kept-none s r l e) i)
     (λ d. rw (kept-past s r l zero d) (seated-cons r (kept s zero l) (seated-first r l h) i))
     (same-or-not (r .seat) s)
 seated-kept s (suc k) (r ∷ l) h =
     ⊎-elim
-    (λ e. rw (kept-here s r l k e) (seated-cons r (kept s k l) (seated-first r l h) (seated-kept s k l (seated-rest r l h))))
-    (λ d. rw (kept-past s r l (suc k) d) (seated-cons r (kept s (suc k) l) (seated-first r l h) (seated-kept s (suc k) l (seated-rest r l h))))
+    (λ e. rw (kept-here s r l k e) (seated-cons r (kept s k l) (seated-first r l h) (seated-kept s k l (each-rest ofDesk r l h))))
+    (λ d. rw (kept-past s r l (suc k) d) (seated-cons r (kept s (suc k) l) (seated-first r l h) (seated-kept s (suc k) l (each-rest ofDesk r l h))))
     (same-or-not (r .seat) s)
 
 -- A new edit of one of the desk's seats keeps them so.
 pub seated-added : (s k : ℕ) (e : Edit) (l : List Record) → s < mostSeats → seated l ≡ true → seated (added s k e l) ≡ true
-seated-added s k e l p h = seated-append (kept s k l) _ (seated-kept s k l h) (seated-cons (recorded s e) [] p seated-nil)
+seated-added s k e l p h = each-append ofDesk (kept s k l) _ (seated-kept s k l h) (seated-cons (recorded s e) [] p (each-end refl ofDesk))
 
 -- How many records the seats below n own together.
 unfoldable pub ownedBelow : ℕ → List Record → ℕ
@@ -102,4 +75,4 @@ owned-here (suc n) r l h =
 pub owned-all : (l : List Record) → seated l ≡ true → ownedBelow mostSeats l ≡ length l
 owned-all [] h = owned-nil mostSeats
 owned-all (r ∷ l) h =
-    omega (arith, owned-here mostSeats r l (seated-first r l h), owned-all l (seated-rest r l h))
+    omega (arith, owned-here mostSeats r l (seated-first r l h), owned-all l (each-rest ofDesk r l h))

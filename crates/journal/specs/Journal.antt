@@ -1,10 +1,11 @@
 -- The journal: the edits of one seat in it, what dropping and appending leave, and when a seat's edits can be redone and taken back.
 use mathlib.Core.Bool.{Bool, true}
 use mathlib.Core.List.{List, [], _∷_, _++_}
-use Prim.Native.Nat.{ℕ, zero, suc, _-_}
+use Prim.Native.Nat.{ℕ, zero, suc}
 use lib.Dec.{eqb, ltb}
-use lib.ListN.{length, replicate}
-use Rattle.refusal.specs.Tests.{both, choose}
+use lib.ListN.{length}
+use Rattle.refusal.specs.Tests.{both, choose, eachOf}
+use Rattle.refusal.specs.Lists.{padded, valuesFrom}
 use Rattle.grid.specs.Place.{middle}
 use Rattle.drawing.specs.declared.Pin.{Pin}
 use Rattle.drawing.specs.declared.Edit.{Edit}
@@ -37,14 +38,9 @@ unfoldable pub own : ℕ → List Record → List Edit
 own s [] = []
 own s (r ∷ l) = choose (eqb (r .seat) s) (r .edit ∷ own s l) (own s l)
 
--- How many records each of the k seats from s on owns.
-unfoldable pub countsFrom : ℕ → ℕ → List Record → List ℕ
-countsFrom s zero l = []
-countsFrom s (suc k) l = length (own s l) ∷ countsFrom (suc s) k l
-
 -- How many records each seat of the desk owns.
 abbrev pub countsOf : List Record → List ℕ
-countsOf l = countsFrom 0 mostSeats l
+countsOf l = valuesFrom (λ s. length (own s l)) 0 mostSeats
 
 -- The records without those of the seat beyond its first k.
 unfoldable pub kept : ℕ → ℕ → List Record → List Record
@@ -58,16 +54,19 @@ added s k e l = kept s k l ++ (recorded s e ∷ [])
 
 -- A journal whose records in use are these: blank ones fill it up.
 unfoldable pub filled : List Record → List Record
-filled l = l ++ replicate (mostRecords - length l) blank
+filled l = padded mostRecords blank l
 
 -- The journal with these records in use, and their number.
 abbrev pub compacted : List Record → Compacted
 compacted l = record { journal = filled l; used = length l }
 
+-- The seat of a record is one of the desk's.
+abbrev pub ofDesk : Record → Bool
+ofDesk r = ltb (r .seat) mostSeats
+
 -- The seat of every record is one of the desk's.
-unfoldable pub seated : List Record → Bool
-seated [] = true
-seated (r ∷ l) = both (ltb (r .seat) mostSeats) (seated l)
+abbrev pub seated : List Record → Bool
+seated l = eachOf ofDesk l
 
 -- Each edit passes a test on the pins that the steps of those before it leave.
 unfoldable pub inTurn : (List Pin → Edit → Bool) → (List Pin → Edit → List Pin) → List Pin → List Edit → Bool

@@ -2,11 +2,12 @@
 use drawing::Edit;
 use drawing::Pin;
 use feed::PINS;
-use grid::Place;
 ghost use mathlib.Core.Path.{_≡_};
 ghost use Prim.Native.Nat.{_<_, _≤_};
+ghost use mathlib.Core.Bool.{true};
 ghost use mathlib.Core.List.{reverse};
 ghost use lib.ListN.{drop, getD, length, set, take};
+ghost use Rattle.drawing.specs.Pins.{lawful};
 ghost use Rattle.journal.specs.Journal.{mostRecords, noEdit, blank, own, countsOf, kept, compacted, seated, makeableAll, takeableAll};
 
 // All seats share a journal of this many records.
@@ -31,7 +32,7 @@ pub struct Compacted {
 fn no_edit() -> Edit
     ensures { λ r. ⌜ r ≡ noEdit ⌝ }
 {
-    drawing::edit_placing(0, Place { x: 0, y: 0 })
+    drawing::edit_placing(0, grid::middle())
 }
 
 // A record that is not in use.
@@ -189,7 +190,7 @@ pub fn can_redo_all(
     true
 }
 
-// Whether the seat's first `standing` edits of the `owned` that it has can be taken back from these pins, the latest first.
+// Whether the seat's first `standing` edits of the `owned` that it has can be taken back from these pins, which keep the rules, the latest first.
 pub fn can_take_back_all(
     pins: [Pin; PINS],
     journal: [Record; RECORDS],
@@ -198,7 +199,7 @@ pub fn can_take_back_all(
     owned: usize,
     standing: usize,
 ) -> bool
-    requires { ⌜ (used ≤ mostRecords) × (owned ≡ length (own seat (take used journal))) × (standing ≤ owned) ⌝ }
+    requires { ⌜ (used ≤ mostRecords) × (owned ≡ length (own seat (take used journal))) × (standing ≤ owned) × (lawful pins ≡ true) ⌝ }
     ensures { λ r. ⌜ r ≡ takeableAll pins (reverse (take standing (own seat (take used journal)))) ⌝ }
 {
     let mut q = pins;
@@ -212,9 +213,9 @@ pub fn can_take_back_all(
                 later -= 1;
             } else {
                 let e = undone.edit;
-                if drawing::can_take_back(q, e) {
-                    let former = drawing::take_back(q, e);
-                    q = former;
+                let former = drawing::taken_back(q, e);
+                if former.able {
+                    q = former.pins;
                 } else {
                     return false;
                 }

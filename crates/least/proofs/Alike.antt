@@ -1,12 +1,15 @@
 -- Trees that are told alike cost the same: only the near pins of the runs, and where the ends of the runs stand, matter. Assumes nothing.
 use mathlib.Core.Path.{_≡_, refl}
-use mathlib.Core.Bool.{Bool, true, false}
-use Prim.Native.Nat.{ℕ, zero, suc, _+_, _≤_, _<_}
+use mathlib.Core.Bool.{Bool, false}
+use Prim.Native.Nat.{ℕ, zero, suc, _+_, _*_, _≤_, _<_}
 use native.Mathlib.Nat.{sub-zero}
 use native.Mathlib.Omega.{arith}
 use Rattle.grid.specs.declared.Place.{Place}
 use Rattle.copper.specs.declared.Tally.{Tally}
-use Rattle.least.specs.Asking.{doubledIf, isBent, isBentInto, firstTally, nextTally, pinCost, pinBest, weighedFrom, weighedBelow, leastOfTree}
+use Rattle.copper.specs.Arms.{owed}
+use Rattle.copper.specs.Least.{isBent, firstTally, nextTally}
+use Rattle.copper_laws.proofs.Least.{best-same}
+use Rattle.least.specs.Asking.{base, markOf, doubledIf, isBentInto, pinCost, pinBest, weighedFrom, weighedBelow, leastOfTree}
 
 -- Two trees of n runs are told alike.
 pub record Alike (at bt : ℕ → Place) (near neat : ℕ → ℕ) (n : ℕ) : Type 0 where
@@ -21,34 +24,21 @@ module _ (at bt : ℕ → Place) (near neat : ℕ → ℕ) (n : ℕ) (alike : Al
   bent-alike r l = rw (alike .near-ends r l, alike .far-ends r l)
 
   -- .. their pins show the same before a run leads on ..
-  first-alike : (r : ℕ) (u : Bool) → r < n → firstTally at near (suc r) u ≡ firstTally bt neat (suc r) u
+  first-alike : (r : ℕ) → r < n → (u : Bool) → firstTally at near (suc r) u ≡ firstTally bt neat (suc r) u
   unfolding firstTally
-  first-alike r u l = rw (alike .near-ends r l, alike .far-ends r l)
+  first-alike r l u = rw (alike .near-ends r l, alike .far-ends r l)
 
   -- .. and when one does ..
-  next-alike : (t : Tally) (r : ℕ) (u : Bool) → r < n → nextTally at near t r u ≡ nextTally bt neat t r u
+  next-alike : (t : Tally) (r : ℕ) → r < n → (u : Bool) → nextTally at near t r u ≡ nextTally bt neat t r u
   unfolding nextTally
-  next-alike t r u l = rw (alike .near-ends r l, alike .far-ends r l)
+  next-alike t r l u = rw (alike .near-ends r l, alike .far-ends r l)
 
   -- .. so that each pin costs the same ..
   cost-alike : (favoured : Bool) (k i next : ℕ) (t : Tally) → k + next ≤ n → pinCost at near favoured k i next t ≡ pinCost bt neat favoured k i next t
   unfolding pinCost
-  cost-alike favoured zero i next t h = refl
-  cost-alike favoured (suc k) i next t h =
-      let l : next < n = omega arith in
-      rw (
-        alike .nears next l,
-        bent-alike next l,
-        first-alike next false l,
-        first-alike next true l,
-        next-alike t next false l,
-        next-alike t next true l,
-        cost-alike favoured k (suc next) (suc next) (firstTally bt neat (suc next) false) (omega arith),
-        cost-alike favoured k (suc next) (suc next) (firstTally bt neat (suc next) true) (omega arith),
-        cost-alike favoured k i (suc next) (nextTally bt neat t next false) (omega arith),
-        cost-alike favoured k i (suc next) (nextTally bt neat t next true) (omega arith),
-        cost-alike favoured k i (suc next) t (omega arith),
-      )
+  cost-alike favoured =
+      best-same Tally (firstTally at near) (firstTally bt neat) (nextTally at near) (nextTally bt neat) (λ t. owed t * base) near neat
+      (isBent at near) (isBent bt neat) (markOf favoured) n first-alike next-alike (alike .nears) bent-alike
 
   -- .. and as many choices are weighed.
   weighed-alike : (k i next c : ℕ) → k + next ≤ n → weighedFrom at near k i next c ≡ weighedFrom bt neat k i next c

@@ -9,33 +9,33 @@ use lib.Dec.{eqb}
 use lib.Pow.{pow-mono}
 use Rattle.refusal.specs.Tests.{choose}
 use Rattle.grid.specs.declared.Place.{Place}
-use Rattle.grid.specs.Place.{inside}
+use Rattle.grid.specs.Place.{limit, inside}
 use Rattle.tree.specs.Trees.{mostRuns}
 use Rattle.copper.specs.declared.Tally.{Tally}
+use Rattle.copper.specs.Least.{lesserOf, best, isBent, firstTally, nextTally}
 use Rattle.least.specs.declared.Least.{Least}
-use Rattle.least.specs.Asking.{base, markOf, lesserOf, doubledIf, isBent, firstTally, nextTally, pinCost, choicesFrom, weighedFrom, leastFrom, sizeFrom, Modest}
+use Rattle.least.specs.Asking.{base, markAt, markOf, doubledIf, pinCost, choicesFrom, weighedFrom, leastFrom, sizeFrom, Modest}
 use Rattle.least.proofs.Reading.{mark-small}
 use Rattle.least.proofs.Modesty.{modest-first, modest-next, modest-owed}
 use Rattle.least.proofs.Stepping.{doubled-none, choices-sum, weighed-split}
 
 -- The most that a pin owes, as a cost.
 abbrev pub most : ℕ
-most = 1125899906842624
+most = 8 * limit * base
 
 -- The same with the mark of the run that reached it.
 abbrev pub each : ℕ
-each = 1125900980584448
+each = most + markAt 0
 
 -- The lesser of two shapes is no more than the lower.
 pub lesser-low : (t : Bool) (x y : ℕ) → lesserOf t x y ≤ x
-unfolding lesserOf choose
 lesser-low true x y = omega arith
 lesser-low false x y = omega arith
 
 module _ (at : ℕ → Place) (near : ℕ → ℕ) (favoured : Bool) (on-board : (i : ℕ) → inside (at i) ≡ true) where
   -- A pin costs at most so much for each run below it, and what it owes itself.
   pub cost-most : (k i next : ℕ) (t : Tally) → Modest t → pinCost at near favoured k i next t ≤ sizeFrom near k i next * each + most
-  unfolding pinCost sizeFrom
+  unfolding pinCost best sizeFrom
   cost-most zero i next t m = omega (arith, modest-owed m)
   cost-most (suc k) i next t m =
       go (eqb (near next) i) (sizeFrom near k (suc next) (suc next)) (sizeFrom near k i (suc next))

@@ -4,6 +4,7 @@ pub mod Modesty
 pub mod Stepping
 pub mod Bounds
 pub mod Weighing
+pub mod Owning
 pub mod Collecting
 pub mod Whole
 pub mod Alike

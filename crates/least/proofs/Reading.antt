@@ -8,8 +8,9 @@ use lib.Pow.{pow-mono}
 use Rattle.refusal.specs.Tests.{choose}
 use Rattle.grid.specs.declared.Place.{Place}
 use Rattle.copper.specs.Arms.{noTally, reachedBy}
+use Rattle.copper.specs.Least.{isBent, firstTally}
 use Rattle.least.specs.declared.Ends.{Ends}
-use Rattle.least.specs.Asking.{differs, markAt, markOf, endsOf, isBent, isBentInto, firstTally}
+use Rattle.least.specs.Asking.{differs, markAt, markOf, endsOf, isBentInto}
 
 -- One mark of the mask, as a shifted 1, and its bound.
 pub bit : (r : ℕ) → ((1 * markAt r) % 18446744073709551616 ≡ markAt r) × (markAt r ≤ 1073741824)

@@ -11,14 +11,15 @@ use Rattle.refusal.specs.Tests.{choose}
 use Rattle.grid.specs.declared.Place.{Place}
 use Rattle.copper.specs.declared.Tally.{Tally}
 use Rattle.copper.specs.Arms.{owed}
-use Rattle.least.specs.Asking.{base, lesserOf, doubledIf, isBent, isBentInto, nextTally, pinCost, pinBest, runBest, choicesFrom, weighedFrom, weighedBelow, sizeFrom}
+use Rattle.copper.specs.Least.{lesserOf, best, isBent, nextTally}
+use Rattle.least.specs.Asking.{base, doubledIf, isBentInto, pinCost, pinBest, runBest, choicesFrom, weighedFrom, weighedBelow, sizeFrom}
 
 -- With one more run to come.
-more : (n next : ℕ) → next < n → n - next ≡ suc (n - (next + 1))
+pub more : (n next : ℕ) → next < n → n - next ≡ suc (n - (next + 1))
 more n next l = omega arith
 
 -- With none to come.
-no-more : (n next : ℕ) → n ≤ next → n - next ≡ 0
+pub no-more : (n next : ℕ) → n ≤ next → n - next ≡ 0
 no-more n next l = omega arith
 
 -- Twice a sum.
@@ -127,15 +128,15 @@ module _ (at : ℕ → Place) (near : ℕ → ℕ) where
           ≡ lesserOf (isBent at near next)
           (runBest at near favoured n next false + pinCost at near favoured (n - (next + 1)) i (next + 1) (nextTally at near t next false))
           (runBest at near favoured n next true + pinCost at near favoured (n - (next + 1)) i (next + 1) (nextTally at near t next true))
-      unfolding pinCost runBest pinBest choose
+      unfolding pinCost best runBest pinBest choose
       cost-on l h = rw (more n next l, eq-eqb (near next) i h, add-one next)
 
       -- A run of another pin costs it nothing.
       pub cost-past : next < n → (near next ≡ i → ⊥) → pinCost at near favoured (n - next) i next t ≡ pinCost at near favoured (n - (next + 1)) i (next + 1) t
-      unfolding pinCost choose
+      unfolding pinCost best choose
       cost-past l h = rw (more n next l, ne-eqb (near next) i h, add-one next)
 
       -- After the last run it costs what its arms owe.
       pub cost-end : n ≤ next → pinCost at near favoured (n - next) i next t ≡ owed t * base
-      unfolding pinCost
+      unfolding pinCost best
       cost-end l = rw (no-more n next l)

@@ -7,13 +7,12 @@ use Rattle.refusal.specs.Tests.{choose}
 use Rattle.refusal.specs.Refusals.{accepted}
 use Rattle.refusal.specs.declared.Verdict.{Verdict}
 use Rattle.feed.specs.declared.Spot.{Spot}
-use Rattle.tree.specs.declared.Run.{Run}
 use Rattle.tree.specs.Growth.{runsOf}
 use Rattle.copper.specs.declared.Shape.{Shape}
 use Rattle.copper.specs.declared.Leg.{Leg}
 use Rattle.wiring.specs.declared.Laid.{Laid}
 use Rattle.wiring.specs.Choices.{bestChoice}
-use Rattle.wiring.specs.Answer.{laidWith, answerWith, turnedAway, wiringVerdict, wiringWith, wiringFavouring, wiringOf}
+use Rattle.wiring.specs.Answer.{answerWith, turnedAway, wiringVerdict, wiringWith, wiringFavouring, wiringOf}
 use Rattle.lent.specs.Lent.{filledWith}
 
 -- An answer that is refused is its verdict and nothing else.
@@ -27,18 +26,17 @@ turned-by true v l h e = h e
 turned-by false v l h e = refl
 
 -- An answer that is given is accepted.
-answer-given : (feed : List Spot) (runs : List Run) (shapes : List Shape) → Alone (answerWith feed runs shapes)
-unfolding answerWith laidWith accepted
-answer-given feed runs shapes e = absurd (true≢false e)
+answer-given : (feed : List Spot) (shapes : List Shape) → Alone (answerWith feed shapes)
+unfolding answerWith accepted
+answer-given feed shapes e = absurd (true≢false e)
 
 -- .. and the wiring of a feed.
 pub wiring-turned : (feed : List Spot) (room : ℕ) → Alone (wiringOf feed room)
 unfolding wiringOf wiringFavouring wiringWith
 wiring-turned feed room =
-    let runs = runsOf feed in
-    let shapes = bestChoice false feed runs in
-    let v = wiringVerdict feed runs shapes room in
-    turned-by (accepted v) v (answerWith feed runs shapes) (answer-given feed runs shapes)
+    let shapes = bestChoice false feed (runsOf feed) in
+    let v = wiringVerdict feed shapes room in
+    turned-by (accepted v) v (answerWith feed shapes) (answer-given feed shapes)
 
 -- Such an answer fills nothing.
 pub turned-fills : (v : Verdict) (lent : List Leg) → filledWith (turnedAway v) lent ≡ lent

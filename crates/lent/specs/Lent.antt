@@ -6,4 +6,4 @@ use Rattle.wiring.specs.declared.Laid.{Laid}
 
 -- The list that was lent: its first entries are the legs, and entries after these keep what they held.
 unfoldable pub filledWith : Laid → List Leg → List Leg
-filledWith laid lent = take (laid .wiring .legs) (laid .legs) ++ drop (laid .wiring .legs) lent
+filledWith laid lent = take (laid .wiring .legs) (laid .list) ++ drop (laid .wiring .legs) lent

@@ -19,9 +19,9 @@ fn count_of(laid: Laid) -> usize
 // One leg of an answer.
 fn leg_at(laid: Laid, at: usize) -> Leg
     requires { ⌜ at < mostLegs ⌝ }
-    ensures { λ r. ⌜ r ≡ getD (laid .legs) at noLeg ⌝ }
+    ensures { λ r. ⌜ r ≡ getD (laid .list) at noLeg ⌝ }
 {
-    laid.legs[at]
+    laid.list[at]
 }
 
 // The wiring of an answer, without its legs.

@@ -10,19 +10,20 @@ use lib.Dec.{eqb}
 use lib.ListN.{length, take}
 use lib.Seq.{take-all, length-take-le}
 use borrow.Author.Tests.{lt-ltb, eqb-true}
-use Rattle.refusal.specs.Tests.{both, either, choose}
+use Rattle.refusal.specs.Tests.{both, either, choose, anyOf, eachOf, noTwo}
 use Rattle.refusal.specs.Refusals.{accepted, turn}
 use Rattle.refusal.specs.declared.Verdict.the-variants.{JobZero, MapLength}
-use Rattle.feed.specs.Feeds.{spotsTooNear, tooNearAny, within, settled, allWithin, allApart}
+use Rattle.feed.specs.Feeds.{spotsTooNear, within}
 use Rattle.drawing.specs.Pins.{lawful, spotOf, feedOf}
 use Rattle.tree.specs.Growth.{keptIf, pinsFrom, pinsOf}
 use Rattle.wiring.specs.Answer.{turnedAway, wiringVerdict, wiringWith, wiringFavouring, wiringOf}
-use Rattle.journal.specs.Journal.{own, filled, seated, inTurn}
-use Rattle.pinmap.specs.Map.{mostBytes, noPins, readFrom, wrongLength, readMap}
-use Rattle.desk.specs.Refusals.{sameJob, jobAmong, turnedOpening, turnedClosing, verdictOf}
-use Rattle.desk.specs.Desk.{jobOf, jobsApart, soundOpen, soundClosed, soundSeat, soundTo, sound, effect, answerOf, step, emptyDesk, wiredOf}
-use Rattle.script.specs.Text.{text}
-use Rattle.script.specs.Answers.{digits, carriedText, toldLine, verdictLine}
+use Rattle.journal.specs.Journal.{own, filled, inTurn}
+use Rattle.pinmap.specs.Map.{mostBytes, readFrom, wrongLength, readMap}
+use Rattle.desk.specs.Refusals.{sameJob, turnedOpening, turnedClosing, verdictOf}
+use Rattle.desk.specs.Desk.{jobOf, soundOpen, soundClosed, soundSeat, soundTo, sound, effect, answerOf, step, emptyDesk, wiredOf}
+use Rattle.text.specs.Text.{text}
+use Rattle.text.specs.Digits.{digits}
+use Rattle.script.specs.Answers.{carriedText, toldLine, verdictLine}
 use Rattle.grid.proofs.Flat.{order}
 use Rattle.shown.specs.Shown.{mapText}
 use Rattle.mapped.specs.Mapped.{mostRead, jobOfMap, openedWith, wiredWith, mapAnswer}
@@ -30,7 +31,9 @@ use Rattle.mapped.proofs.Opening.{opened, printed-refused}
 
 -- Empty input is a drawing without pins: nothing to wire.
 pub empty-input : mapAnswer [] ≡ text "refused 17\n"
-unfolding jobOfMap openedWith wiredWith mapAnswer mapText toldLine carriedText digits wiredOf step effect answerOf verdictOf turnedOpening turnedClosing jobAmong sameJob sound soundTo soundSeat soundOpen soundClosed jobsApart jobOf emptyDesk readMap wrongLength readFrom noPins own filled seated inTurn spotsTooNear tooNearAny within settled allWithin allApart lawful spotOf feedOf wiringOf wiringFavouring wiringWith wiringVerdict turnedAway pinsOf pinsFrom keptIf accepted turn both either choose
+unfolding jobOfMap openedWith wiredWith mapAnswer mapText toldLine carriedText digits wiredOf step effect answerOf verdictOf turnedOpening turnedClosing sameJob
+    sound soundTo soundSeat soundOpen soundClosed jobOf emptyDesk readMap wrongLength readFrom own filled inTurn spotsTooNear within lawful spotOf feedOf
+    wiringOf wiringFavouring wiringWith wiringVerdict turnedAway pinsOf pinsFrom keptIf accepted turn both either choose anyOf noTwo eachOf
 empty-input = refl
 
 -- A single byte is 13.

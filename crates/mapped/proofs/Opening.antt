@@ -2,22 +2,20 @@
 use mathlib.Core.Path.{_≡_, refl, sym, _∙_, ap}
 use mathlib.Core.Bool.{Bool, true, false}
 use mathlib.Core.List.{List}
-use Prim.Native.Nat.{ℕ, _≤_}
+use Prim.Native.Nat.{ℕ}
 use lib.Dec.{eqb}
-use lib.ListN.{length}
-use Rattle.refusal.specs.Tests.{both, either, choose}
+use Rattle.refusal.specs.Tests.{both, either, choose, anyOf, eachOf, noTwo}
 use Rattle.refusal.specs.Refusals.{accepted, turn}
 use Rattle.refusal.specs.declared.Verdict.{Verdict}
 use Rattle.refusal.specs.declared.Verdict.the-variants.{JobZero}
 use Rattle.pinmap.specs.Map.{readMap}
-use Rattle.journal.specs.Journal.{own, seated}
+use Rattle.journal.specs.Journal.{own}
 use Rattle.desk.specs.declared.Desk.{Desk}
 use Rattle.desk.specs.declared.Answered.{Answered}
 use Rattle.desk.specs.declared.Wired.{Wired}
 use Rattle.desk.specs.Calls.{opening}
-use Rattle.desk.specs.Refusals.{sameJob, jobAmong, turnedOpening, verdictOf}
-use Rattle.desk.specs.Desk.{jobOf, jobsApart, soundClosed, soundSeat, soundTo, sound, answerOf, step, emptyDesk, wiredOf}
-use Rattle.script.specs.Text.{over, answerBytes}
+use Rattle.desk.specs.Refusals.{sameJob, turnedOpening, verdictOf}
+use Rattle.desk.specs.Desk.{jobOf, soundClosed, soundSeat, soundTo, sound, answerOf, step, emptyDesk, wiredOf}
 use Rattle.script.specs.Answers.{verdictLine}
 use Rattle.shown.specs.Shown.{mapText}
 use Rattle.wiring.specs.Answer.{mostLegs}
@@ -25,7 +23,7 @@ use Rattle.mapped.specs.Mapped.{jobOfMap, openedWith, wiredWith, mapAnsw
 
 -- Opening a map at seat 0 of the empty desk: 4, then as the map is read.
 opens : (job : ℕ) (map : List ℕ) → answerOf emptyDesk (opening 0 job map) ≡ turn (eqb job 0) JobZero (readMap map job .verdict)
-unfolding both either choose turn own seated sameJob jobAmong turnedOpening verdictOf jobOf jobsApart soundClosed soundSeat soundTo sound answerOf emptyDesk
+unfolding both either choose turn own eachOf sameJob anyOf turnedOpening verdictOf jobOf noTwo soundClosed soundSeat soundTo sound answerOf emptyDesk
 opens job map = by (eqb job 0) refl
   where
     by : (t : Bool) → eqb job 0 ≡ t → answerOf emptyDesk (opening 0 job map) ≡ turn (eqb job 0) JobZero (readMap map job .verdict)
@@ -64,8 +62,3 @@ module _ (map : List ℕ) {job : ℕ} {d : Desk} {a : Answered} (j : job ≡ job
   answer-wired {w} q e =
       let x : w ≡ wiredOf (openedWith map .desk) 0 mostLegs = q ∙ ap (λ (x : Answered). wiredOf (x .desk) 0 mostLegs) open-so in
       rw (j, x) (sym (printed-wired map (sym (ap (λ (x : Answered). accepted (x .verdict)) open-so) ∙ e)))
-
--- What was printed under one name was printed under the other.
-pub printed : (before : List ℕ) {n : ℕ} {after p q : List ℕ} → p ≡ q → n ≡ length p → n ≤ answerBytes → after ≡ over p before
-    → ((n ≡ length q) × (n ≤ answerBytes)) × (after ≡ over q before)
-printed o e h k l = ((h ∙ ap length e, k), l ∙ ap (λ (t : List ℕ). over t o) e)

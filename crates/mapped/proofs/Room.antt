@@ -1,85 +1,50 @@
 -- Room for 62 legs is never too small, so that the program never prints 19. Assumes nothing.
 use mathlib.Core.Path.{_≡_, refl, sym, _∙_}
-use mathlib.Core.Bool.{Bool, true, false, not}
+use mathlib.Core.Bool.{Bool, true, false}
 use mathlib.Core.List.{List}
-use Prim.Native.Nat.{ℕ, _≤_}
+use Prim.Native.Nat.{ℕ}
 use native.Mathlib.Omega.{arith}
-use lib.Dec.{leb, ltb}
 use lib.ListN.{length}
-use borrow.Author.Tests.{le-ltb}
-use Rattle.refusal.specs.Tests.{choose}
-use Rattle.refusal.specs.Refusals.{accepted, turn}
-use Rattle.refusal.specs.declared.Verdict.{Verdict}
-use Rattle.refusal.specs.declared.Verdict.the-variants.{Accepted, SeatAbove, NotOpen, NoPins, BoxesMeet, RoomTooSmall, DeskBroken}
+use borrow.Author.Tests.{ltb-true}
+use Rattle.refusal.specs.Tests.{both, choose}
+use Rattle.refusal.specs.Refusals.{accepted}
+use Rattle.refusal.specs.declared.Verdict.the-variants.{Accepted, RoomTooSmall}
+use Rattle.refusal.proofs.Rows.{firstOf, Given, refusalAt, unlike, distinct, unlike-first, only-given}
 use Rattle.feed.specs.declared.Spot.{Spot}
 use Rattle.feed.specs.Feeds.{mostPins}
-use Rattle.tree.specs.declared.Run.{Run}
-use Rattle.tree.specs.Growth.{pinsOf, runsOf}
-use Rattle.tree.specs.Boxes.{boxesMeet}
-use Rattle.tree.specs.Trees.{none}
-use Rattle.copper.specs.declared.Shape.{Shape}
 use Rattle.drawing.specs.Pins.{feedOf}
-use Rattle.wiring.specs.declared.Laid.{Laid}
-use Rattle.wiring.specs.Choices.{legsOfChoice, bestChoice}
-use Rattle.wiring.specs.Answer.{mostLegs, laidWith, turnedAway, answerWith, wiringVerdict, wiringWith, wiringFavouring, wiringOf}
-use Rattle.lent.proofs.Fitting.{wiring-fits}
-use Rattle.journal.specs.Journal.{mostSeats}
+use Rattle.wiring.specs.Answer.{mostLegs, turnedAway, wiringOf}
+use Rattle.lent.proofs.Fitting.{needed-few}
+use Rattle.wiring.proofs.Refusing.{legsNeeded, feedRows, wiring-verdict}
+use Rattle.rows.proofs.Rows.{namingRows}
 use Rattle.desk.specs.declared.Desk.{Desk}
-use Rattle.desk.specs.Refusals.{turnedClosing}
-use Rattle.desk.specs.Desk.{seatOf, lookAt, sound, wiredOf}
+use Rattle.desk.specs.Refusals.{Look, turnedNaming}
+use Rattle.desk.specs.Desk.{seatOf, lookAt, wiredOf}
 use Rattle.desk.proofs.Sound.{feed-whole}
 use Rattle.mapped.specs.Mapped.{openedWith, wiredWith}
 
--- The rows before 17 are not 19.
-closing-else : (a b c : Bool) → turn a DeskBroken (turn b SeatAbove (turn c NotOpen Accepted)) ≡ RoomTooSmall → ⊥
-unfolding turn choose
-closing-else true b c e = let z : _≡_ {A = ℕ} 0 1 = cc in omega arith
-closing-else false true c e = let z : _≡_ {A = ℕ} 0 1 = cc in omega arith
-closing-else false false true e = let z : _≡_ {A = ℕ} 0 1 = cc in omega arith
-closing-else false false false e = let z : _≡_ {A = ℕ} 0 1 = cc in omega arith
+-- 28, 1 and 2 are not 19.
+naming-else : (l : Look) → turnedNaming l ≡ RoomTooSmall → ⊥
+unfolding firstOf unlike both
+naming-else l e = unlike-first RoomTooSmall (namingRows l) Accepted refl (λ f. let z : _≡_ {A = ℕ} 0 1 = cc in omega arith) (sym e)
 
--- A feed whose legs fit into a room is not refused for it.
-module _ (feed : List Spot) (runs : List Run) (shapes : List Shape) (room : ℕ) where
-  abbrev many : ℕ
-  many = length (legsOfChoice feed runs shapes)
-
-  abbrev answerBy : Bool → Bool → ℕ → Laid
-  answerBy n b k =
-      choose (accepted (turn n NoPins (turn b BoxesMeet (turn (ltb k many) RoomTooSmall Accepted)))) (answerWith feed runs shapes)
-      (turnedAway (turn n NoPins (turn b BoxesMeet (turn (ltb k many) RoomTooSmall Accepted))))
-
-  wiring-by : (n b : Bool) → answerBy n b many .wiring .legs ≤ room → answerBy n b room .wiring .verdict ≡ RoomTooSmall → ⊥
-  unfolding turn choose accepted turnedAway answerWith laidWith
-  wiring-by true b h e = let z : _≡_ {A = ℕ} 0 1 = cc in omega arith
-  wiring-by false true h e = let z : _≡_ {A = ℕ} 0 1 = cc in omega arith
-  wiring-by false false h e =
-      let f : ltb room many ≡ false = le-ltb room many (rw (le-ltb many many (omega arith)) at h) in
-      let z : answerBy false false room .wiring .verdict ≡ Accepted = rw f in
-      let y : _≡_ {A = Verdict} Accepted RoomTooSmall = sym z ∙ e in
-      let x : _≡_ {A = ℕ} 0 1 = cc in
-      omega arith
-
-  wiring-else : wiringWith feed runs shapes many .wiring .legs ≤ room → wiringWith feed runs shapes room .wiring .verdict ≡ RoomTooSmall → ⊥
-  unfolding wiringWith wiringVerdict
-  wiring-else = wiring-by (none (pinsOf feed)) (boxesMeet feed runs)
-
--- A feed of 32 spots is not refused for its room.
+-- A feed of 32 spots is not refused for its room: 19 is given only where it needs more than 62 legs.
 feed-else : (feed : List Spot) → length feed ≡ mostPins → wiringOf feed mostLegs .wiring .verdict ≡ RoomTooSmall → ⊥
-unfolding wiringOf wiringFavouring
-feed-else feed h =
-    let runs = runsOf feed in
-    let shapes = bestChoice false feed runs in
-    wiring-else feed runs shapes mostLegs (wiring-fits feed (length (legsOfChoice feed runs shapes)) h .0)
+unfolding distinct unlike both accepted refusalAt Given
+feed-else feed h e =
+    let g : Given (feedRows feed mostLegs) 2 =
+    only-given (feedRows feed mostLegs) Accepted refl refl 2 (omega arith) (sym (wiring-verdict feed mostLegs) ∙ e) in
+    omega (arith, ltb-true mostLegs (length (legsNeeded feed)) (g .1 .1), needed-few feed h)
 
 -- No seat of any desk is.
 seat-else : (d : Desk) (s : ℕ) → wiredOf d s mostLegs .laid .wiring .verdict ≡ RoomTooSmall → ⊥
-unfolding wiredOf choose turnedAway turnedClosing
-seat-else d s = by (accepted (turnedClosing (lookAt d s))) refl
+unfolding wiredOf choose turnedAway
+seat-else d s = by (accepted (turnedNaming (lookAt d s))) refl
   where
-    by : (t : Bool) → accepted (turnedClosing (lookAt d s)) ≡ t
-        → choose t (wiringOf (feedOf (seatOf d s .pins)) mostLegs) (turnedAway (turnedClosing (lookAt d s))) .wiring .verdict ≡ RoomTooSmall → ⊥
+    by : (t : Bool) → accepted (turnedNaming (lookAt d s)) ≡ t
+        → choose t (wiringOf (feedOf (seatOf d s .pins)) mostLegs) (turnedAway (turnedNaming (lookAt d s))) .wiring .verdict ≡ RoomTooSmall → ⊥
     by true e = feed-else (feedOf (seatOf d s .pins)) (feed-whole d s e)
-    by false e = closing-else (not (sound d)) (leb mostSeats s) (not (seatOf d s .opened))
+    by false e = naming-else (lookAt d s)
 
 -- THE ROOM IS ENOUGH FOR ANY MAP.
 pub never-nineteen : (map : List ℕ) → wiredWith map .verdict ≡ RoomTooSmall → ⊥

@@ -2,28 +2,30 @@
 use mathlib.Core.Path.{_≡_, refl}
 use mathlib.Core.List.{List, [], _∷_, _++_, map}
 use Prim.Native.Nat.{ℕ}
-use Rattle.refusal.specs.Tests.{both, either, choose}
+use Rattle.refusal.specs.Tests.{both, either, choose, anyOf, eachOf, noTwo}
+use Rattle.refusal.specs.Sums.{sum}
 use Rattle.refusal.specs.Refusals.{accepted, turn}
 use Rattle.refusal.specs.declared.Verdict.the-variants.{OtherJob, FaultyRecord}
 use Rattle.grid.specs.Number.{numberAt}
 use Rattle.grid.specs.Place.{difference, larger, sameNumber, samePlace, onBoard, inside, closer, tooNear, isStraight}
 use Rattle.grid.specs.Weight.{distanceOf, weightOf, pairOf, byPart, byNumber, comesBefore}
-use Rattle.feed.specs.Feeds.{spotsTooNear, tooNearAny, crowded, within, settled, allWithin, allApart, tooNearOther}
+use Rattle.feed.specs.Feeds.{spotsTooNear, crowded, within, tooNearOther}
 use Rattle.drawing.specs.Pins.{isThere, lawful, spotOf, feedOf}
 use Rattle.tree.specs.Growth.{pairAt, sooner, keptIf, pinsFrom, without, runsFrom, runsBetween, earliest, earliestOf, nextRun, grown, runsAmong, pinsOf, runsOf}
-use Rattle.tree.specs.Boxes.{belowBoth, under, overlap, boxesShare, isEnd, common, clash, clashAny, boxesMeet}
+use Rattle.tree.specs.Boxes.{belowBoth, under, overlap, boxesShare, isEnd, common, clash}
 use Rattle.tree.specs.Bends.{bent, howMany}
 use Rattle.copper.specs.Shapes.{lowerCorner, upperCorner, legsOf}
-use Rattle.copper.specs.Length.{sameStep, stepsAcross, stepsUp, smaller, stepsOf, stepsOfAll, among, different, lengthOf}
+use Rattle.copper.specs.Length.{sameStep, stepsAcross, stepsUp, smaller, stepsOf, stepsOfAll, different, lengthOf}
 use Rattle.wiring.specs.Choices.{bentShapes, shapesOf, withShape, withShapes, choicesOf, legsOfChoice, lengthOfChoice, shortest, shortestOf, bestChoice, weighedAt, weighedOf}
-use Rattle.wiring.specs.Answer.{shapedRuns, runEntries, legEntries, laidWith, turnedAway, answerWith, wiringVerdict, wiringWith, wiringFavouring, wiringOf}
-use Rattle.journal.specs.Journal.{own, filled, seated, inTurn}
+use Rattle.wiring.specs.Answer.{shapedRuns, runEntries, legEntries, turnedAway, answerWith, wiringVerdict, wiringWith, wiringFavouring, wiringOf}
+use Rattle.journal.specs.Journal.{own, filled, inTurn}
 use Rattle.pinmap.specs.Record.{recordOf, judged}
-use Rattle.pinmap.specs.Map.{noPins, withPinOf, readFrom, wrongLength, readMap}
-use Rattle.desk.specs.Refusals.{sameJob, jobAmong, turnedOpening, turnedClosing, verdictOf}
-use Rattle.desk.specs.Desk.{jobOf, jobsApart, soundOpen, soundClosed, soundSeat, soundTo, sound, effect, answerOf, step, emptyDesk, wiredOf}
-use Rattle.script.specs.Text.{text}
-use Rattle.script.specs.Answers.{digits, carriedText, toldLine, jobLine, runLine}
+use Rattle.pinmap.specs.Map.{withPinOf, readFrom, wrongLength, readMap}
+use Rattle.desk.specs.Refusals.{sameJob, turnedOpening, turnedClosing, verdictOf}
+use Rattle.desk.specs.Desk.{jobOf, soundOpen, soundClosed, soundSeat, soundTo, sound, effect, answerOf, step, emptyDesk, wiredOf}
+use Rattle.text.specs.Text.{text}
+use Rattle.text.specs.Digits.{digits}
+use Rattle.script.specs.Answers.{carriedText, toldLine, jobLine, runLine}
 use Rattle.shown.specs.Shown.{shapedLine, lineForEach, jobText, mapText}
 use Rattle.mapped.specs.Mapped.{jobOfMap, openedWith, wiredWith, mapAnswer}
 use Rattle.mapped.proofs.Opening.{opened, printed-refused}
@@ -43,7 +45,14 @@ W3 = placed 0 0 (0 ∷ 0 ∷ 0 ∷ 0 ∷ []) ++ placed 1 4 (0 ∷ 0 ∷ 0 ∷ 2 
 
 -- For W3 exactly these three lines are printed.
 W3-holds : mapAnswer W3 ≡ text "job 7 length 8 runs 2 weighed 5\n0 1 lower\n1 2 straight\n"
-unfolding jobOfMap openedWith wiredWith mapAnswer mapText jobText lineForEach shapedLine runLine jobLine digits wiredOf step effect answerOf verdictOf turnedOpening turnedClosing jobAmong sameJob sound soundTo soundSeat soundOpen soundClosed jobsApart jobOf emptyDesk readMap wrongLength readFrom recordOf numberAt judged withPinOf noPins own filled seated inTurn isThere spotsTooNear tooNearAny tooNearOther crowded within settled allWithin allApart spotOf feedOf lawful wiringOf wiringFavouring wiringWith wiringVerdict answerWith turnedAway laidWith legEntries runEntries shapedRuns weighedOf weighedAt howMany bent bestChoice shortestOf shortest lengthOfChoice legsOfChoice choicesOf withShapes withShape shapesOf bentShapes lengthOf different among stepsOfAll stepsOf smaller stepsUp stepsAcross sameStep legsOf lowerCorner upperCorner isStraight boxesMeet clashAny clash common isEnd boxesShare overlap under belowBoth runsOf pinsOf runsAmong grown nextRun earliestOf earliest runsBetween runsFrom without pinsFrom keptIf sooner pairAt comesBefore byPart byNumber pairOf weightOf distanceOf difference larger sameNumber samePlace onBoard inside closer tooNear accepted turn both either choose
+unfolding jobOfMap openedWith wiredWith mapAnswer mapText jobText lineForEach shapedLine runLine jobLine digits wiredOf step effect answerOf verdictOf
+    turnedOpening turnedClosing sameJob sound soundTo soundSeat soundOpen soundClosed jobOf emptyDesk readMap wrongLength readFrom recordOf numberAt judged
+    withPinOf own filled inTurn isThere spotsTooNear tooNearOther crowded within spotOf feedOf lawful wiringOf wiringFavouring wiringWith wiringVerdict
+    answerWith turnedAway legEntries runEntries shapedRuns weighedOf sum weighedAt howMany bent bestChoice shortestOf shortest lengthOfChoice legsOfChoice choicesOf
+    withShapes withShape shapesOf bentShapes lengthOf different stepsOfAll stepsOf smaller stepsUp stepsAcross sameStep legsOf lowerCorner upperCorner
+    isStraight clash common isEnd boxesShare overlap under belowBoth runsOf pinsOf runsAmong grown nextRun earliestOf earliest runsBetween runsFrom without
+    pinsFrom keptIf sooner pairAt comesBefore byPart byNumber pairOf weightOf distanceOf difference larger sameNumber samePlace onBoard inside closer tooNear
+    accepted turn both either choose anyOf noTwo eachOf
 W3-holds = refl
 
 -- The third record has another job: 14.
@@ -51,7 +60,8 @@ abbrev thirdOther : List ℕ
 thirdOther = placed 0 0 (0 ∷ 0 ∷ 0 ∷ 0 ∷ []) ++ placed 1 4 (0 ∷ 0 ∷ 0 ∷ 2 ∷ []) ++ (0 ∷ 8 ∷ 2 ∷ 0 ∷ 0 ∷ 0 ∷ 0 ∷ 4 ∷ 255 ∷ 255 ∷ 255 ∷ 254 ∷ [])
 
 other-job : mapAnswer thirdOther ≡ text "refused 14 record 2\n"
-unfolding jobOfMap readMap wrongLength readFrom recordOf numberAt judged withPinOf noPins spotsTooNear tooNearAny tooNearOther crowded spotOf feedOf difference closer tooNear inside onBoard accepted turn both either choose toldLine carriedText digits
+unfolding jobOfMap readMap wrongLength readFrom recordOf numberAt judged withPinOf spotsTooNear anyOf tooNearOther crowded spotOf feedOf difference closer
+    tooNear inside onBoard accepted turn both either choose toldLine carriedText digits
 other-job = printed-refused thirdOther {v = OtherJob 2} (opened thirdOther) refl
 
 -- The second record's pin is not above the one before: 15.
@@ -59,5 +69,6 @@ abbrev pinTwice : List ℕ
 pinTwice = placed 0 0 (0 ∷ 0 ∷ 0 ∷ 0 ∷ []) ++ placed 0 4 (0 ∷ 0 ∷ 0 ∷ 2 ∷ [])
 
 pin-twice : mapAnswer pinTwice ≡ text "refused 15 record 1\n"
-unfolding jobOfMap readMap wrongLength readFrom recordOf numberAt judged withPinOf noPins spotsTooNear tooNearAny tooNearOther crowded spotOf feedOf difference closer tooNear inside onBoard accepted turn both either choose toldLine carriedText digits
+unfolding jobOfMap readMap wrongLength readFrom recordOf numberAt judged withPinOf spotsTooNear anyOf tooNearOther crowded spotOf feedOf difference closer
+    tooNear inside onBoard accepted turn both either choose toldLine carriedText digits
 pin-twice = printed-refused pinTwice {v = FaultyRecord 1} (opened pinTwice) refl

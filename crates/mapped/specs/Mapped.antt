@@ -1,8 +1,9 @@
 -- The program wiremap: the job of a map, and what is printed for it.
 use mathlib.Core.List.{List, [], _∷_}
-use Prim.Native.Nat.{ℕ, _+_, _*_}
+use Prim.Native.Nat.{ℕ}
 use Rattle.refusal.specs.Tests.{choose}
 use Rattle.refusal.specs.Refusals.{accepted}
+use Rattle.pinmap.specs.Record.{jobAt}
 use Rattle.desk.specs.declared.Answered.{Answered}
 use Rattle.desk.specs.Calls.{opening}
 use Rattle.desk.specs.Desk.{emptyDesk, step, wiredOf}
@@ -11,11 +12,11 @@ use Rattle.wiring.specs.Answer.{mostLegs}
 use Rattle.script.specs.Answers.{verdictLine}
 use Rattle.shown.specs.Shown.{mapText}
 
--- The job in the first two bytes of a map, high byte first. Empty input: job 1. A single byte is opened under job 1 too, and refused with 13.
+-- The job in the first two bytes of a map. Empty input: job 1. A single byte is opened under job 1 too, and refused with 13.
 unfoldable pub jobOfMap : List ℕ → ℕ
 jobOfMap [] = 1
 jobOfMap (b ∷ []) = 1
-jobOfMap (b ∷ c ∷ rest) = b * 256 + c
+jobOfMap (b ∷ c ∷ rest) = jobAt (b ∷ c ∷ rest)
 
 -- The program opens the map at seat 0 of the empty desk, under its job.
 unfoldable pub openedWith : List ℕ → Answered

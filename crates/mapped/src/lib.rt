@@ -1,13 +1,12 @@
 // What the program wiremap answers to its input, as bytes in a lent buffer.
 use desk::Desk;
-use script::answers::ANSWER_BYTES;
 use script::answers::print_verdict;
 use shown::print_map;
+use text::ANSWER_BYTES;
 use wiring::LEGS;
 ghost use mathlib.Core.Path.{_≡_};
-ghost use Prim.Native.Nat.{_≤_};
-ghost use lib.ListN.{length, replicate};
-ghost use Rattle.script.specs.Text.{over, answerBytes};
+ghost use lib.ListN.{replicate};
+ghost use Rattle.text.specs.Text.{answerBytes, Holds};
 ghost use Rattle.mapped.specs.Mapped.{jobOfMap, mapAnswer, mostRead};
 
 // Of a longer input it is enough to read so many bytes (proofs/Inputs.antt).
@@ -27,13 +26,12 @@ fn job_of_map(map: &[u8]) -> u16
     if map.len() < 2 {
         return 1;
     }
-    map[0] as u16 * 256 + map[1] as u16
+    pinmap::job_at(map)
 }
 
 // Opens a map at seat 0 of an empty desk under its job, wires it, and prints the answer; says how many bytes that is.
 pub fn map_answer(map: &[u8], out: &mut [u8; ANSWER_BYTES]) -> usize
-    ensures { λ r. ⌜ (r ≡ length (mapAnswer (now (map .entry)))) × (r ≤ answerBytes) ⌝ }
-    ensures { λ _. ⌜ now (out .exit) ≡ over (mapAnswer (now (map .entry))) (now (out .entry)) ⌝ }
+    ensures { λ r. ⌜ Holds answerBytes (mapAnswer (now (map .entry))) (now (out .entry)) r (now (out .exit)) ⌝ }
 {
     let job = job_of_map(map);
     let desk = Desk::empty();

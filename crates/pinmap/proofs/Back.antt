@@ -6,12 +6,13 @@ use mathlib.Core.Logic.{⊎-elim}
 use mathlib.Core.List.{List, [], _∷_, _++_, append-nil, append-assoc}
 use Prim.Native.Nat.{ℕ, zero, suc, _+_, _*_, _<_, _≤_}
 use native.Mathlib.Omega.{arith}
-use lib.ListN.{length, getD, take, drop, set, length-take, length-drop, take-append-drop, List·getD-eq-default, drop-of-length-le}
+use lib.ListN.{length, getD, take, drop, set, length-take, length-drop, take-append-drop, List·getD-eq-default}
 use lib.Seq.{getD-set-other, getD-take, getD-drop}
 use Rattle.refusal.specs.declared.Verdict.{Verdict}
 use Rattle.refusal.specs.Tests.{choose}
 use Rattle.refusal.specs.Refusals.{accepted}
 use Rattle.refusal.proofs.Tests.{opposite}
+use Rattle.refusal.proofs.Lists.{empty}
 use Rattle.grid.proofs.Flat.{order}
 use Rattle.drawing.specs.declared.Held.{Held}
 use Rattle.drawing.specs.declared.Pin.{Pin}
@@ -56,10 +57,6 @@ bytes-take : (n : ℕ) (m : List ℕ) → Bytes m → Bytes (take n m)
 bytes-take n m b i =
     ⊎-elim (λ (h : n ≤ i). rw (List·getD-eq-default (take n m) 0 {n = i} (omega (arith, length-take n m))) (omega arith))
     (λ (h : i < n). rw (getD-take n m i 0 h) (b i)) (order n i)
-
--- A list without entries is empty.
-pub none-there : {A : Type 0} (l : List A) → length l ≡ 0 → l ≡ []
-none-there l e = drop-of-length-le l {i = 0} (omega arith)
 
 -- The pins so far: they keep the rules, and none from `next` on is there.
 pub record Kept (next : ℕ) (earlier : List Pin) : Type 0 where
@@ -126,7 +123,7 @@ back-by job m earlier false x v e f a = absurd (opposite a e)
 pub back-from : (job left : ℕ) → BackFrom job left
 unfolding readFrom
 back-from job zero m number next earlier n s a =
-    record { bytes = λ b. sym (rw (none-there m (omega arith)) (append-nil (mapOf job earlier))); rules = s .rules }
+    record { bytes = λ b. sym (rw (empty m (omega arith)) (append-nil (mapOf job earlier))); rules = s .rules }
 back-from job (suc left) m number next earlier n s a =
     let v : Verdict = judged job number next earlier (recordOf (take recordSize m)) in
     back-by job m earlier (accepted v) _ v refl

@@ -7,8 +7,9 @@ use lib.ListN.{length}
 use borrow.Author.Tests.{lt-ltb, le-ltb, ltb-false, eq-eqb, ne-eqb, eqb-true, not-false}
 use Rattle.refusal.proofs.Tests.{choose-yes, choose-no, either-left, either-right, either-false}
 use Rattle.refusal.specs.declared.Verdict.the-variants.{MapLength}
+use Rattle.drawing.specs.Pins.{noPins}
 use Rattle.pinmap.specs.Record.{recordSize}
-use Rattle.pinmap.specs.Map.{mostBytes, wrongLength, refusedBy, readFrom, noPins, readMap}
+use Rattle.pinmap.specs.Map.{mostBytes, wrongLength, refusedBy, readFrom, readMap}
 use Rattle.pinmap.proofs.Progress.{countOf}
 
 module _ (map : List ℕ) where

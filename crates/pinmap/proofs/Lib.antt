@@ -1,5 +1,4 @@
 -- The laws of the pin map that other crates cite.
-mod Turns
 pub mod Faults
 mod Lengths
 mod Progress

@@ -3,12 +3,14 @@
 use mathlib.Core.Path.{_≡_, refl, sym, ap, _∙_}
 use mathlib.Core.Bool.{true, false}
 use mathlib.Core.Logic.{⊎-elim}
-use mathlib.Core.List.{List, [], _∷_, _++_}
+use mathlib.Core.List.{List, [], _++_}
 use Prim.Native.Nat.{ℕ, zero, suc, _+_, _/_, _<_, _≤_}
 use native.Mathlib.Omega.{arith}
-use lib.ListN.{length, getD, take, drop, set, replicate, length-append, length-set}
+use lib.ListN.{length, getD, take, drop, set, length-append, length-set}
 use lib.Seq.{getD-set-same, getD-set-other, ext-getD, take-at, drop-at}
-use Rattle.refusal.specs.Tests.{either, choose}
+use Rattle.refusal.specs.Tests.{choose}
+use Rattle.refusal.proofs.Lists.{blank-at}
+use Rattle.refusal.proofs.Anyone.{none-by}
 use Rattle.refusal.specs.Refusals.{accepted}
 use Rattle.grid.specs.Place.{inside}
 use Rattle.grid.proofs.Flat.{order}
@@ -17,13 +19,12 @@ use Rattle.drawing.specs.declared.Stand.{Stand}
 use Rattle.drawing.specs.declared.Stand.the-variants.{Absent, There}
 use Rattle.drawing.specs.declared.Pin.{Pin}
 use Rattle.feed.specs.Feeds.{mostPins, spotAt, within, allApart, spotsTooNear, tooNearAny}
-use Rattle.drawing.specs.Pins.{absent, there, lawful, spotOf, feedOf}
-use Rattle.feed.specs.declared.Spot.{Spot}
+use Rattle.drawing.specs.Pins.{absent, there, lawful, spotOf, feedOf, noPins}
 use Rattle.feed.specs.declared.Spot.the-variants as spot
 use Rattle.feed.proofs.Rules.{spots-turned, apart-pair, within-at}
 use Rattle.drawing.proofs.Rules.{lawful-parts, feed-at}
 use Rattle.pinmap.specs.Record.{recordSize, recordBytes, pinBytes}
-use Rattle.pinmap.specs.Map.{noPins, readAs, withPinOf, readFrom, mapFrom}
+use Rattle.pinmap.specs.Map.{readAs, withPinOf, readFrom, mapFrom}
 use Rattle.pinmap.proofs.Faults.{Faultless, no-fault}
 use Rattle.pinmap.proofs.Written.{record-length, absent-bytes, there-bytes, map-next, map-end}
 use Rattle.pinmap.proofs.Records.{record-read}
@@ -34,16 +35,9 @@ pub record Upto (l : List Pin) (i : ℕ) (earlier : List Pin) : Type 0 where
   pub below : (j : ℕ) → j < i → getD earlier j absent ≡ getD l j absent
   pub above : (j : ℕ) → i ≤ j → getD earlier j absent ≡ absent
 
--- A list of one thing has it everywhere, and past its end where nothing else stands in.
-pub alike : {A : Type 0} (n i : ℕ) (a : A) → getD (replicate n a) i a ≡ a
-alike zero i a = refl
-alike (suc n) zero a = refl
-alike (suc n) (suc i) a = alike n i a
-
 -- Before the first pin of the drawing no pin has been read.
 pub upto-none : (l : List Pin) → Upto l 0 noPins
-unfolding noPins
-upto-none l = record { full = refl; below = λ j h. absurd (omega arith); above = λ j h. alike mostPins j absent }
+upto-none l = record { full = refl; below = λ j h. absurd (omega arith); above = λ j h. blank-at mostPins j absent }
 
 -- After the last, the pins that were read are the drawing's.
 upto-all : (l : List Pin) (i : ℕ) (earlier : List Pin) → length l ≡ mostPins → mostPins ≤ i → Upto l i earlier → earlier ≡ l
@@ -77,12 +71,6 @@ module _ (l : List Pin) (i : ℕ) (earlier : List Pin) (u : Upto l i earlier) wh
       same : (j : ℕ) → j ≡ i → getD (set earlier i (getD l i absent)) j absent ≡ getD l j absent
       same j e = rw e (getD-set-same earlier i (getD l i absent) absent (omega (arith, u .full)))
 
-  -- A pin that is near the pin of no number is near none.
-  none-near : (s : Spot) (feed : List Spot) → ((j : ℕ) → spotsTooNear s (spotAt feed j) ≡ false) → tooNearAny s feed ≡ false
-  unfolding tooNearAny either
-  none-near s [] f = refl
-  none-near s (t ∷ feed) f = rw (f 0) (none-near s feed (λ j. f (suc j)))
-
   module _ (a : allApart (feedOf l) ≡ true) (held : Held) (q : getD l i absent ≡ there held) where
     -- Of the pins below none is near to pin i, and those above are absent.
     free-of : (j : ℕ) → spotsTooNear (spot.At (held .place)) (spotAt (feedOf earlier) j) ≡ false
@@ -100,7 +88,7 @@ module _ (l : List Pin) (i : ℕ) (earlier : List Pin) (u : Upto l i earlier) wh
 
     -- So its place is not taken.
     place-free : tooNearAny (spot.At (held .place)) (feedOf earlier) ≡ false
-    place-free = none-near (spot.At (held .place)) (feedOf earlier) free-of
+    place-free = none-by (spotsTooNear (spot.At (held .place))) spot.Absent (feedOf earlier) free-of
 
 -- The place of a pin of the drawing is on the board.
 place-inside : (l : List Pin) (i : ℕ) (held : Held) → lawful l ≡ true → getD l i absent ≡ there held → inside (held .place) ≡ true
@@ -109,7 +97,7 @@ place-inside l i held e q = ap within (sym (feed-at l i ∙ ap spotOf q)) ∙ wi
 
 -- A record without a fault at the front is read, and then what follows it.
 read-one : (left job number next pin : ℕ) (earlier : List Pin) (held : Held) (rest : List ℕ) → job < 65536 → inside (held .place) ≡ true
-    → Faultless job next earlier (record { job = job; pin = pin; blank = 0; place = held .place })
+    → Faultless job next earlier (record { job = job; pin = pin; byte3 = 0; place = held .place })
     → readFrom (suc left) (recordBytes job pin held ++ rest) job number next earlier
     ≡ readFrom left rest job (number + 1) (pin + 1) (set earlier pin (there held))
 unfolding readFrom withPinOf accepted choose
@@ -118,7 +106,7 @@ read-one left job number next pin earlier held rest j e f =
     let n : length b ≡ recordSize = record-length job pin held in
     let t : take recordSize (b ++ rest) ≡ b = take-at b rest recordSize n in
     let d : drop recordSize (b ++ rest) ≡ rest = drop-at b rest recordSize n in
-    rw (t, d, record-read job pin held j e, no-fault job number next earlier (record { job = job; pin = pin; blank = 0; place = held .place }) f)
+    rw (t, d, record-read job pin held j e, no-fault job number next earlier (record { job = job; pin = pin; byte3 = 0; place = held .place }) f)
 
 module _ (job : ℕ) (l : List Pin) (j : job < 65536) (e : lawful l ≡ true) where
   -- The map from pin i on is read to the drawing's pins, the pins below having been read.
@@ -143,8 +131,8 @@ module _ (job : ℕ) (l : List Pin) (j : job < 65536) (e : lawful l ≡ true) wh
       let c : length (recordBytes job i held ++ rest) / recordSize ≡ suc (length rest / recordSize) =
       omega (arith, length-append (recordBytes job i held) rest, record-length job i held) in
       let p : inside (held .place) ≡ true = place-inside l i held e q in
-      let f : Faultless job next earlier (record { job = job; pin = i; blank = 0; place = held .place }) =
-      record { own-job = refl; pin-low = n; blank = refl; on-board = p; above = h; free = place-free l i earlier u (lawful-parts l e .apart) held q } in
+      let f : Faultless job next earlier (record { job = job; pin = i; byte3 = 0; place = held .place }) =
+      record { own-job = refl; pin-low = n; zero = refl; on-board = p; above = h; free = place-free l i earlier u (lawful-parts l e .apart) held q } in
       rw (m, c)
       (read-one (length rest / recordSize) job number next i earlier held rest j p f
       ∙ rec (number + 1) (i + 1) (set earlier i (there held)) (omega arith) (rw q at (upto-put l i earlier u n)))

@@ -11,11 +11,11 @@ use Rattle.refusal.specs.Refusals.{accepted}
 use Rattle.refusal.proofs.Tests.{choose-yes, choose-no}
 use Rattle.drawing.specs.declared.Pin.{Pin}
 use Rattle.feed.specs.Feeds.{mostPins}
-use Rattle.drawing.specs.Pins.{there, holding}
+use Rattle.drawing.specs.Pins.{noPins, there, holding}
 use Rattle.pinmap.specs.declared.Record.{Record}
 use Rattle.pinmap.specs.Record.{recordSize, recordOf, judged}
 use Rattle.pinmap.proofs.Faults.{faultless}
-use Rattle.pinmap.specs.Map.{noPins, refusedBy, readAs, withPinOf, readFrom}
+use Rattle.pinmap.specs.Map.{refusedBy, readAs, withPinOf, readFrom}
 
 -- The part of record `number`.
 abbrev pub partAt : List ℕ → ℕ → List ℕ
@@ -33,7 +33,6 @@ pub record Stands (map : List ℕ) (job : ℕ) (earlier : List Pin) (next number
 
 -- Before the first record all is left to read, and no pin has been read.
 pub begins : (map : List ℕ) (job : ℕ) {l : List Pin} → l ≡ noPins → Stands map job l 0 0
-unfolding noPins
 begins map job e =
     let z : countOf map - 0 ≡ countOf map = omega arith in
     record { within = omega arith; full = rw e; rest = rw (e, z) }

@@ -34,7 +34,7 @@ y-held a e = record { sfits = number-held (a .y) (both-right _ _ e) }
 
 -- What a record's bytes say is what was written.
 pub record-read : (job pin : ℕ) (held : Held) → job < 65536 → inside (held .place) ≡ true
-    → recordOf (recordBytes job pin held) ≡ record { job = job; pin = pin; blank = 0; place = held .place }
+    → recordOf (recordBytes job pin held) ≡ record { job = job; pin = pin; byte3 = 0; place = held .place }
 unfolding recordOf recordBytes numberAt
 record-read job pin held j e =
     let k : job / 256 * 256 + job % 256 ≡ job = omega arith in
@@ -62,7 +62,7 @@ record-written part job next earlier n b f =
     ∙ ap (λ (l : List ℕ). put (set (set (set l 1 (job % 256)) 2 (getD part 2 0)) 3 0)) (set-own part 0 (job / 256) (omega arith))
     ∙ ap (λ (l : List ℕ). put (set (set l 2 (getD part 2 0)) 3 0)) (set-own part 1 (job % 256) (omega arith))
     ∙ ap (λ (l : List ℕ). put (set l 3 0)) (set-getD part 2 0)
-    ∙ ap put (set-own part 3 0 (sym (f .blank)))
+    ∙ ap put (set-own part 3 0 (sym (f .zero)))
     ∙ ap (λ (l : List ℕ). putAt l 8 (p .y)) (written-read part 4 b (omega arith))
     ∙ written-read part 8 b (omega arith)
 

@@ -9,19 +9,19 @@ use lib.ListN.{length, take, drop}
 use lib.Seq.{take-append-seam}
 use Rattle.refusal.specs.declared.Verdict.{Verdict}
 use Rattle.refusal.specs.declared.Verdict.the-variants.{Accepted, MapLength, RoomTooSmall}
-use Rattle.refusal.specs.Tests.{both, either, choose}
+use Rattle.refusal.specs.Tests.{both, either, choose, anyOf, eachOf, noTwo}
 use Rattle.refusal.specs.Refusals.{accepted}
 use Rattle.refusal.proofs.Tests.{both-left, both-right}
 use Rattle.drawing.specs.declared.Stand.{Stand}
 use Rattle.drawing.specs.declared.Stand.the-variants.{Absent, There}
 use Rattle.drawing.specs.declared.Pin.{Pin}
-use Rattle.feed.specs.Feeds.{mostPins, within, allWithin, allApart, tooNearAny, spotsTooNear}
-use Rattle.drawing.specs.Pins.{spotIn, lawful, spotOf, feedOf}
+use Rattle.feed.specs.Feeds.{mostPins, within, allWithin, spotsTooNear}
+use Rattle.drawing.specs.Pins.{spotIn, lawful, spotOf, feedOf, noPins}
 use Rattle.drawing.proofs.Rules.{lawful-parts}
 use Rattle.pinmap.specs.declared.Reading.{Reading}
 use Rattle.pinmap.specs.declared.Writing.{Writing}
 use Rattle.pinmap.specs.Record.{recordSize, recordOf, judged, bytesIn, pinBytes}
-use Rattle.pinmap.specs.Map.{mostBytes, noPins, refusedBy, readAs, readFrom, wrongLength, readMap, mapFrom, mapOf, written, noRoom, writeMap, bufferAfter}
+use Rattle.pinmap.specs.Map.{mostBytes, refusedBy, readAs, readFrom, wrongLength, readMap, mapFrom, mapOf, written, noRoom, writeMap, bufferAfter}
 use Rattle.pinmap.proofs.Lengths.{right-length, length-right, looked-at}
 use Rattle.pinmap.proofs.Written.{map-size}
 use Rattle.pinmap.proofs.Records.{Bytes, bytes-append, record-bytes}
@@ -58,7 +58,7 @@ pin-bytes job pin q j p e = by-stand (q .stand) e
 
 -- and so is the map from any pin on.
 bytes-from : (job i : ℕ) (l : List Pin) → job < 65536 → i + length l ≤ 256 → allWithin (feedOf l) ≡ true → Bytes (mapFrom job i l)
-unfolding mapFrom allWithin feedOf
+unfolding mapFrom eachOf feedOf
 bytes-from job i [] j n e = λ k. omega arith
 bytes-from job i (q ∷ l) j n e =
     bytes-append (pinBytes job i q) (mapFrom job (i + 1) l) (pin-bytes job i q j (omega arith) (both-left _ _ e))
@@ -73,7 +73,7 @@ map-bytes job l j e = bytes-from job 0 l j (omega (arith, lawful-parts l e .long
 
 -- A drawing without pins keeps the rules.
 pub no-pins-lawful : lawful noPins ≡ true
-unfolding noPins lawful both spotOf feedOf allWithin within allApart tooNearAny spotsTooNear either
+unfolding lawful both spotOf feedOf eachOf within noTwo anyOf spotsTooNear either
 no-pins-lawful = refl
 
 -- A map that opens has a right length, and its records are read.
@@ -96,7 +96,7 @@ back-read job map a =
 
 -- A drawing without pins is written with no bytes.
 none-written : (job : ℕ) → mapOf job noPins ≡ []
-unfolding mapOf mapFrom pinBytes noPins
+unfolding mapOf mapFrom pinBytes
 none-written job = refl
 
 -- A map that opens is written with the same bytes.
@@ -121,7 +121,7 @@ buffer-by m buffer false a = take-append-seam m (drop (length m) buffer)
 pub bytes-written : (job : ℕ) (l : List Pin) (buffer : List ℕ) → accepted (writeMap l job buffer .verdict) ≡ true
     → take (writeMap l job buffer .bytes) (bufferAfter l job buffer) ≡ mapOf job l
 unfolding writeMap bufferAfter
-bytes-written job l buffer a = buffer-by (mapOf job l) buffer (noRoom l job buffer) a
+bytes-written job l buffer a = buffer-by (mapOf job l) buffer (noRoom l job (length buffer)) a
 
 -- The bytes that were written open under their job with the same pins.
 pub written-opens : (job : ℕ) (l : List Pin) (buffer : List ℕ) → job < 65536 → lawful l ≡ true → accepted (writeMap l job buffer .verdict) ≡ true

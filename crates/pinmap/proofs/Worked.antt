@@ -6,15 +6,15 @@ use Prim.Native.Nat.{ℕ}
 use lib.IntN.{pos, negsuc}
 use lib.ListN.{replicate}
 use Rattle.refusal.specs.declared.Verdict.the-variants.{Accepted, MapLength, OtherJob, FaultyRecord, RoomTooSmall}
-use Rattle.refusal.specs.Tests.{both, either, choose}
+use Rattle.refusal.specs.Tests.{both, either, choose, anyOf}
 use Rattle.refusal.specs.Refusals.{turn, accepted}
 use Rattle.grid.specs.Number.{numberAt, firstByte, secondByte, thirdByte, fourthByte}
 use Rattle.grid.specs.Place.{onBoard, inside, difference, closer, tooNear}
 use Rattle.drawing.specs.declared.Pin.{Pin}
-use Rattle.feed.specs.Feeds.{spotsTooNear, tooNearAny}
-use Rattle.drawing.specs.Pins.{absent, there, holding, spotOf, feedOf}
+use Rattle.feed.specs.Feeds.{spotsTooNear}
+use Rattle.drawing.specs.Pins.{absent, there, holding, spotOf, feedOf, noPins}
 use Rattle.pinmap.specs.Record.{recordOf, recordBytes, pinBytes, judged}
-use Rattle.pinmap.specs.Map.{noPins, refusedBy, readAs, withPinOf, readFrom, wrongLength, readMap, mapFrom, mapOf, written, noRoom, writeMap, bufferAfter}
+use Rattle.pinmap.specs.Map.{refusedBy, readAs, withPinOf, readFrom, wrongLength, readMap, mapFrom, mapOf, written, writeMap, bufferAfter}
 
 -- Job 7, pin 0 at (1,-1).
 abbrev onePin : List Pin
@@ -26,7 +26,7 @@ oneRecord = 0 ∷ 7 ∷ 0 ∷ 0 ∷ 0 ∷ 0 ∷ 0 ∷ 1 ∷ 255 ∷ 255 ∷ 255 
 
 -- A record of a job, a pin and a byte 3, at (x, 0) for an x below 256.
 abbrev given : ℕ → ℕ → ℕ → ℕ → List ℕ
-given job pin blank x = 0 ∷ job ∷ pin ∷ blank ∷ 0 ∷ 0 ∷ 0 ∷ x ∷ 0 ∷ 0 ∷ 0 ∷ 0 ∷ []
+given job pin byte3 x = 0 ∷ job ∷ pin ∷ byte3 ∷ 0 ∷ 0 ∷ 0 ∷ x ∷ 0 ∷ 0 ∷ 0 ∷ 0 ∷ []
 
 -- D3, written and read.
 D3-written : mapOf 7 onePin ≡ oneRecord
@@ -34,18 +34,18 @@ unfolding mapOf mapFrom pinBytes recordBytes firstByte secondByte thirdByte four
 D3-written = refl
 
 D3-read : readMap oneRecord 7 ≡ readAs onePin
-unfolding readMap wrongLength either choose readFrom recordOf numberAt judged turn accepted inside onBoard both tooNearAny spotsTooNear spotOf feedOf withPinOf noPins
+unfolding readMap wrongLength either choose readFrom recordOf numberAt judged turn accepted inside onBoard both anyOf spotsTooNear spotOf feedOf withPinOf
 D3-read = refl
 
 -- Written into a buffer of 14 bytes, it leaves the last two; into one of 11, it is refused.
 D3-buffer : bufferAfter onePin 7 (replicate 14 9) ≡ oneRecord ++ (9 ∷ 9 ∷ [])
-unfolding bufferAfter noRoom written choose mapOf mapFrom pinBytes recordBytes firstByte secondByte thirdByte fourthByte
+unfolding bufferAfter written choose mapOf mapFrom pinBytes recordBytes firstByte secondByte thirdByte fourthByte
 D3-buffer = refl
 
 D3-answer : (writeMap onePin 7 (replicate 14 9) ≡ record { verdict = Accepted; bytes = 12 })
     × (writeMap onePin 7 (replicate 11 9) ≡ record { verdict = RoomTooSmall; bytes = 0 })
     × (bufferAfter onePin 7 (replicate 11 9) ≡ replicate 11 9)
-unfolding writeMap bufferAfter noRoom written choose mapOf mapFrom pinBytes recordBytes firstByte secondByte thirdByte fourthByte
+unfolding writeMap bufferAfter written choose mapOf mapFrom pinBytes recordBytes firstByte secondByte thirdByte fourthByte
 D3-answer = (refl, refl, refl)
 
 -- An empty map is a drawing without pins, and the other way round.
@@ -54,7 +54,7 @@ unfolding readMap wrongLength either choose readFrom
 empty-read = refl
 
 empty-written : mapOf 7 noPins ≡ []
-unfolding mapOf mapFrom pinBytes noPins
+unfolding mapOf mapFrom pinBytes
 empty-written = refl
 
 -- 13 at a length that is odd, at 11, and at 396.
@@ -74,24 +74,25 @@ other-job-first = refl
 
 -- The first faulty record is named: record 1 has a byte 3 that is not zero, record 2 another job.
 first-faulty : readMap (given 7 0 0 0 ++ (given 7 1 5 3 ++ given 8 2 0 6)) 7 ≡ refusedBy (FaultyRecord 1)
-unfolding readMap wrongLength either choose readFrom recordOf numberAt judged turn accepted inside onBoard both tooNearAny spotsTooNear spotOf feedOf withPinOf noPins
+unfolding readMap wrongLength either choose readFrom recordOf numberAt judged turn accepted inside onBoard both anyOf spotsTooNear spotOf feedOf withPinOf
 first-faulty = refl
 
 -- A pin that comes twice, one that is not above the one before, and a place that comes twice.
 not-ascending : readMap (given 7 3 0 0 ++ given 7 3 0 1) 7 ≡ refusedBy (FaultyRecord 1)
-unfolding readMap wrongLength either choose readFrom recordOf numberAt judged turn accepted inside onBoard both tooNearAny spotsTooNear spotOf feedOf withPinOf noPins
+unfolding readMap wrongLength either choose readFrom recordOf numberAt judged turn accepted inside onBoard both anyOf spotsTooNear spotOf feedOf withPinOf
 not-ascending = refl
 
 descending : readMap (given 7 3 0 0 ++ given 7 2 0 1) 7 ≡ refusedBy (FaultyRecord 1)
-unfolding readMap wrongLength either choose readFrom recordOf numberAt judged turn accepted inside onBoard both tooNearAny spotsTooNear spotOf feedOf withPinOf noPins
+unfolding readMap wrongLength either choose readFrom recordOf numberAt judged turn accepted inside onBoard both anyOf spotsTooNear spotOf feedOf withPinOf
 descending = refl
 
 place-twice : readMap (given 7 3 0 9 ++ given 7 4 0 9) 7 ≡ refusedBy (FaultyRecord 1)
-unfolding readMap wrongLength either choose readFrom recordOf numberAt judged turn accepted inside onBoard both tooNearAny spotsTooNear spotOf feedOf tooNear closer difference withPinOf noPins
+unfolding readMap wrongLength either choose readFrom recordOf numberAt judged turn accepted inside onBoard both anyOf spotsTooNear spotOf feedOf tooNear closer
+    difference withPinOf
 place-twice = refl
 
 -- x 20,000 is accepted, 20,001 is 15.
 limits : (accepted (readMap (0 ∷ 7 ∷ 0 ∷ 0 ∷ 0 ∷ 0 ∷ 78 ∷ 32 ∷ 0 ∷ 0 ∷ 0 ∷ 0 ∷ []) 7 .verdict) ≡ true)
     × (readMap (0 ∷ 7 ∷ 0 ∷ 0 ∷ 0 ∷ 0 ∷ 78 ∷ 33 ∷ 0 ∷ 0 ∷ 0 ∷ 0 ∷ []) 7 ≡ refusedBy (FaultyRecord 0))
-unfolding readMap wrongLength either choose readFrom recordOf numberAt judged turn accepted inside onBoard both tooNearAny spotsTooNear spotOf feedOf withPinOf noPins
+unfolding readMap wrongLength either choose readFrom recordOf numberAt judged turn accepted inside onBoard both anyOf spotsTooNear spotOf feedOf withPinOf
 limits = (refl, refl)

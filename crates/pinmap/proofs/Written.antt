@@ -2,17 +2,17 @@
 use mathlib.Core.Path.{_≡_, refl, sym, ap, _∙_}
 use mathlib.Core.Bool.{true, false}
 use mathlib.Core.List.{List, [], _∷_, _++_, append-nil, append-assoc}
-use Prim.Native.Nat.{ℕ, suc, _+_, _-_, _*_, _/_, _%_, _<_, _≤_}
+use Prim.Native.Nat.{ℕ, _+_, _-_, _*_, _/_, _%_, _<_, _≤_}
 use native.Mathlib.Omega.{arith}
 use native.Mathlib.Numerals.{add-one}
-use native.Mathlib.Nat.{add-zero}
 use lib.IntN.{ℤ}
 use lib.ListN.{length, getD, take, drop, set, length-append, length-set, drop-of-length-le}
-use lib.Seq.{sets, sets-eq, length-sets, drop-cons, drop-drop}
+use lib.Seq.{sets, sets-eq, length-sets, drop-drop}
 use borrow.Rule.Slice.PartMut.{putMid}
 use borrow.Author.Tests.{lt-ltb, le-ltb}
 use Rattle.refusal.specs.declared.Verdict.the-variants.{Accepted, RoomTooSmall}
 use Rattle.refusal.proofs.Tests.{choose-yes, choose-no}
+use Rattle.refusal.proofs.Lists.{front, sets-append}
 use Rattle.grid.specs.Number.{putAt}
 use Rattle.drawing.specs.declared.Held.{Held}
 use Rattle.drawing.specs.declared.Stand.{Stand}
@@ -22,13 +22,6 @@ use Rattle.feed.specs.Feeds.{mostPins}
 use Rattle.drawing.specs.Pins.{absent}
 use Rattle.pinmap.specs.Record.{recordSize, recordBytes, bytesIn, pinBytes}
 use Rattle.pinmap.specs.Map.{mapFrom, mapOf, written, noRoom, writeMap, bufferAfter}
-
--- Two runs of stores, one after the other.
-pub sets-append : (xs ys l : List ℕ) (i : ℕ) → sets l i (xs ++ ys) ≡ sets (sets l i xs) (i + length xs) ys
-sets-append [] ys l i = rw add-zero
-sets-append (x ∷ xs) ys l i =
-    let e : suc i + length xs ≡ i + suc (length xs) = omega arith in
-    sets-append xs ys (set l i x) (suc i) ∙ ap (λ (n : ℕ). sets (sets (set l i x) (suc i) xs) n ys) e
 
 -- Stores from the front on leave what follows them.
 pub sets-front : (xs l : List ℕ) → length xs ≤ length l → sets l 0 xs ≡ written xs l
@@ -93,7 +86,7 @@ module _ (job : ℕ) (l : List Pin) (i : ℕ) where
   -- The map from pin i on: what it has for pin i, then the map from the next pin on;
   pub map-next : i < length l → mapFrom job i (drop i l) ≡ pinBytes job i (getD l i absent) ++ mapFrom job (i + 1) (drop (i + 1) l)
   unfolding mapFrom
-  map-next h = rw (drop-cons l i absent h, add-one)
+  map-next h = rw (front absent l i h, add-one)
 
   -- after the last pin there is nothing.
   pub map-end : length l ≤ i → mapFrom job i (drop i l) ≡ []
@@ -187,7 +180,7 @@ module _ (job : ℕ) (l : List Pin) (before now : List ℕ) (at i : ℕ) (s : St
           room = omega (arith, s .room, er, ap length (map-next job l i h), length-append own (mapFrom job (i + 1) (drop (i + 1) l)));
           rest =
               rw (er, ea)
-              (sym (sets-append own (mapFrom job (i + 1) (drop (i + 1) l)) now at) ∙ ap (sets now at) (sym (map-next job l i h)) ∙ s .rest);
+              (sets-append now at own (mapFrom job (i + 1) (drop (i + 1) l)) ∙ ap (sets now at) (sym (map-next job l i h)) ∙ s .rest);
         }
 
   -- After the last pin the buffer holds the map, and the bytes after it as they were.
@@ -199,13 +192,11 @@ module _ (job : ℕ) (l : List Pin) (before now : List ℕ) (at i : ℕ) (s : St
 
 module _ (l : List Pin) (job : ℕ) (buffer : List ℕ) {n : ℕ} (e : n ≡ length (mapOf job l)) where
   -- Room for fewer bytes than the map has is too small,
-  pub too-small : length buffer < n → noRoom l job buffer ≡ true
-  unfolding noRoom
+  pub too-small : length buffer < n → noRoom l job (length buffer) ≡ true
   too-small h = lt-ltb (length buffer) (length (mapOf job l)) (omega arith)
 
   -- room for as many is enough.
-  pub room-enough : n ≤ length buffer → noRoom l job buffer ≡ false
-  unfolding noRoom
+  pub room-enough : n ≤ length buffer → noRoom l job (length buffer) ≡ false
   room-enough h = le-ltb (length buffer) (length (mapOf job l)) (omega arith)
 
   -- Where it is too small, writing is answered 19

@@ -3,14 +3,13 @@ use mathlib.Core.Bool.{Bool, not}
 use mathlib.Core.List.{List, [], _∷_, _++_}
 use Prim.Native.Nat.{ℕ, zero, suc, _+_, _/_, _%_}
 use lib.Dec.{eqb, ltb}
-use lib.ListN.{length, take, drop, set, replicate}
+use lib.ListN.{length, take, drop, set}
 use Rattle.refusal.specs.Tests.{either, choose}
 use Rattle.refusal.specs.Refusals.{accepted}
 use Rattle.refusal.specs.declared.Verdict.{Verdict}
 use Rattle.refusal.specs.declared.Verdict.the-variants.{Accepted, MapLength, RoomTooSmall}
 use Rattle.drawing.specs.declared.Pin.{Pin}
-use Rattle.feed.specs.Feeds.{mostPins}
-use Rattle.drawing.specs.Pins.{absent, there, holding}
+use Rattle.drawing.specs.Pins.{noPins, there, holding}
 use Rattle.pinmap.specs.declared.Record.{Record}
 use Rattle.pinmap.specs.declared.Reading.{Reading}
 use Rattle.pinmap.specs.declared.Writing.{Writing}
@@ -19,10 +18,6 @@ use Rattle.pinmap.specs.Record.{recordSize, recordOf, judged, pinBytes}
 -- A map has at most 384 bytes.
 abbrev pub mostBytes : ℕ
 mostBytes = 384
-
--- A drawing without pins.
-unfoldable pub noPins : List Pin
-noPins = replicate mostPins absent
 
 -- A refusal comes with no pins.
 abbrev pub refusedBy : Verdict → Reading
@@ -67,14 +62,14 @@ unfoldable pub written : List ℕ → List ℕ → List ℕ
 written map buffer = map ++ drop (length map) buffer
 
 -- Lent room smaller than needed.
-unfoldable pub noRoom : List Pin → ℕ → List ℕ → Bool
-noRoom l job buffer = ltb (length buffer) (length (mapOf job l))
+abbrev pub noRoom : List Pin → ℕ → ℕ → Bool
+noRoom l job room = ltb room (length (mapOf job l))
 
 -- Writing a map: 19, else the number of bytes written.
 unfoldable pub writeMap : List Pin → ℕ → List ℕ → Writing
 writeMap l job buffer =
-    choose (noRoom l job buffer) (record { verdict = RoomTooSmall; bytes = 0 }) (record { verdict = Accepted; bytes = length (mapOf job l) })
+    choose (noRoom l job (length buffer)) (record { verdict = RoomTooSmall; bytes = 0 }) (record { verdict = Accepted; bytes = length (mapOf job l) })
 
 -- The buffer after writing: untouched where the call is refused.
 unfoldable pub bufferAfter : List Pin → ℕ → List ℕ → List ℕ
-bufferAfter l job buffer = choose (noRoom l job buffer) buffer (written (mapOf job l) buffer)
+bufferAfter l job buffer = choose (noRoom l job (length buffer)) buffer (written (mapOf job l) buffer)

@@ -22,13 +22,17 @@ use Rattle.pinmap.specs.declared.Record.{Record}
 abbrev pub recordSize : ℕ
 recordSize = 12
 
+-- Bytes 0 and 1: the job, high byte first.
+abbrev pub jobAt : List ℕ → ℕ
+jobAt bytes = getD bytes 0 0 * 256 + getD bytes 1 0
+
 -- Bytes 0 and 1 job; byte 2 pin number; byte 3 zero; bytes 4 to 7 x; bytes 8 to 11 y. Numbers are high byte first.
 unfoldable pub recordOf : List ℕ → Record
 recordOf part =
     record {
-      job = getD part 0 0 * 256 + getD part 1 0;
+      job = jobAt part;
       pin = getD part 2 0;
-      blank = getD part 3 0;
+      byte3 = getD part 3 0;
       place = record { x = numberAt part 4; y = numberAt part 8 };
     }
 
@@ -41,8 +45,8 @@ abbrev pub pinAbove : Record → Bool
 pinAbove r = leb mostPins (r .pin)
 
 -- Its byte 3 is not zero.
-abbrev pub notBlank : Record → Bool
-notBlank r = not (eqb (r .blank) 0)
+abbrev pub notZero : Record → Bool
+notZero r = not (eqb (r .byte3) 0)
 
 -- Its place is outside.
 abbrev pub outside : Record → Bool
@@ -61,7 +65,7 @@ unfoldable pub judged : ℕ → ℕ → ℕ → List Pin → Record → Verdict
 judged job number next earlier r =
     turn (otherJob job r) (OtherJob number)
     (turn (pinAbove r) (FaultyRecord number)
-    (turn (notBlank r) (FaultyRecord number)
+    (turn (notZero r) (FaultyRecord number)
     (turn (outside r) (FaultyRecord number)
     (turn (notAbove next r) (FaultyRecord number)
     (turn (placeTaken earlier r) (FaultyRecord number) Accepted)))))

@@ -11,8 +11,9 @@ ghost use Prim.Native.Nat.{ℕ, _+_, _<_, _≤_, _/_};
 ghost use lib.ListN.{length};
 ghost use lib.Seq.{sets};
 ghost use Rattle.feed.specs.Feeds.{mostPins};
-ghost use Rattle.pinmap.specs.Record.{recordSize, recordOf, recordBytes, pinBytes, otherJob, pinAbove, notBlank, outside, notAbove, placeTaken, judged};
-ghost use Rattle.pinmap.specs.Map.{noPins, refusedBy, readFrom, readMap, mapOf, writeMap, bufferAfter, written};
+ghost use Rattle.drawing.specs.Pins.{noPins};
+ghost use Rattle.pinmap.specs.Record.{recordSize, jobAt, recordOf, recordBytes, pinBytes, otherJob, pinAbove, notZero, outside, notAbove, placeTaken, judged};
+ghost use Rattle.pinmap.specs.Map.{refusedBy, readFrom, readMap, mapOf, writeMap, bufferAfter, written};
 
 // A record has this many bytes.
 pub const RECORD_BYTES: usize = 12;
@@ -24,7 +25,7 @@ pub const MOST_BYTES: usize = 384;
 pub struct Record {
     pub job: u16,
     pub pin: usize,
-    pub blank: u8,
+    pub byte3: u8,
     pub place: Place,
 }
 
@@ -40,20 +41,30 @@ pub struct Writing {
     pub bytes: usize,
 }
 
+// The job in bytes 0 and 1, high byte first.
+pub fn job_at(bytes: &[u8]) -> u16
+    requires { ⌜ 2 ≤ length (now bytes) ⌝ }
+    ensures { λ r. ⌜ r ≡ jobAt (now (bytes .entry)) ⌝ }
+{
+    bytes[0] as u16 * 256 + bytes[1] as u16
+}
+
 // What the record in its own part of the map says.
 fn read_record(part: &[u8]) -> Record
     requires { ⌜ length (now part) ≡ recordSize ⌝ }
     ensures { λ r. ⌜ r ≡ recordOf (now (part .entry)) ⌝ }
 {
-    let job = part[0] as u16 * 256 + part[1] as u16;
+    let job = job_at(part);
+    let pin = part[2] as usize;
+    let byte3 = part[3];
     let place = Place {
         x: grid::read_number(part, 4),
         y: grid::read_number(part, 8),
     };
     Record {
         job,
-        pin: part[2] as usize,
-        blank: part[3],
+        pin,
+        byte3,
         place,
     }
 }
@@ -73,10 +84,10 @@ fn has_pin_above(given: Record) -> bool
 }
 
 // Whether a record's byte 3 is not zero.
-fn is_not_blank(given: Record) -> bool
-    ensures { λ r. ⌜ r ≡ notBlank given ⌝ }
+fn is_not_zero(given: Record) -> bool
+    ensures { λ r. ⌜ r ≡ notZero given ⌝ }
 {
-    given.blank != 0
+    given.byte3 != 0
 }
 
 // Whether a record's place is outside the board.
@@ -113,7 +124,7 @@ fn judge(given: Record, job: u16, number: usize, next: usize, earlier: [Pin; PIN
     if has_pin_above(given) {
         return Verdict::FaultyRecord(number);
     }
-    if is_not_blank(given) {
+    if is_not_zero(given) {
         return Verdict::FaultyRecord(number);
     }
     if is_outside(given) {
@@ -128,21 +139,13 @@ fn judge(given: Record, job: u16, number: usize, next: usize, earlier: [Pin; PIN
     Verdict::Accepted
 }
 
-// The pins of a drawing without pins.
-pub fn no_pins() -> [Pin; PINS]
-    ensures { λ r. ⌜ r ≡ noPins ⌝ }
-{
-    let pin = drawing::absent_pin();
-    [pin; PINS]
-}
-
 // A reading that was turned away.
 fn refuse(verdict: Verdict) -> Reading
     ensures { λ r. ⌜ r ≡ refusedBy verdict ⌝ }
 {
     Reading {
         verdict,
-        pins: no_pins(),
+        pins: drawing::no_pins(),
     }
 }
 
@@ -151,7 +154,7 @@ fn read_records(map: &[u8], job: u16) -> Reading
     ensures { λ r. ⌜ r ≡ readFrom (length (now (map .entry)) / recordSize) (now (map .entry)) job 0 0 noPins ⌝ }
 {
     let count = map.len() / RECORD_BYTES;
-    let mut pins = no_pins();
+    let mut pins = drawing::no_pins();
     let mut next: usize = 0;
     let mut number: usize = 0;
     while number < count {

@@ -11,8 +11,8 @@ use lib.Seq.{take-all, take-at, take-append-le, length-take-le, drop-drop}
 use borrow.Author.Tests.{lt-ltb, le-ltb}
 use Rattle.bytes.specs.Bytes.{indexOf, indexAfter}
 use Rattle.refusal.specs.Tests.{choose}
-use Rattle.script.specs.Words.{newline, stopAt}
-use Rattle.script.specs.Orders.{mostKept}
+use Rattle.text.specs.Words.{newline, stopAt}
+use Rattle.script.specs.Said.{mostKept}
 use Rattle.grid.proofs.Flat.{order}
 use Rattle.play.specs.Log.{Log, nextLine, longer, stretched, heard, stopped, lastHeard}
 

@@ -8,9 +8,9 @@ use native.Mathlib.Omega.{arith}
 use lib.Dec.{eqb, eqb·suc-zero}
 use lib.ListN.{length, take}
 use Rattle.refusal.specs.Tests.{both, choose}
-use Rattle.script.specs.Words.{newline, beforeFirst, pieces}
-use Rattle.script.specs.Orders.{mostKept}
-use Rattle.script.proofs.Clipping.{clipped-order, clipped-map, clipped-across, clipped-up}
+use Rattle.text.specs.Words.{newline, beforeFirst, pieces}
+use Rattle.script.specs.Said.{mostKept}
+use Rattle.script.proofs.Clipping.{clipped-said, clipped-map, clipped-across, clipped-up}
 use Rattle.desk.specs.declared.Desk.{Desk}
 use Rattle.answer.specs.Answered.{played, answered}
 use Rattle.play.specs.Log.{Log, nextLine, longer, heard, stopped, lastHeard, logAfter}
@@ -20,12 +20,12 @@ use Rattle.play.proofs.Hearing.{cut-once}
 -- A line that is kept only as far as is enough to read it makes of the desk what the whole line does.
 pub clipped : (d : Desk) (line : List ℕ) → played d (take mostKept line) ≡ played d line
 unfolding played
-clipped d line = rw (clipped-map line, clipped-order line)
+clipped d line = rw (clipped-map line, clipped-said line)
 
 -- And it prints what the whole line does.
 pub clipped-answer : (d : Desk) (n : ℕ) (line : List ℕ) → answered d n (take mostKept line) ≡ answered d n line
 unfolding answered
-clipped-answer d n line = rw (clipped-map line, clipped-across line, clipped-up line, clipped-order line)
+clipped-answer d n line = rw (clipped-map line, clipped-across line, clipped-up line, clipped-said line)
 
 -- There is a first piece.
 record Some (pieces : List (List ℕ)) : Type 0 where

@@ -5,14 +5,13 @@ use mathlib.Core.List.{List}
 use Prim.Native.Nat.{ℕ, _+_, _-_, _%_, _^_, _≤_, _<_, min}
 use native.Mathlib.Omega.{arith}
 use lib.Dec.{ltb}
-use lib.ListN.{length, take, drop, length-take}
+use lib.ListN.{length, take, drop, length-take, drop-of-length-le}
 use lib.Seq.{sets, length-sets, length-take-le}
 use borrow.Author.Tests.{lt-ltb, le-ltb, ne-eqb}
 use Rattle.refusal.specs.Tests.{choose}
-use Rattle.script.specs.Text.{over}
-use Rattle.script.specs.Words.{newline, stopAt}
-use Rattle.script.specs.Orders.{mostKept}
-use Rattle.script.proofs.Steps.{spent}
+use Rattle.text.specs.Text.{over}
+use Rattle.text.specs.Words.{newline, stopAt}
+use Rattle.script.specs.Said.{mostKept}
 use Rattle.script.proofs.Clipping.{keeping}
 use Rattle.desk.specs.declared.Desk.{Desk}
 use Rattle.answer.specs.Answered.{played, answered}
@@ -46,7 +45,7 @@ module _ (s : Session) (line out : List ℕ) where
   -- At the window's end nothing is to come.
   pub window-done : (w : List ℕ) {at : ℕ} {n : Log} → length w ≤ at → heard (logOf s line out) (drop at w) ≡ n → logOf s line out ≡ n
   unfolding heard
-  window-done w {at} h q = ap (heard (logOf s line out)) (sym (spent w at h)) ∙ q
+  window-done w {at} h q = ap (heard (logOf s line out)) (sym (drop-of-length-le w h)) ∙ q
 
   -- The input ended after a newline: no line more.
   pub ended-between : s .kept ≡ 0

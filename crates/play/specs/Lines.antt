@@ -6,7 +6,7 @@ use Prim.Native.Nat.{ℕ, _%_, _^_}
 use lib.Dec.{eqb}
 use lib.ListN.{length}
 use Rattle.refusal.specs.Tests.{both, choose}
-use Rattle.script.specs.Words.{newline, pieces}
+use Rattle.text.specs.Words.{newline, pieces}
 use Rattle.desk.specs.declared.Desk.{Desk}
 use Rattle.desk.specs.Desk.{emptyDesk}
 use Rattle.answer.specs.Answered.{played}

@@ -6,9 +6,9 @@ use Prim.Native.Nat.{ℕ, _+_, _%_, _^_}
 use lib.Dec.{eqb}
 use lib.ListN.{length, take}
 use Rattle.refusal.specs.Tests.{choose}
-use Rattle.script.specs.Text.{over}
-use Rattle.script.specs.Words.{newline}
-use Rattle.script.specs.Orders.{mostKept}
+use Rattle.text.specs.Text.{over}
+use Rattle.text.specs.Words.{newline}
+use Rattle.script.specs.Said.{mostKept}
 use Rattle.desk.specs.declared.Desk.{Desk}
 use Rattle.answer.specs.Answered.{played, answered}
 use Rattle.play.specs.declared.Session.{Session}

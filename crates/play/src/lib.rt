@@ -1,17 +1,17 @@
 // A log of calls played on one desk: the input taken in window by window, each line answered where it ends, and its answer sent.
 use answer::answer_line;
 use desk::Desk;
-use script::answers::ANSWER_BYTES;
 use script::windows::MOST_KEPT;
 use script::windows::keep;
 use script::windows::newline;
+use text::ANSWER_BYTES;
 ghost use mathlib.Core.Path.{_≡_};
 ghost use mathlib.Core.Bool.{false};
 ghost use Prim.Native.Nat.{_-_, _≤_};
 ghost use lib.Dec.{ltb};
 ghost use lib.ListN.{length, take, drop};
-ghost use Rattle.script.specs.Text.{over, answerBytes};
-ghost use Rattle.script.specs.Orders.{mostKept};
+ghost use Rattle.text.specs.Text.{over, answerBytes};
+ghost use Rattle.script.specs.Said.{mostKept};
 ghost use Rattle.answer.specs.Answered.{played, answered};
 ghost use Rattle.play.specs.Log.{logOf, nextLine, stretched, heard, lastHeard, ComesOf};
 ghost use Rattle.play.specs.Lines.{Played};

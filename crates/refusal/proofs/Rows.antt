@@ -13,7 +13,7 @@ use Rattle.refusal.specs.declared.Verdict.{Verdict}
 use Rattle.refusal.specs.declared.Verdict.the-variants.{Accepted}
 use Rattle.refusal.specs.Tests.{both, choose}
 use Rattle.refusal.specs.Refusals.{toldOf, accepted, turn}
-use Rattle.refusal.proofs.Tests.{opposite, both-left, both-right}
+use Rattle.refusal.proofs.Tests.{opposite, both-left, both-right, choose-yes, choose-no, first-chosen, second-chosen}
 
 -- One row: a refusal and its condition.
 pub record Row : Type 0 where
@@ -93,17 +93,15 @@ rest-unlike : (rest : Verdict) (r : Row) (rows : List Row) → unlike rest (r �
 unfolding unlike
 rest-unlike rest r rows u e = same-number rest (r .refusal) (sym e) (both-left _ _ u)
 
--- The two ways of one row, by its condition.
-pub to-first : (b : Bool) (v next : Verdict) → (v ≡ next → ⊥) → choose b v next ≡ v → b ≡ true
-unfolding choose
-to-first true v next n e = refl
-to-first false v next n e = absurd (n (sym e))
+-- A row whose condition holds is met: its refusal is the answer.
+pub hit : {b : Bool} (v w : Verdict) → b ≡ true → v ≡ turn b v w
+unfolding turn
+hit v w e = sym (choose-yes v w e)
 
--- Another answer passes the row: its condition does not hold.
-pub to-later : (b : Bool) (v next w : Verdict) → (v ≡ w → ⊥) → choose b v next ≡ w → (b ≡ false) × (next ≡ w)
-unfolding choose
-to-later true v next w n e = absurd (n e)
-to-later false v next w n e = (refl, e)
+-- One whose condition does not hold is missed: the later rows answer.
+pub miss : {b : Bool} (v : Verdict) {x w : Verdict} → b ≡ false → x ≡ w → x ≡ turn b v w
+unfolding turn
+miss v e f = f ∙ sym (choose-no v _ e)
 
 rows-later : (r : Row) (rows : List Row) → distinct (r ∷ rows) ≡ true → (unlike (r .refusal) rows ≡ true) × (distinct rows ≡ true)
 unfolding distinct
@@ -125,12 +123,10 @@ pub only-given : (rows : List Row) (rest : Verdict) → distinct rows ≡ true �
 unfolding firstOf refusalAt Given turn
 only-given [] rest d u i h e = absurd (omega arith)
 only-given (r ∷ rows) rest d u zero h e =
-    to-first (r .condition) (r .refusal) (firstOf rows rest)
-    (unlike-first (r .refusal) rows rest (rows-later r rows d .0) (rest-unlike rest r rows u)) e
+    first-chosen (r .condition) (unlike-first (r .refusal) rows rest (rows-later r rows d .0) (rest-unlike rest r rows u)) (sym e) .0
 only-given (r ∷ rows) rest d u (suc i) h e =
-    let l = to-later (r .condition) (r .refusal) (firstOf rows rest) (refusalAt rows i)
-    (unlike-at (r .refusal) rows i (rows-later r rows d .0) (omega arith)) e in
-    (l .0, only-given rows rest (rows-later r rows d .1) (unlike-later rest r rows u) i (omega arith) (l .1))
+    let l = second-chosen (r .condition) (λ z. unlike-at (r .refusal) rows i (rows-later r rows d .0) (omega arith) (sym z)) (sym e) in
+    (l .0, only-given rows rest (rows-later r rows d .1) (unlike-later rest r rows u) i (omega arith) (sym (l .1)))
 
 -- Where a row is given, the answer is its refusal.
 pub given-is : (rows : List Row) (rest : Verdict) (i : ℕ) → Given rows i → firstOf rows rest ≡ refusalAt rows i
@@ -139,7 +135,7 @@ given-is [] rest i g = absurd g
 given-is (r ∷ rows) rest zero g = rw g
 given-is (r ∷ rows) rest (suc i) g = rw (g .0) (given-is rows rest i (g .1))
 
--- Where no condition holds, the answer is what is left to say, and only there.
+-- Where no condition holds, the answer is what is left to say.
 pub none-is : (rows : List Row) (rest : Verdict) → NoneHolds rows → firstOf rows rest ≡ rest
 unfolding firstOf NoneHolds turn choose
 none-is [] rest g = refl
@@ -150,8 +146,8 @@ pub only-none : (rows : List Row) (rest : Verdict) → unlike rest rows ≡ true
 unfolding firstOf NoneHolds turn
 only-none [] rest u e = tt
 only-none (r ∷ rows) rest u e =
-    let l = to-later (r .condition) (r .refusal) (firstOf rows rest) rest (rest-unlike rest r rows u) e in
-    (l .0, only-none rows rest (unlike-later rest r rows u) (l .1))
+    let l = second-chosen (r .condition) (λ z. rest-unlike rest r rows u (sym z)) (sym e) in
+    (l .0, only-none rows rest (unlike-later rest r rows u) (sym (l .1)))
 
 -- EACH REFUSAL EXACTLY: given where its condition holds and none before it does, and only there; what is left to say where none holds.
 pub record Exactly (rows : List Row) (rest answer : Verdict) : Type 0 where

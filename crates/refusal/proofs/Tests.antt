@@ -51,15 +51,55 @@ unfolding both
 both-false true b e = inr e
 both-false false b e = inl refl
 
+-- A test with one that fails after it does not hold,
+pub both-none : (a : Bool) → both a false ≡ false
+unfolding both
+both-none true = refl
+both-none false = refl
+
+-- and which comes first does not matter.
+pub both-swap : (a b : Bool) → both a b ≡ both b a
+unfolding both
+both-swap true true = refl
+both-swap true false = refl
+both-swap false true = refl
+both-swap false false = refl
+
+-- Where one of two holds, the first does or the second.
+pub either-which : (a b : Bool) → either a b ≡ true → (a ≡ true) ⊎ (b ≡ true)
+unfolding either
+either-which true b e = inl refl
+either-which false b e = inr e
+
 -- Where the first holds, one of them does;
 pub either-left : {a : Bool} (b : Bool) → a ≡ true → either a b ≡ true
 unfolding either
 either-left b p = rw p
 
--- where it fails, the second decides.
+-- where the second does, so it is too;
+pub either-second : (a : Bool) {b : Bool} → b ≡ true → either a b ≡ true
+unfolding either
+either-second true e = refl
+either-second false e = e
+
+-- where the first fails, the second decides,
 pub either-right : {a : Bool} (b : Bool) → a ≡ false → either a b ≡ b
 unfolding either
 either-right b p = rw p
+
+-- and where the second does, the first.
+pub either-none : (a : Bool) → either a false ≡ a
+unfolding either
+either-none true = refl
+either-none false = refl
+
+-- Which comes first does not matter.
+pub either-swap : (a b : Bool) → either a b ≡ either b a
+unfolding either
+either-swap true true = refl
+either-swap true false = refl
+either-swap false true = refl
+either-swap false false = refl
 
 -- Where neither holds, each fails,
 pub either-false : (a b : Bool) → either a b ≡ false → (a ≡ false) × (b ≡ false)
@@ -72,6 +112,13 @@ pub either-no : {a b : Bool} → a ≡ false → b ≡ false → either a b ≡ 
 unfolding either
 either-no p q = rw (p, q)
 
+-- Two tests that hold together are the same.
+pub same-test : (a b : Bool) → (a ≡ true → b ≡ true) → (b ≡ true → a ≡ true) → a ≡ b
+same-test true true f g = refl
+same-test true false f g = sym (f refl)
+same-test false true f g = g refl
+same-test false false f g = refl
+
 -- A choice by a test that holds is the first;
 pub choose-yes : {A : Type 0} {t : Bool} (a b : A) → t ≡ true → choose t a b ≡ a
 unfolding choose
@@ -81,6 +128,24 @@ choose-yes a b p = rw p
 pub choose-no : {A : Type 0} {t : Bool} (a b : A) → t ≡ false → choose t a b ≡ b
 unfolding choose
 choose-no a b p = rw p
+
+-- Of two that are the same it does not matter which is chosen.
+pub choose-same : {A : Type 0} (t : Bool) (a : A) → choose t a a ≡ a
+unfolding choose
+choose-same true a = refl
+choose-same false a = refl
+
+-- What came out of a choice and is not its second thing is its first, and the test held;
+pub first-chosen : {A : Type 0} {a b x : A} (t : Bool) → (x ≡ b → ⊥) → x ≡ choose t a b → (t ≡ true) × (x ≡ a)
+unfolding choose
+first-chosen true n e = (refl, e)
+first-chosen false n e = absurd (n e)
+
+-- what is not its first is its second, and the test failed.
+pub second-chosen : {A : Type 0} {a b x : A} (t : Bool) → (x ≡ a → ⊥) → x ≡ choose t a b → (t ≡ false) × (x ≡ b)
+unfolding choose
+second-chosen true n e = absurd (n e)
+second-chosen false n e = (refl, e)
 
 -- Two tests made one after the other, the second only where the first holds.
 pub both-arm : {s t a b : Bool} → s ≡ a → t ≡ b → s ≡ true → t ≡ both a b

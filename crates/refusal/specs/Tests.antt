@@ -1,5 +1,6 @@
--- Tests joined by words. They stay shut, so that their parts can be read off a fact.
-use mathlib.Core.Bool.{Bool, true, false}
+-- Tests joined by words, and tests of all that a list has. They stay shut, so that their parts can be read off a fact.
+use mathlib.Core.Bool.{Bool, true, false, not}
+use mathlib.Core.List.{List, [], _∷_}
 
 -- Both tests hold.
 unfoldable pub both : Bool → Bool → Bool
@@ -15,3 +16,18 @@ either false b = b
 unfoldable pub choose : {A : Type 0} → Bool → A → A → A
 choose true a b = a
 choose false a b = b
+
+-- One of these passes the test.
+unfoldable pub anyOf : {A : Type 0} → (A → Bool) → List A → Bool
+anyOf test [] = false
+anyOf test (a ∷ l) = either (test a) (anyOf test l)
+
+-- Each of these passes the test.
+unfoldable pub eachOf : {A : Type 0} → (A → Bool) → List A → Bool
+eachOf test [] = true
+eachOf test (a ∷ l) = both (test a) (eachOf test l)
+
+-- No two of these meet.
+unfoldable pub noTwo : {A : Type 0} → (A → A → Bool) → List A → Bool
+noTwo meets [] = true
+noTwo meets (a ∷ l) = both (not (anyOf (meets a) l)) (noTwo meets l)

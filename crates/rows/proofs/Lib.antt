@@ -1,2 +1,4 @@
 -- The laws of the rows that other crates cite.
+pub mod MapRows
 pub mod Rows
+mod Answers

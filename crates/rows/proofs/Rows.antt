@@ -1,31 +1,100 @@
--- Rows of refusals read one after the other: a row that is met, a row that is passed, and rows that were read before. Assumes nothing.
+-- The rows of refusals of each call, as lists in document 01's order; and rows that were read before, with what comes after them. Assumes nothing.
 use mathlib.Core.Path.{_≡_, refl, ap, sym, _∙_}
-use mathlib.Core.Bool.{Bool, true, false, not, true≢false}
+use mathlib.Core.Bool.{Bool, true, false, not, true≢false, false≢true}
 use mathlib.Core.List.{List, [], _∷_, _++_}
-use Prim.Native.Nat.{ℕ, _-_, _<_, _≤_}
-use native.Mathlib.Omega.{arith}
-use borrow.Author.Tests.{not-true, not-false, leb-false, eq-eqb, ne-eqb}
-use lib.Dec.{eqb}
+use Prim.Native.Nat.{ℕ, _<_}
+use borrow.Author.Tests.{not-true, not-false, leb-false, eqb-true, eq-eqb}
+use lib.Dec.{eqb, leb}
 use Rattle.refusal.specs.Tests.{both, either, choose}
 use Rattle.refusal.specs.Refusals.{accepted, turn}
 use Rattle.refusal.specs.declared.Verdict.{Verdict}
-use Rattle.refusal.specs.declared.Verdict.the-variants.{Accepted, SeatAbove, NotOpen, OpenAlready, JobZero, JobElsewhere, NoSuchPin, JournalFull, DeskBroken}
+use Rattle.refusal.specs.declared.Verdict.the-variants.{Accepted, SeatAbove, NotOpen, OpenAlready, JobZero, JobElsewhere, NoSuchPin, PinThere, Outside, PlaceTaken, NothingStands, NothingTakenBack, JournalFull, RoomTooSmall, DeskBroken}
 use Rattle.refusal.proofs.Tests.{both-left, both-right, either-false, choose-yes, choose-no}
-use Rattle.refusal.proofs.Rows.{Row, firstOf, NoneHolds, none-is}
-use Rattle.feed.specs.Feeds.{mostPins}
-use Rattle.pinmap.specs.Map.{wrongLength, readFrom, readMap}
+use Rattle.refusal.proofs.Rows.{Row, given, firstOf, NoneHolds, numberOf, unlike, none-is}
+use Rattle.grid.specs.declared.Place.{Place}
+use Rattle.grid.specs.Place.{inside}
+use Rattle.feed.specs.Feeds.{mostPins, crowded}
+use Rattle.drawing.specs.Pins.{isThere, feedOf}
+use Rattle.drawing.specs.Edits.{standsAt}
+use Rattle.pinmap.specs.Map.{wrongLength, readFrom, readMap, noRoom}
+use Rattle.wiring.proofs.Refusing.{feedRows}
 use Rattle.seats.specs.Seats.{jobAmong}
-use Rattle.rows.specs.Refusals.{Look, seatAbove, notThere, full, turnedNaming, turnedRemoving}
+use Rattle.rows.specs.Refusals.{Look, seatAbove, pinAt, notThere, full, turnedNaming, turnedRemoving}
+use Rattle.rows.proofs.MapRows.{mapRows}
 
--- A row is met.
-pub hit : {b : Bool} (v w : Verdict) → b ≡ true → v ≡ turn b v w
-unfolding turn choose
-hit v w e = rw e
+-- ---- the rows of each call
 
--- A row is passed.
-pub miss : {b : Bool} (v : Verdict) {x w : Verdict} → b ≡ false → x ≡ w → x ≡ turn b v w
-unfolding turn choose
-miss v e f = rw e f
+-- Every call naming a seat, but opening: 28, 1, 2. Closing: these, and no more.
+abbrev pub namingRows : Look → List Row
+namingRows l = given (l .broken) DeskBroken ∷ given (seatAbove l) SeatAbove ∷ given (not (l .opened)) NotOpen ∷ []
+
+-- The desk can take a job at a seat: 28, 1, 3, 4, 5.
+abbrev pub takingRows : Look → ℕ → List Row
+takingRows l job =
+    given (l .broken) DeskBroken
+    ∷ given (seatAbove l) SeatAbove
+    ∷ given (l .opened) OpenAlready
+    ∷ given (eqb job 0) JobZero
+    ∷ given (jobAmong job (l .jobs)) JobElsewhere
+    ∷ []
+
+-- Opening: these, then 13, then the first faulty record, 14 before 15.
+abbrev pub openingRows : Look → ℕ → List ℕ → List Row
+openingRows l job map = takingRows l job ++ mapRows map job
+
+-- The last row of an edit: 12.
+abbrev pub fullRow : Look → List Row
+fullRow l = given (full l) JournalFull ∷ []
+
+-- Placing before 12: 28, 1, 2, 6, 7, 8, 9.
+abbrev pub placingBeforeFull : Look → ℕ → Place → List Row
+placingBeforeFull l p at =
+    namingRows l
+    ++ (given (leb mostPins p) NoSuchPin
+    ∷ given (isThere (pinAt l p)) PinThere
+    ∷ given (not (inside at)) Outside
+    ∷ given (crowded (feedOf (l .pins)) p at) PlaceTaken
+    ∷ [])
+
+-- Placing: these and 12.
+abbrev pub placingRows : Look → ℕ → Place → List Row
+placingRows l p at = placingBeforeFull l p at ++ fullRow l
+
+-- Removing before 12, and moving to begin with: 28, 1, 2, 6.
+abbrev pub thereRows : Look → ℕ → List Row
+thereRows l p = namingRows l ++ (given (notThere l p) NoSuchPin ∷ [])
+
+-- Moving before 12: these, 8, 9.
+abbrev pub movingBeforeFull : Look → ℕ → Place → List Row
+movingBeforeFull l p at =
+    thereRows l p
+    ++ (given (not (inside at)) Outside ∷ given (either (standsAt (pinAt l p) at) (crowded (feedOf (l .pins)) p at)) PlaceTaken ∷ [])
+
+-- Moving: 28, 1, 2, 6, 8, 9, 12.
+abbrev pub movingRows : Look → ℕ → Place → List Row
+movingRows l p at = movingBeforeFull l p at ++ fullRow l
+
+-- Removing: 28, 1, 2, 6, 12.
+abbrev pub removingRows : Look → ℕ → List Row
+removingRows l p = thereRows l p ++ fullRow l
+
+-- Undo: 28, 1, 2, 10.
+abbrev pub undoingRows : Look → List Row
+undoingRows l = namingRows l ++ (given (eqb (l .standing) 0) NothingStands ∷ [])
+
+-- Redo: 28, 1, 2, 11.
+abbrev pub redoingRows : Look → List Row
+redoingRows l = namingRows l ++ (given (eqb (l .takenBack) 0) NothingTakenBack ∷ [])
+
+-- Writing: 28, 1, 2, 19.
+abbrev pub writingRows : Look → ℕ → List Row
+writingRows l room = namingRows l ++ (given (noRoom (l .pins) (l .job) room) RoomTooSmall ∷ [])
+
+-- Wiring a seat: 28, 1, 2, 17, 18, 19.
+abbrev pub wiringRows : Look → ℕ → List Row
+wiringRows l room = namingRows l ++ feedRows (feedOf (l .pins)) room
+
+-- ---- rows that were read before
 
 -- What the test of a verdict says.
 module _ {r : Bool} (v : Verdict) (e : r ≡ accepted v) where
@@ -37,11 +106,6 @@ module _ {r : Bool} (v : Verdict) (e : r ≡ accepted v) where
   pub went : not r ≡ false → accepted v ≡ true
   went t = sym e ∙ not-false _ t
 
--- No row accepts.
-unfoldable pub refusing : List Row → Bool
-refusing [] = true
-refusing (r ∷ rows) = both (not (accepted (r .refusal))) (refusing rows)
-
 -- Rows that were read before, and end in an accepted verdict.
 module _ (t : Verdict) {v : Verdict} (a : accepted t ≡ true) where
   -- One of them was met: it is met again, whatever comes after them.
@@ -50,21 +114,30 @@ module _ (t : Verdict) {v : Verdict} (a : accepted t ≡ true) where
   stop [] rest e f = absurd (true≢false (sym a ∙ ap accepted (sym e) ∙ f))
   stop (r ∷ rows) rest e f = by (r .condition) (stop rows rest) e
     where
+      -- The first row is met, or one after it.
       by : (b : Bool) → (v ≡ firstOf rows t → accepted v ≡ false → v ≡ firstOf rows rest) → v ≡ choose b (r .refusal) (firstOf rows t)
           → v ≡ choose b (r .refusal) (firstOf rows rest)
       by true later g = g
       by false later g = later g f
 
--- All of them were passed: none of their conditions holds.
-pub passed : (rows : List Row) (rest : Verdict) {v : Verdict} → refusing rows ≡ true → v ≡ firstOf rows rest → accepted v ≡ true → NoneHolds rows
-unfolding firstOf refusing NoneHolds turn choose
-passed [] rest n e y = tt
-passed (r ∷ rows) rest {v} n e y = by (r .condition) refl (passed rows rest (both-right (not (accepted (r .refusal))) _ n)) e
+-- All of them were passed, and none of them accepts: none of their conditions holds.
+pub all-passed : (rows : List Row) (rest : Verdict) {v : Verdict} → unlike Accepted rows ≡ true → v ≡ firstOf rows rest → accepted v ≡ true
+    → NoneHolds rows
+unfolding firstOf unlike accepted NoneHolds turn choose
+all-passed [] rest u e y = tt
+all-passed (r ∷ rows) rest {v} u e y =
+    by (r .condition) refl (all-passed rows rest (both-right (not (eqb 0 (numberOf (r .refusal)))) _ u)) e
   where
+    -- A row that is met refuses.
+    refuses : v ≡ r .refusal → ⊥
+    refuses g =
+        let z : numberOf (r .refusal) ≡ 0 = eqb-true _ _ (ap accepted (sym g) ∙ y) in
+        false≢true (sym (ap not (eq-eqb 0 (numberOf (r .refusal)) (sym z))) ∙ both-left (not (eqb 0 (numberOf (r .refusal)))) _ u)
+
+    -- So the first row is passed, and those after it.
     by : (b : Bool) → r .condition ≡ b → (v ≡ firstOf rows rest → accepted v ≡ true → NoneHolds rows) → v ≡ choose b (r .refusal) (firstOf rows rest)
         → (r .condition ≡ false) × NoneHolds rows
-    by true q later g =
-        absurd (true≢false (sym y ∙ ap accepted g ∙ not-true (accepted (r .refusal)) (both-left _ (refusing rows) n)))
+    by true q later g = absurd (refuses g)
     by false q later g = (q, later g y)
 
 -- Where no condition of some rows and of others after them holds, none of the first rows' does.
@@ -77,55 +150,6 @@ none-before (r ∷ rows) more n = (n .0, none-before rows more (n .1))
 pub go : (rows : List Row) {x rest : Verdict} → NoneHolds rows → x ≡ rest → x ≡ firstOf rows rest
 go rows {x} {rest} n e = e ∙ sym (none-is rows rest n)
 
--- Rows that end in an accepted verdict, and then others: the same as all of them one after the other.
-pub joined : (rows : List Row) (t rest : Verdict) → refusing rows ≡ true → accepted t ≡ true
-    → choose (accepted (firstOf rows t)) rest (firstOf rows t) ≡ firstOf rows rest
-unfolding refusing firstOf turn choose
-joined [] t rest n a = choose-yes rest t a
-joined (r ∷ rows) t rest n a = by (r .condition) (joined rows t rest (both-right (not (accepted (r .refusal))) _ n) a)
-  where
-    by : (b : Bool) → choose (accepted (firstOf rows t)) rest (firstOf rows t) ≡ firstOf rows rest
-        → choose (accepted (choose b (r .refusal) (firstOf rows t))) rest (choose b (r .refusal) (firstOf rows t)) ≡ choose b (r .refusal) (firstOf rows rest)
-    by true later = choose-no rest (r .refusal) (not-true (accepted (r .refusal)) (both-left _ (refusing rows) n))
-    by false later = later
-
--- Every call naming a seat, but opening: 28, 1, 2.
-abbrev pub namingRows : Look → List Row
-namingRows l =
-    record { condition = l .broken; refusal = DeskBroken }
-    ∷ record { condition = seatAbove l; refusal = SeatAbove }
-    ∷ record { condition = not (l .opened); refusal = NotOpen }
-    ∷ []
-
--- Moving and removing then by 6.
-abbrev pub thereRows : Look → ℕ → List Row
-thereRows l p = namingRows l ++ (record { condition = notThere l p; refusal = NoSuchPin } ∷ [])
-
--- Opening, up to the map, by 28, 1, 3, 4, 5.
-abbrev pub openingRows : Look → ℕ → List Row
-openingRows l job =
-    record { condition = l .broken; refusal = DeskBroken }
-    ∷ record { condition = seatAbove l; refusal = SeatAbove }
-    ∷ record { condition = l .opened; refusal = OpenAlready }
-    ∷ record { condition = eqb job 0; refusal = JobZero }
-    ∷ record { condition = jobAmong job (l .jobs); refusal = JobElsewhere }
-    ∷ []
-
--- Each of 28, 1 and 2 refuses,
-pub naming-refusing : (l : Look) → refusing (namingRows l) ≡ true
-unfolding refusing both accepted
-naming-refusing l = refl
-
--- 6 too,
-there-refusing : (l : Look) (p : ℕ) → refusing (thereRows l p) ≡ true
-unfolding refusing both accepted
-there-refusing l p = refl
-
--- and each of 28, 1, 3, 4 and 5.
-pub opening-refusing : (l : Look) (job : ℕ) → refusing (openingRows l job) ≡ true
-unfolding refusing both accepted
-opening-refusing l job = refl
-
 -- Where 28, 1 and 2 were asked first: one of them applies, or none does.
 module _ (l : Look) {v : Verdict} (e : v ≡ turnedNaming l) where
   -- Refused by one of them, a call is so whatever comes after;
@@ -135,8 +159,8 @@ module _ (l : Look) {v : Verdict} (e : v ≡ turnedNaming l) where
 
   -- accepted, none of them applies,
   pub naming-passed : accepted v ≡ true → NoneHolds (namingRows l)
-  unfolding firstOf accepted
-  naming-passed y = passed (namingRows l) Accepted (naming-refusing l) e y
+  unfolding firstOf unlike both
+  naming-passed y = all-passed (namingRows l) Accepted refl e y
 
   -- and what comes after them decides.
   pub naming-goes : {x rest : Verdict} → accepted v ≡ true → x ≡ rest → x ≡ firstOf (namingRows l) rest
@@ -171,8 +195,8 @@ there-stops l p rest room e n = stop (turn (full l) JournalFull Accepted) (rw ro
 module _ (l : Look) (p : ℕ) {v : Verdict} (room : full l ≡ false) (e : v ≡ turnedRemoving l p) (y : accepted v ≡ true) where
   -- none of 28, 1, 2 and 6 applies,
   pub there-passed : NoneHolds (thereRows l p)
-  unfolding turnedRemoving firstOf turn choose accepted
-  there-passed = passed (thereRows l p) (turn (full l) JournalFull Accepted) (there-refusing l p) e y
+  unfolding turnedRemoving firstOf unlike both
+  there-passed = all-passed (thereRows l p) (turn (full l) JournalFull Accepted) refl e y
 
   -- what comes after them decides,
   pub there-goes : {x rest : Verdict} → x ≡ rest → x ≡ firstOf (thereRows l p) rest
@@ -182,13 +206,3 @@ module _ (l : Look) (p : ℕ) {v : Verdict} (room : full l ≡ false) (e : v ≡
   pub there-number : p < mostPins
   unfolding NoneHolds
   there-number = number-there l p (there-passed .1 .1 .1 .0)
-
--- Of the m edits that a seat owns,
-module _ {n : ℕ} (m standing : ℕ) (e : n ≡ m) where
-  -- none is taken back where all of them stand;
-  pub none-back : n ≤ standing → eqb (m - standing) 0 ≡ true
-  none-back h = eq-eqb (m - standing) 0 (omega (arith, e))
-
-  -- else some are.
-  pub some-back : standing < n → eqb (m - standing) 0 ≡ false
-  some-back h = ne-eqb (m - standing) 0 (λ (z : m - standing ≡ 0). omega (arith, e))

@@ -2,8 +2,8 @@
 use mathlib.Core.Bool.{Bool, not}
 use mathlib.Core.List.{List}
 use Prim.Native.Nat.{ℕ, _-_}
-use lib.Dec.{eqb, ltb, leb}
-use lib.ListN.{length, getD}
+use lib.Dec.{eqb, leb}
+use lib.ListN.{getD}
 use Rattle.refusal.specs.Tests.{either}
 use Rattle.refusal.specs.Refusals.{turn}
 use Rattle.refusal.specs.declared.Verdict.{Verdict}
@@ -14,7 +14,7 @@ use Rattle.drawing.specs.declared.Pin.{Pin}
 use Rattle.feed.specs.Feeds.{mostPins, crowded}
 use Rattle.drawing.specs.Pins.{absent, isThere, feedOf}
 use Rattle.drawing.specs.Edits.{standsAt}
-use Rattle.pinmap.specs.Map.{readMap, mapOf}
+use Rattle.pinmap.specs.Map.{readMap, noRoom}
 use Rattle.wiring.specs.Answer.{wiringOf}
 use Rattle.journal.specs.Journal.{mostSeats, mostRecords}
 use Rattle.seats.specs.Seats.{jobAmong}
@@ -123,7 +123,7 @@ turnedWriting l room =
     turn (l .broken) DeskBroken
     (turn (seatAbove l) SeatAbove
     (turn (not (l .opened)) NotOpen
-    (turn (ltb room (length (mapOf (l .job) (l .pins)))) RoomTooSmall Accepted)))
+    (turn (noRoom (l .pins) (l .job) room) RoomTooSmall Accepted)))
 
 -- Wiring a seat: 28, 1, 2, 17, 18, 19.
 unfoldable pub turnedWiring : Look → ℕ → Verdict

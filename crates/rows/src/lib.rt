@@ -12,39 +12,40 @@ use wiring::Laid;
 ghost use mathlib.Core.Path.{_≡_};
 ghost use mathlib.Core.Bool.{true, false};
 ghost use mathlib.Core.List.{[]};
-ghost use Prim.Native.Nat.{_-_, _≤_};
-ghost use lib.ListN.{length, take};
+ghost use Prim.Native.Nat.{_≤_};
+ghost use lib.ListN.{take};
 ghost use Rattle.drawing.specs.Pins.{lawful};
 ghost use Rattle.journal.specs.Journal.{mostRecords, own};
-ghost use Rattle.seats.specs.Seats.{jobsIn};
+ghost use Rattle.seats.specs.Seats.{takenBackCount, jobsIn};
 ghost use Rattle.rows.specs.Refusals.{turnedOpening, turnedNaming, turnedPlacing, turnedMoving, turnedRemoving, turnedUndoing, turnedRedoing};
-ghost use Rattle.rows.specs.Found.{foundIn, lookAtFound, readingIn, writingIn, bufferIn, laidIn};
+ghost use Rattle.rows.specs.Answers.{mapRead, mapWritten, bufferWritten, feedWired};
+ghost use Rattle.rows.specs.Found.{foundIn, lookAtFound};
 
-// What a call finds: whether the desk is broken, the number of the seat that it names, and that seat, a closed one where none has that number.
+// What a call finds: whether the desk is broken, the seat that it names, and that seat's state, a closed one's where there is no such seat.
 pub struct Found {
     pub broken: bool,
-    pub number: usize,
-    pub seat: Seat,
+    pub seat: usize,
+    pub state: Seat,
 }
 
 // What a call that names a seat finds.
-pub fn find(seats: [Seat; SEATS], journal: [Record; RECORDS], used: usize, number: usize) -> Found
-    ensures { λ r. ⌜ r ≡ foundIn seats journal used number ⌝ }
+pub fn find(seats: [Seat; SEATS], journal: [Record; RECORDS], used: usize, seat: usize) -> Found
+    ensures { λ r. ⌜ r ≡ foundIn seats journal used seat ⌝ }
 {
     let sound = seats::are_sound(seats, journal, used);
-    if SEATS <= number {
-        let seat = seats::closed_seat();
+    if SEATS <= seat {
+        let state = seats::closed_seat();
         return Found {
             broken: !sound,
-            number,
             seat,
+            state,
         };
     }
-    let seat = seats[number];
+    let state = seats[seat];
     Found {
         broken: !sound,
-        number,
         seat,
+        state,
     }
 }
 
@@ -55,11 +56,11 @@ pub fn turned_naming(found: Found) -> Verdict
     if found.broken {
         return Verdict::DeskBroken;
     }
-    if SEATS <= found.number {
+    if SEATS <= found.seat {
         return Verdict::SeatAbove;
     }
-    let seat = found.seat;
-    if seat.opened {
+    let s = found.state;
+    if s.opened {
         Verdict::Accepted
     } else {
         Verdict::NotOpen
@@ -77,8 +78,8 @@ pub fn turned_placing(found: Found, pin: usize, at: Place) -> Verdict
     if PINS <= pin {
         return Verdict::NoSuchPin;
     }
-    let seat = found.seat;
-    let pins = seat.pins;
+    let s = found.state;
+    let pins = s.pins;
     let there = pins[pin];
     if drawing::is_there(there) {
         return Verdict::PinThere;
@@ -104,8 +105,8 @@ pub fn turned_removing(found: Found, pin: usize) -> Verdict
     if PINS <= pin {
         return Verdict::NoSuchPin;
     }
-    let seat = found.seat;
-    let pins = seat.pins;
+    let s = found.state;
+    let pins = s.pins;
     let there = pins[pin];
     if drawing::is_there(there) {
         Verdict::Accepted
@@ -125,8 +126,8 @@ pub fn turned_moving(found: Found, pin: usize, to: Place) -> Verdict
     if !grid::is_inside(to) {
         return Verdict::Outside;
     }
-    let seat = found.seat;
-    let pins = seat.pins;
+    let s = found.state;
+    let pins = s.pins;
     let there = pins[pin];
     if drawing::stands_at(there, to) {
         return Verdict::PlaceTaken;
@@ -146,8 +147,8 @@ pub fn turned_undoing(found: Found) -> Verdict
     if !refusal::is_accepted(verdict) {
         return verdict;
     }
-    let seat = found.seat;
-    if seat.standing == 0 {
+    let s = found.state;
+    if s.standing == 0 {
         Verdict::NothingStands
     } else {
         Verdict::Accepted
@@ -157,15 +158,15 @@ pub fn turned_undoing(found: Found) -> Verdict
 // Redo: 28, 1, 2, 11.
 pub fn turned_redoing(found: Found, journal: [Record; RECORDS], used: usize) -> Verdict
     requires { ⌜ (found .broken ≡ false → used ≤ mostRecords) ⌝ }
-    ensures { λ r. ⌜ r ≡ turnedRedoing (lookAtFound found [] (length (own (found .number) (take used journal)) - found .seat .standing)) ⌝ }
+    ensures { λ r. ⌜ r ≡ turnedRedoing (lookAtFound found [] (takenBackCount (found .state) (own (found .seat) (take used journal)))) ⌝ }
 {
     let verdict = turned_naming(found);
     if !refusal::is_accepted(verdict) {
         return verdict;
     }
-    let seat = found.seat;
-    let owned = journal::count_of(journal, used, found.number);
-    if owned <= seat.standing {
+    let s = found.state;
+    let taken_back = seats::taken_back_count(s, journal, used, found.seat);
+    if taken_back == 0 {
         Verdict::NothingTakenBack
     } else {
         Verdict::Accepted
@@ -179,11 +180,11 @@ fn turned_opening(found: Found, seats: [Seat; SEATS], job: u16) -> Verdict
     if found.broken {
         return Verdict::DeskBroken;
     }
-    if SEATS <= found.number {
+    if SEATS <= found.seat {
         return Verdict::SeatAbove;
     }
-    let seat = found.seat;
-    if seat.opened {
+    let s = found.state;
+    if s.opened {
         return Verdict::OpenAlready;
     }
     if job == 0 {
@@ -199,27 +200,27 @@ fn turned_opening(found: Found, seats: [Seat; SEATS], job: u16) -> Verdict
 
 // Opening: 28, 1, 3, 4, 5, then what reading the map says, 13, 14 or 15; and the pins, where none applies.
 pub fn map_read(found: Found, seats: [Seat; SEATS], job: u16, map: &[u8]) -> Reading
-    ensures { λ r. ⌜ r ≡ readingIn found (jobsIn seats) job (now (map .entry)) ⌝ }
+    ensures { λ r. ⌜ r ≡ mapRead (lookAtFound found (jobsIn seats) 0) job (now (map .entry)) ⌝ }
 {
     let verdict = turned_opening(found, seats, job);
     if refusal::is_accepted(verdict) {
         pinmap::read_map(map, job)
     } else {
-        let pins = pinmap::no_pins();
+        let pins = drawing::no_pins();
         Reading { verdict, pins }
     }
 }
 
 // Writing: 28, 1, 2, 19; the map into the lent buffer, and the number of bytes, where none applies.
 pub fn map_written(found: Found, buffer: &mut [u8]) -> Writing
-    ensures { λ r. ⌜ r ≡ writingIn found (now (buffer .entry)) ⌝ }
-    ensures { λ _. ⌜ now (buffer .exit) ≡ bufferIn found (now (buffer .entry)) ⌝ }
+    ensures { λ r. ⌜ r ≡ mapWritten (lookAtFound found [] 0) (now (buffer .entry)) ⌝ }
+    ensures { λ _. ⌜ now (buffer .exit) ≡ bufferWritten (lookAtFound found [] 0) (now (buffer .entry)) ⌝ }
 {
     let verdict = turned_naming(found);
     if refusal::is_accepted(verdict) {
-        let seat = found.seat;
-        let pins = seat.pins;
-        pinmap::write_map(pins, seat.job, buffer)
+        let s = found.state;
+        let pins = s.pins;
+        pinmap::write_map(pins, s.job, buffer)
     } else {
         Writing { verdict, bytes: 0 }
     }
@@ -227,13 +228,13 @@ pub fn map_written(found: Found, buffer: &mut [u8]) -> Writing
 
 // Wiring a seat, with room for so many legs: 28, 1, 2, then what wiring the drawing's feed answers, 17, 18 or 19 among it.
 pub fn feed_wired(found: Found, room: usize) -> Laid
-    requires { ⌜ (found .broken ≡ false → found .seat .opened ≡ true → lawful (found .seat .pins) ≡ true) ⌝ }
-    ensures { λ r. ⌜ r ≡ laidIn found room ⌝ }
+    requires { ⌜ (found .broken ≡ false → found .state .opened ≡ true → lawful (found .state .pins) ≡ true) ⌝ }
+    ensures { λ r. ⌜ r ≡ feedWired (lookAtFound found [] 0) room ⌝ }
 {
     let verdict = turned_naming(found);
     if refusal::is_accepted(verdict) {
-        let seat = found.seat;
-        let pins = seat.pins;
+        let s = found.state;
+        let pins = s.pins;
         let feed = drawing::feed_of(pins);
         wiring::wire_feed(feed, room)
     } else {

@@ -10,38 +10,38 @@ use lib.ListN.{length, take, getD}
 use lib.Seq.{length-take-le}
 use borrow.Author.Tests.{eq-eqb, ne-eqb, lt-ltb, le-ltb}
 use Rattle.refusal.specs.Tests.{both, either, choose}
-use Rattle.refusal.proofs.Tests.{opposite, fails-if, both-no, both-yes, choose-yes, choose-no}
+use Rattle.refusal.proofs.Tests.{opposite, fails-if, both-no, both-yes, choose-yes, choose-no, choose-same}
 use Rattle.grid.specs.declared.Place.{Place}
-use Rattle.script.specs.Text.{text, same, over}
-use Rattle.script.specs.Numbers.{mostNumber, mostJob, valueOf, isNumber, numberOf, isCoordinate, signed, listed, isList, bytesOf, isMap}
-use Rattle.script.specs.Orders.{mostLine, mostRoom, mostLegsLent, only, seatCall, pairCall, isOpenCall, isBareCall, openCall, bareCall, lentCall, isPlacing, placeRead, placingOf, placeCall, callOf, isSkipped, asked, isLong, orderOf, mapIn, listIn, mapAsked, listAsked, mapGiven, xsGiven, ysGiven}
-use Rattle.script.specs.Words.{hash, endOf, withoutReturn, wordsOf, word, partOf, cutOf}
-use Rattle.script.specs.declared.Cut.{Cut}
+use Rattle.text.specs.Text.{text, same, over}
+use Rattle.text.specs.Numbers.{mostNumber, mostJob, valueOf, isNumber, numberOf, isCoordinate, signed, listed, isList, bytesOf, isMap}
+use Rattle.script.specs.Said.{mostLine, mostRoom, mostLegsLent, only, seatCall, pairCall, isOpenCall, isBareCall, openCall, bareCall, lentCall, isPlacing, placeRead, placingOf, placeCall, callOf, isSkipped, asked, isLong, saidBy, mapIn, listIn, mapAsked, listAsked, mapGiven, xsGiven, ysGiven}
+use Rattle.text.specs.Words.{hash, endOf, withoutReturn, wordsOf, word, partOf, cutOf}
+use Rattle.text.specs.declared.Cut.{Cut}
 use Rattle.grid.proofs.Signed.{eqb-same}
-use Rattle.script.proofs.Steps.{picked, unpicked, over-none, over-as}
-use Rattle.script.proofs.Cutting.{word-is, same-is}
-use Rattle.script.specs.declared.Number.{Number}
+use Rattle.text.proofs.Steps.{picked, unpicked, over-none, over-as}
+use Rattle.text.proofs.Cutting.{word-is, same-is}
+use Rattle.text.specs.declared.Number.{Number}
 use Rattle.script.specs.declared.Placing.{Placing}
-use Rattle.script.specs.declared.Order.{Order}
-use Rattle.script.proofs.Values.{number-read, number-unread}
+use Rattle.script.specs.declared.Said.{Said}
+use Rattle.text.proofs.Values.{number-read, number-unread}
 
 -- In a row of calls, the one whose test holds is what is asked for,
-row-yes : {t : Bool} {o p : Order} (q : Order) → t ≡ true → o ≡ p → o ≡ choose t p q
+row-yes : {t : Bool} {o p : Said} (q : Said) → t ≡ true → o ≡ p → o ≡ choose t p q
 row-yes q h e = e ∙ sym (choose-yes _ q h)
 
 -- and one whose test fails leaves it to those after it.
-row-no : {t : Bool} {o q : Order} (p : Order) → t ≡ false → o ≡ q → o ≡ choose t p q
+row-no : {t : Bool} {o q : Said} (p : Said) → t ≡ false → o ≡ q → o ≡ choose t p q
 row-no p h e = e ∙ sym (choose-no p _ h)
 
 -- Words that do not pass are not a call,
-pub only-no : {t : Bool} (o : Order) → t ≡ false → Order.NotACall ≡ only t o
+pub only-no : {t : Bool} (o : Said) → t ≡ false → Said.NotACall ≡ only t o
 unfolding only
 only-no o h = row-no o h refl
 
 -- and words that pass are the call that they ask for.
-pub only-yes : {t : Bool} {o p : Order} → t ≡ true → o ≡ p → o ≡ only t p
+pub only-yes : {t : Bool} {o p : Said} → t ≡ true → o ≡ p → o ≡ only t p
 unfolding only
-only-yes h e = row-yes Order.NotACall h e
+only-yes h e = row-yes Said.NotACall h e
 
 -- Where the first of two tests holds, the second decides.
 both-by : {a b t : Bool} → a ≡ true → b ≡ t → both a b ≡ t
@@ -50,7 +50,7 @@ both-by h e = both-yes _ h ∙ e
 -- Calls of two words.
 module _ (name a : List ℕ) where
   -- A second word that is no number makes no call;
-  pub seat-unread : Number.NotOne ≡ numberOf mostNumber a → Order.NotACall ≡ seatCall name a
+  pub seat-unread : Number.NotOne ≡ numberOf mostNumber a → Said.NotACall ≡ seatCall name a
   unfolding seatCall
   seat-unread e = only-no _ (number-unread mostNumber a e)
 
@@ -62,67 +62,67 @@ module _ (name a : List ℕ) where
     value = number-read mostNumber a e .1
 
     -- else the name says which call on that seat: close,
-    pub seat-close : same name (text "close") ≡ true → Order.Close s ≡ seatCall name a
+    pub seat-close : same name (text "close") ≡ true → Said.Close s ≡ seatCall name a
     unfolding seatCall
-    seat-close h = only-yes given (row-yes _ h (ap Order.Close value))
+    seat-close h = only-yes given (row-yes _ h (ap Said.Close value))
 
     -- undo,
-    pub seat-undo : same name (text "close") ≡ false → same name (text "undo") ≡ true → Order.Undo s ≡ seatCall name a
+    pub seat-undo : same name (text "close") ≡ false → same name (text "undo") ≡ true → Said.Undo s ≡ seatCall name a
     unfolding seatCall
-    seat-undo h k = only-yes given (row-no _ h (row-yes _ k (ap Order.Undo value)))
+    seat-undo h k = only-yes given (row-no _ h (row-yes _ k (ap Said.Undo value)))
 
     -- redo
     pub seat-redo : same name (text "close") ≡ false → same name (text "undo") ≡ false → same name (text "redo") ≡ true
-        → Order.Redo s ≡ seatCall name a
+        → Said.Redo s ≡ seatCall name a
     unfolding seatCall
-    seat-redo h k l = only-yes given (row-no _ h (row-no _ k (row-yes _ l (ap Order.Redo value))))
+    seat-redo h k l = only-yes given (row-no _ h (row-no _ k (row-yes _ l (ap Said.Redo value))))
 
     -- or pins;
     pub seat-pins : same name (text "close") ≡ false → same name (text "undo") ≡ false → same name (text "redo") ≡ false
-        → same name (text "pins") ≡ true → Order.Pins s ≡ seatCall name a
+        → same name (text "pins") ≡ true → Said.Pins s ≡ seatCall name a
     unfolding seatCall
-    seat-pins h k l m = only-yes given (row-no _ h (row-no _ k (row-no _ l (row-yes _ m (ap Order.Pins value)))))
+    seat-pins h k l m = only-yes given (row-no _ h (row-no _ k (row-no _ l (row-yes _ m (ap Said.Pins value)))))
 
     -- any other name makes no call.
     pub seat-none : same name (text "close") ≡ false → same name (text "undo") ≡ false → same name (text "redo") ≡ false
-        → same name (text "pins") ≡ false → Order.NotACall ≡ seatCall name a
+        → same name (text "pins") ≡ false → Said.NotACall ≡ seatCall name a
     unfolding seatCall
     seat-none h k l m = only-yes given (row-no _ h (row-no _ k (row-no _ l (row-no _ m refl))))
 
 -- Calls of three words.
 module _ (name a b : List ℕ) where
   -- A second word that is no number makes no call;
-  pub pair-unread : Number.NotOne ≡ numberOf mostNumber a → Order.NotACall ≡ pairCall name a b
+  pub pair-unread : Number.NotOne ≡ numberOf mostNumber a → Said.NotACall ≡ pairCall name a b
   unfolding pairCall
   pair-unread e = only-no _ (number-unread mostNumber a e)
 
-  module _ {s : ℕ} (e : Number.Of s ≡ numberOf mostNumber a) {o : Order} where
+  module _ {s : ℕ} (e : Number.Of s ≡ numberOf mostNumber a) {o : Said} where
     -- else the name says which, and the third word is judged for it: remove asks for a pin,
-    pub pair-remove : same name (text "remove") ≡ true → o ≡ only (isNumber mostNumber b) (Order.Remove s (valueOf b)) → o ≡ pairCall name a b
+    pub pair-remove : same name (text "remove") ≡ true → o ≡ only (isNumber mostNumber b) (Said.Remove s (valueOf b)) → o ≡ pairCall name a b
     unfolding pairCall
     pair-remove h k =
         only-yes (number-read mostNumber a e .0)
-        (row-yes _ h (k ∙ ap (λ (n : ℕ). only (isNumber mostNumber b) (Order.Remove n (valueOf b))) (number-read mostNumber a e .1)))
+        (row-yes _ h (k ∙ ap (λ (n : ℕ). only (isNumber mostNumber b) (Said.Remove n (valueOf b))) (number-read mostNumber a e .1)))
 
     -- write for a room in bytes,
     pub pair-write : same name (text "remove") ≡ false → same name (text "write") ≡ true
-        → o ≡ only (isNumber mostRoom b) (Order.Write s (valueOf b)) → o ≡ pairCall name a b
+        → o ≡ only (isNumber mostRoom b) (Said.Write s (valueOf b)) → o ≡ pairCall name a b
     unfolding pairCall
     pair-write h i k =
         only-yes (number-read mostNumber a e .0)
-        (row-no _ h (row-yes _ i (k ∙ ap (λ (n : ℕ). only (isNumber mostRoom b) (Order.Write n (valueOf b))) (number-read mostNumber a e .1))))
+        (row-no _ h (row-yes _ i (k ∙ ap (λ (n : ℕ). only (isNumber mostRoom b) (Said.Write n (valueOf b))) (number-read mostNumber a e .1))))
 
     -- wire for a room in legs;
     pub pair-wire : same name (text "remove") ≡ false → same name (text "write") ≡ false → same name (text "wire") ≡ true
-        → o ≡ only (isNumber mostLegsLent b) (Order.Wire s (valueOf b)) → o ≡ pairCall name a b
+        → o ≡ only (isNumber mostLegsLent b) (Said.Wire s (valueOf b)) → o ≡ pairCall name a b
     unfolding pairCall
     pair-wire h i j k =
         only-yes (number-read mostNumber a e .0)
-        (row-no _ h (row-no _ i (row-yes _ j (k ∙ ap (λ (n : ℕ). only (isNumber mostLegsLent b) (Order.Wire n (valueOf b))) (number-read mostNumber a e .1)))))
+        (row-no _ h (row-no _ i (row-yes _ j (k ∙ ap (λ (n : ℕ). only (isNumber mostLegsLent b) (Said.Wire n (valueOf b))) (number-read mostNumber a e .1)))))
 
   -- any other name makes no call.
   pub pair-none : {s : ℕ} → Number.Of s ≡ numberOf mostNumber a → same name (text "remove") ≡ false
-      → same name (text "write") ≡ false → same name (text "wire") ≡ false → Order.NotACall ≡ pairCall name a b
+      → same name (text "write") ≡ false → same name (text "wire") ≡ false → Said.NotACall ≡ pairCall name a b
   unfolding pairCall
   pair-none e h i j = only-yes (number-read mostNumber a e .0) (row-no _ h (row-no _ i (row-no _ j refl)))
 
@@ -137,7 +137,7 @@ filled-by new old h e = over-as old (sym (choose-yes new [] h)) e
 -- open SEAT JOB MAP
 module _ (a b c : List ℕ) where
   -- Words that are no seat, job and map make no call:
-  pub open-no : isOpenCall a b c ≡ false → Order.NotACall ≡ openCall a b c
+  pub open-no : isOpenCall a b c ≡ false → Said.NotACall ≡ openCall a b c
   unfolding openCall
   open-no h = only-no _ h
 
@@ -159,16 +159,16 @@ module _ (a b c : List ℕ) where
       open-map h = both-by (number-read mostNumber a e .0) (both-by (number-read mostJob b f .0) h)
 
       -- and with a map they open the seat for the job, with the bytes of the map counted.
-      pub open-yes : {n : ℕ} → isMap c ≡ true → n ≡ length (bytesOf c) → Order.Open s j n ≡ openCall a b c
+      pub open-yes : {n : ℕ} → isMap c ≡ true → n ≡ length (bytesOf c) → Said.Open s j n ≡ openCall a b c
       unfolding openCall
       open-yes {n} h k =
           only-yes (open-map h)
-          (λ i. Order.Open (number-read mostNumber a e .1 i) (number-read mostJob b f .1 i) (k i))
+          (λ i. Said.Open (number-read mostNumber a e .1 i) (number-read mostJob b f .1 i) (k i))
 
 -- bare ROOM XS YS
 module _ (a b c : List ℕ) where
   -- Words that are no room and two lists make no call:
-  pub bare-no : isBareCall a b c ≡ false → Order.NotACall ≡ bareCall a b c
+  pub bare-no : isBareCall a b c ≡ false → Said.NotACall ≡ bareCall a b c
   unfolding bareCall
   bare-no h = only-no _ h
 
@@ -189,9 +189,9 @@ module _ (a b c : List ℕ) where
     bare-up h k = both-by (number-read mostLegsLent a e .0) (both-by h k)
 
     -- and with both lists they wire them bare, each list with its numbers counted.
-    pub bare-yes : {m n : ℕ} → isList b ≡ true → isList c ≡ true → m ≡ length (listed b) → n ≡ length (listed c) → Order.Bare s m n ≡ bareCall a b c
+    pub bare-yes : {m n : ℕ} → isList b ≡ true → isList c ≡ true → m ≡ length (listed b) → n ≡ length (listed c) → Said.Bare s m n ≡ bareCall a b c
     unfolding bareCall
-    bare-yes h k p q = only-yes (bare-up h k) (λ i. Order.Bare (number-read mostLegsLent a e .1 i) (p i) (q i))
+    bare-yes h k p q = only-yes (bare-up h k) (λ i. Said.Bare (number-read mostLegsLent a e .1 i) (p i) (q i))
 
 -- SEAT PIN X Y
 module _ (a b c d : List ℕ) where
@@ -248,27 +248,27 @@ module _ (a b c d : List ℕ) where
 -- Calls of five words.
 module _ (name a b c d : List ℕ) where
   -- Words that are no seat, pin and place make no call;
-  pub place-unread : Placing.Unread ≡ placingOf a b c d → Order.NotACall ≡ placeCall name a b c d
+  pub place-unread : Placing.Unread ≡ placingOf a b c d → Said.NotACall ≡ placeCall name a b c d
   unfolding placeCall
   place-unread e = only-no _ (placing-unread a b c d e)
 
   module _ {s p : ℕ} {at : Place} (e : Placing.Of s p at ≡ placingOf a b c d) where
     -- else the name says which: place
-    pub place-place : same name (text "place") ≡ true → Order.Place s p at ≡ placeCall name a b c d
+    pub place-place : same name (text "place") ≡ true → Said.Place s p at ≡ placeCall name a b c d
     unfolding placeCall
     place-place h =
         only-yes (placing-read a b c d e .0)
-        (row-yes _ h (λ i. Order.Place (placing-read a b c d e .1 i) (placing-read a b c d e .2 i) (placing-read a b c d e .3 i)))
+        (row-yes _ h (λ i. Said.Place (placing-read a b c d e .1 i) (placing-read a b c d e .2 i) (placing-read a b c d e .3 i)))
 
     -- or move;
-    pub place-move : same name (text "place") ≡ false → same name (text "move") ≡ true → Order.Move s p at ≡ placeCall name a b c d
+    pub place-move : same name (text "place") ≡ false → same name (text "move") ≡ true → Said.Move s p at ≡ placeCall name a b c d
     unfolding placeCall
     place-move h k =
         only-yes (placing-read a b c d e .0)
-        (row-no _ h (row-yes _ k (λ i. Order.Move (placing-read a b c d e .1 i) (placing-read a b c d e .2 i) (placing-read a b c d e .3 i))))
+        (row-no _ h (row-yes _ k (λ i. Said.Move (placing-read a b c d e .1 i) (placing-read a b c d e .2 i) (placing-read a b c d e .3 i))))
 
     -- any other name makes no call.
-    pub place-none : same name (text "place") ≡ false → same name (text "move") ≡ false → Order.NotACall ≡ placeCall name a b c d
+    pub place-none : same name (text "place") ≡ false → same name (text "move") ≡ false → Said.NotACall ≡ placeCall name a b c d
     unfolding placeCall
     place-none h k = only-yes (placing-read a b c d e .0) (row-no _ h (row-no _ k refl))
 
@@ -299,17 +299,17 @@ skipped-other w h = (differs w (text "open") h refl, differs w (text "bare") h r
 -- Calls of four words, and what they put into the buffers.
 module _ (name a b c : List ℕ) where
   -- Four words are an opening where the name is open,
-  pub lent-open : {o : Order} → same name (text "open") ≡ true → o ≡ openCall a b c → o ≡ lentCall name a b c
+  pub lent-open : {o : Said} → same name (text "open") ≡ true → o ≡ openCall a b c → o ≡ lentCall name a b c
   unfolding lentCall
   lent-open h e = row-yes _ h e
 
   -- a bare wiring where it is bare,
-  pub lent-bare : {o : Order} → same name (text "open") ≡ false → same name (text "bare") ≡ true → o ≡ bareCall a b c → o ≡ lentCall name a b c
+  pub lent-bare : {o : Said} → same name (text "open") ≡ false → same name (text "bare") ≡ true → o ≡ bareCall a b c → o ≡ lentCall name a b c
   unfolding lentCall
   lent-bare h k e = row-no _ h (row-yes _ k e)
 
   -- and no call where it is neither.
-  pub lent-none : same name (text "open") ≡ false → same name (text "bare") ≡ false → Order.NotACall ≡ lentCall name a b c
+  pub lent-none : same name (text "open") ≡ false → same name (text "bare") ≡ false → Said.NotACall ≡ lentCall name a b c
   unfolding lentCall
   lent-none h k = row-no _ h (row-no _ k refl)
 
@@ -334,7 +334,7 @@ module _ (name a b c : List ℕ) where
   list-other l h = rw h
 
 -- A call by the number of its words.
-module _ (n : ℕ) (name a b c d : List ℕ) {o : Order} where
+module _ (n : ℕ) (name a b c d : List ℕ) {o : Said} where
   -- Two words are a call on a seat,
   pub call-two : n ≡ 2 → o ≡ seatCall name a → o ≡ callOf n name a b c d
   unfolding callOf
@@ -358,7 +358,7 @@ module _ (n : ℕ) (name a b c d : List ℕ) {o : Order} where
       (row-no _ (ne-eqb n 3 (λ q. omega arith)) (row-no _ (ne-eqb n 4 (λ q. omega arith)) (row-yes _ (eq-eqb n 5 h) e)))
 
 -- and fewer or more are no call.
-pub call-none : (n : ℕ) (name a b c d : List ℕ) → (n ≡ 2 → ⊥) → (n ≡ 3 → ⊥) → (n ≡ 4 → ⊥) → (n ≡ 5 → ⊥) → Order.NotACall ≡ callOf n name a b c d
+pub call-none : (n : ℕ) (name a b c d : List ℕ) → (n ≡ 2 → ⊥) → (n ≡ 3 → ⊥) → (n ≡ 4 → ⊥) → (n ≡ 5 → ⊥) → Said.NotACall ≡ callOf n name a b c d
 unfolding callOf
 call-none n name a b c d h i j k =
     row-no _ (ne-eqb n 2 h) (row-no _ (ne-eqb n 3 i) (row-no _ (ne-eqb n 4 j) (row-no _ (ne-eqb n 5 k) refl)))
@@ -395,7 +395,7 @@ module _ (t : List ℕ) {words : Cut} (h : words ≡ cutOf t) {p q r s u : List 
       rw (← is0, ← is1, ← is2, ← is3, ← is4, e, tells 2 (omega arith), tells 3 (omega arith), tells 4 (omega arith), tells 5 (omega arith))
 
   -- a line that is not skipped asks for the call of its words,
-  pub asked-call : {o : Order} → isSkipped p ≡ false → o ≡ callOf (words .count) p q r s u → o ≡ asked (wordsOf t)
+  pub asked-call : {o : Said} → isSkipped p ≡ false → o ≡ callOf (words .count) p q r s u → o ≡ asked (wordsOf t)
   asked-call e k = k ∙ called e
 
   -- its map is that of its fourth word where it has four,
@@ -413,12 +413,6 @@ module _ (t : List ℕ) {words : Cut} (h : words ≡ cutOf t) {p q r s u : List 
   unfolding listAsked
   asked-up = rw (← is0, ← is1, ← is2, ← is3, tells 4 (omega arith))
 
--- A choice between a list and itself.
-either-way : {A : Type 0} (b : Bool) (l : List A) → choose b l l ≡ l
-unfolding choose
-either-way true l = refl
-either-way false l = refl
-
 -- A line whose first word says so is skipped:
 module _ (t : List ℕ) {words : Cut} (h : words ≡ cutOf t) {p : List ℕ} (hp : p ≡ partOf t (words .name)) (e : isSkipped p ≡ true) where
   first-is : p ≡ word 0 (wordsOf t)
@@ -428,7 +422,7 @@ module _ (t : List ℕ) {words : Cut} (h : words ≡ cutOf t) {p : List ℕ} (hp
   first-skipped = sym (ap isSkipped first-is) ∙ e
 
   -- it asks for nothing,
-  pub skip-call : Order.Skip ≡ asked (wordsOf t)
+  pub skip-call : Said.Skip ≡ asked (wordsOf t)
   unfolding asked choose
   skip-call = rw first-skipped
 
@@ -436,14 +430,14 @@ module _ (t : List ℕ) {words : Cut} (h : words ≡ cutOf t) {p : List ℕ} (hp
   pub skip-map : [] ≡ mapAsked (wordsOf t)
   unfolding mapAsked
   skip-map =
-      sym (either-way (eqb (length (wordsOf t)) 4) [])
+      sym (choose-same (eqb (length (wordsOf t)) 4) [])
       ∙ ap (λ (l : List ℕ). choose (eqb (length (wordsOf t)) 4) l []) (map-other _ _ _ _ (skipped-other _ first-skipped .0))
 
   -- and it has no list.
   pub skip-list : (k : ℕ) → [] ≡ listAsked k (wordsOf t)
   unfolding listAsked
   skip-list k =
-      sym (either-way (eqb (length (wordsOf t)) 4) [])
+      sym (choose-same (eqb (length (wordsOf t)) 4) [])
       ∙ ap (λ (l : List ℤ). choose (eqb (length (wordsOf t)) 4) l []) (list-other _ _ _ _ _ (skipped-other _ first-skipped .1))
 
 -- A line ends after its last byte or before it:
@@ -485,9 +479,9 @@ module _ (l : List ℕ) {end : ℕ} (h : end ≡ endOf l) where
   text-whole = sym (length-take-le end l (omega (arith, end-within l)))
 
   -- What is too long is no call,
-  pub long-order : mostLine < end → Order.NotACall ≡ orderOf l
-  unfolding orderOf choose
-  long-order k = rw (long k)
+  pub long-said : mostLine < end → Said.NotACall ≡ saidBy l
+  unfolding saidBy choose
+  long-said k = rw (long k)
 
   -- has no map,
   pub long-map : mostLine < end → [] ≡ mapGiven l
@@ -505,9 +499,9 @@ module _ (l : List ℕ) {end : ℕ} (h : end ≡ endOf l) where
   long-up k = rw (long k)
 
   -- What is not too long gives the call of its words,
-  pub line-order : {o : Order} → end ≤ mostLine → o ≡ asked (wordsOf (take end l)) → o ≡ orderOf l
-  unfolding orderOf choose
-  line-order k e = rw (short k) (e ∙ ap (λ (t : List ℕ). asked (wordsOf t)) text-is)
+  pub line-said : {o : Said} → end ≤ mostLine → o ≡ asked (wordsOf (take end l)) → o ≡ saidBy l
+  unfolding saidBy choose
+  line-said k e = rw (short k) (e ∙ ap (λ (t : List ℕ). asked (wordsOf t)) text-is)
 
   -- their map,
   pub line-map : end ≤ mostLine → mapAsked (wordsOf (take end l)) ≡ mapGiven l

@@ -6,10 +6,10 @@ use Prim.Native.Nat.{ℕ, _+_, _-_, _≤_, _<_, min}
 use native.Mathlib.Omega.{arith}
 use lib.ListN.{length, take, drop, length-append, length-take}
 use lib.Seq.{take-all, length-take-le, take-at, take-append-add, sets, sets-eq}
-use Rattle.script.specs.Words.{endOf}
-use Rattle.script.specs.Orders.{mostLine, mostKept, orderOf, mapGiven, xsGiven, ysGiven}
+use Rattle.text.specs.Words.{endOf}
+use Rattle.script.specs.Said.{mostLine, mostKept, saidBy, mapGiven, xsGiven, ysGiven}
 use Rattle.grid.proofs.Flat.{order}
-use Rattle.script.proofs.Asking.{end-from, long-order, long-map, long-across, long-up}
+use Rattle.script.proofs.Asking.{end-from, long-said, long-map, long-across, long-up}
 
 -- What is the same for all long lines is the same for a line and for what is kept of it:
 clipped : {A : Type 0} (f : List ℕ → A) (z : A) → ((l : List ℕ) → mostLine < endOf l → z ≡ f l) → (l : List ℕ) → f (take mostKept l) ≡ f l
@@ -22,8 +22,8 @@ clipped f z same l = by (order (length l) mostKept)
         ∙ same l (omega (arith, end-from l))
 
 -- what it asks for,
-pub clipped-order : (l : List ℕ) → orderOf (take mostKept l) ≡ orderOf l
-clipped-order l = clipped orderOf _ (λ l h. long-order l refl h) l
+pub clipped-said : (l : List ℕ) → saidBy (take mostKept l) ≡ saidBy l
+clipped-said l = clipped saidBy _ (λ l h. long-said l refl h) l
 
 -- the bytes of its map,
 pub clipped-map : (l : List ℕ) → mapGiven (take mostKept l) ≡ mapGiven l

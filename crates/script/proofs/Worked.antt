@@ -5,80 +5,86 @@ use Prim.Native.String.{String}
 use lib.IntN.{pos, negsuc}
 use lib.ListN.{replicate}
 use Rattle.refusal.specs.Tests.{both, either, choose}
-use Rattle.script.specs.Text.{text, same}
-use Rattle.script.specs.Words.{endOf, beforeFirst, pieces, nonEmpty, wordsOf}
-use Rattle.script.specs.Numbers.{between, allDigits, valueFrom, isNumber, hasMinus, isCoordinate, signed, allCoordinates, listed, isRow, isList, isHex, hexValue, allPairs, bytesOf, isMap}
-use Rattle.script.specs.Orders.{only, seatCall, pairCall, isOpenCall, isBareCall, openCall, bareCall, lentCall, isPlacing, placeCall, callOf, isSkipped, asked, isLong, orderOf}
-use Rattle.script.specs.Answers.{digits, integer, placeText, hexDigit, hex, carriedText, toldLine, verdictLine, hexPart, writtenLine, wiredLine, jobLine, runLine, legLine, closedLine, drawingLine, pinLine, notACallLine}
-use Rattle.script.specs.declared.Order.{Order}
+use Rattle.text.specs.Text.{text, same}
+use Rattle.text.specs.Words.{endOf, beforeFirst, pieces, nonEmpty, wordsOf}
+use Rattle.text.specs.Numbers.{between, allDigits, valueFrom, isNumber, hasMinus, isCoordinate, signed, allCoordinates, listed, isRow, isList, isHex, hexValue, allPairs, bytesOf, isMap}
+use Rattle.script.specs.Said.{only, seatCall, pairCall, isOpenCall, isBareCall, openCall, bareCall, lentCall, isPlacing, placeCall, callOf, isSkipped, asked, isLong, saidBy}
+use Rattle.text.specs.Digits.{digits, integer, placeText, hexDigit, hex}
+use Rattle.script.specs.Answers.{carriedText, toldLine, verdictLine, hexPart, writtenLine, wiredLine, jobLine, runLine, legLine, closedLine, drawingLine, pinLine, notACallLine}
+use Rattle.script.specs.declared.Said.{Said}
 use Rattle.refusal.specs.declared.Verdict.{Verdict}
 
--- The calls that lines ask for.
-unfoldable pub orders : List String → List Order
-orders [] = []
-orders (line ∷ rest) = orderOf (text line) ∷ orders rest
+-- What lines say.
+unfoldable pub saidByEach : List String → List Said
+saidByEach [] = []
+saidByEach (line ∷ rest) = saidBy (text line) ∷ saidByEach rest
 
 -- One line of each kind of call, numbers and words spaced and written in several ways.
 pub each-call :
-    orders
+    saidByEach
     ("open 00 0007 -" ∷ "open 1 9 0009fF" ∷ "close 7" ∷ "  place   0 0 -0 007  " ∷ "move 3 31 -5 12" ∷ "remove 0 4294967295"
     ∷ "undo 0" ∷ "redo 0\r" ∷ "write 1 1024" ∷ "wire 1 64" ∷ "bare 64 0,-0 1,002" ∷ "bare 0 - 5" ∷ "pins 8" ∷ [])
-    ≡ Order.Open 0 7 0
-    ∷ Order.Open 1 9 3
-    ∷ Order.Close 7
-    ∷ Order.Place 0 0 (record { x = pos 0; y = pos 7 })
-    ∷ Order.Move 3 31 (record { x = negsuc 4; y = pos 12 })
-    ∷ Order.Remove 0 4294967295
-    ∷ Order.Undo 0
-    ∷ Order.Redo 0
-    ∷ Order.Write 1 1024
-    ∷ Order.Wire 1 64
-    ∷ Order.Bare 64 2 2
-    ∷ Order.Bare 0 0 1
-    ∷ Order.Pins 8
+    ≡ Said.Open 0 7 0
+    ∷ Said.Open 1 9 3
+    ∷ Said.Close 7
+    ∷ Said.Place 0 0 (record { x = pos 0; y = pos 7 })
+    ∷ Said.Move 3 31 (record { x = negsuc 4; y = pos 12 })
+    ∷ Said.Remove 0 4294967295
+    ∷ Said.Undo 0
+    ∷ Said.Redo 0
+    ∷ Said.Write 1 1024
+    ∷ Said.Wire 1 64
+    ∷ Said.Bare 64 2 2
+    ∷ Said.Bare 0 0 1
+    ∷ Said.Pins 8
     ∷ []
-unfolding orders both either choose same endOf beforeFirst pieces nonEmpty wordsOf between allDigits valueFrom isNumber hasMinus isCoordinate signed allCoordinates listed isRow isList isHex hexValue allPairs bytesOf isMap only seatCall pairCall isOpenCall isBareCall openCall bareCall lentCall isPlacing placeCall callOf isSkipped asked isLong orderOf
+unfolding saidByEach both either choose same endOf beforeFirst pieces nonEmpty wordsOf between allDigits valueFrom isNumber hasMinus isCoordinate signed
+    allCoordinates listed isRow isList isHex hexValue allPairs bytesOf isMap only seatCall pairCall isOpenCall isBareCall openCall bareCall lentCall
+    isPlacing placeCall callOf isSkipped asked isLong saidBy
 each-call = refl
 
 -- What is no call: signs where none may stand, numbers out of range, words missing or over, odd hex digits, lists with a gap.
 pub no-calls :
-    orders
+    saidByEach
     ("place 0 1 +5 0" ∷ "place 0 1 - 0" ∷ "place 0 1 --5 0" ∷ "place -0 1 5 0"
     ∷ "place 0 2 99999999999999999999999999999999 0" ∷ "place 0 2 2147483648 0" ∷ "place 0 2 0 -2147483649"
     ∷ "place 4294967296 2 0 0" ∷ "open 2 65536 -" ∷ "undo 0 # x" ∷ "undo" ∷ "Undo 0" ∷ "\t" ∷ "place\t0 3 0 1"
     ∷ "open 1 9 0009Ff0" ∷ "open 1 9 0g" ∷ "open 1 9 --" ∷ "write 2 1025" ∷ "wire 1 65" ∷ "bare 64 1,,2 1,2,3"
     ∷ "bare 64 1, 2" ∷ "bare 64 , ," ∷ "bare 64 -,1 1,2" ∷ "bare 65 - -" ∷ [])
-    ≡ replicate 24 Order.NotACall
-unfolding orders both either choose same endOf beforeFirst pieces nonEmpty wordsOf between allDigits valueFrom isNumber hasMinus isCoordinate signed allCoordinates listed isRow isList isHex hexValue allPairs bytesOf isMap only seatCall pairCall isOpenCall isBareCall openCall bareCall lentCall isPlacing placeCall callOf isSkipped asked isLong orderOf
+    ≡ replicate 24 Said.NotACall
+unfolding saidByEach both either choose same endOf beforeFirst pieces nonEmpty wordsOf between allDigits valueFrom isNumber hasMinus isCoordinate signed
+    allCoordinates listed isRow isList isHex hexValue allPairs bytesOf isMap only seatCall pairCall isOpenCall isBareCall openCall bareCall lentCall
+    isPlacing placeCall callOf isSkipped asked isLong saidBy
 no-calls = refl
 
 -- Lines with no word, and remarks.
 pub skipped :
-    orders
+    saidByEach
     ("" ∷ "   " ∷ "\r" ∷ "# undo 0" ∷ "  #undo 0" ∷ [])
-    ≡ replicate 5 Order.Skip
-unfolding orders either choose endOf beforeFirst pieces nonEmpty wordsOf isSkipped asked isLong orderOf
+    ≡ replicate 5 Said.Skip
+unfolding saidByEach either choose endOf beforeFirst pieces nonEmpty wordsOf isSkipped asked isLong saidBy
 skipped = refl
 
 -- The ends of the ranges, and leading zeros.
 pub edges :
-    orders
+    saidByEach
     ("place 0 1 5 000000000000000000000000000000005" ∷ "place 0 2 -2147483648 2147483647" ∷ "place 4294967295 2 0 0" ∷ [])
-    ≡ Order.Place 0 1 (record { x = pos 5; y = pos 5 })
-    ∷ Order.Place 0 2 (record { x = negsuc 2147483647; y = pos 2147483647 })
-    ∷ Order.Place 4294967295 2 (record { x = pos 0; y = pos 0 })
+    ≡ Said.Place 0 1 (record { x = pos 5; y = pos 5 })
+    ∷ Said.Place 0 2 (record { x = negsuc 2147483647; y = pos 2147483647 })
+    ∷ Said.Place 4294967295 2 (record { x = pos 0; y = pos 0 })
     ∷ []
-unfolding orders both either choose same endOf beforeFirst pieces nonEmpty wordsOf between allDigits valueFrom isNumber hasMinus isCoordinate signed only isPlacing placeCall callOf isSkipped asked isLong orderOf
+unfolding saidByEach both either choose same endOf beforeFirst pieces nonEmpty wordsOf between allDigits valueFrom isNumber hasMinus
+    isCoordinate signed only isPlacing placeCall callOf isSkipped asked isLong saidBy
 edges = refl
 
 -- A call on a line of 16,384 bytes,
-pub longest : orderOf (text "undo 0" ++ replicate 16378 32) ≡ Order.Undo 0
-unfolding both either choose same endOf beforeFirst pieces nonEmpty wordsOf between allDigits valueFrom isNumber only seatCall callOf isSkipped asked isLong orderOf
+pub longest : saidBy (text "undo 0" ++ replicate 16378 32) ≡ Said.Undo 0
+unfolding both either choose same endOf beforeFirst pieces nonEmpty wordsOf between allDigits valueFrom isNumber only seatCall callOf isSkipped asked isLong saidBy
 longest = refl
 
 -- and one byte more, which is not a call.
-pub too-long : orderOf (text "undo 0" ++ replicate 16379 32) ≡ Order.NotACall
-unfolding choose endOf isLong orderOf
+pub too-long : saidBy (text "undo 0" ++ replicate 16379 32) ≡ Said.NotACall
+unfolding choose endOf isLong saidBy
 too-long = refl
 
 -- Answers of each kind.
@@ -87,7 +93,8 @@ pub printed :
     ++ writtenLine 12 (0 ∷ 9 ∷ 255 ∷ 238 ∷ []) ++ wiredLine 80000 1 2 4 ++ jobLine 7 8 2 5 ++ runLine 0 31 (text "lower")
     ++ legLine (record { x = negsuc 19999; y = pos 0 }) (record { x = pos 2147483647; y = negsuc 2147483647 }) ++ closedLine
     ++ drawingLine 65535 32 0 256 ++ pinLine 31 (record { x = pos 10; y = negsuc 0 })
-    ≡ text
-    "line 5: not a call\n0\nrefused 13\nrefused 14 record 2\n0 0\n0 12 0009ffee\n0 length 80000 runs 1 legs 2 weighed 4\njob 7 length 8 runs 2 weighed 5\n0 31 lower\nleg -20000 0 2147483647 -2147483648\nclosed\njob 65535 pins 32 standing 0 taken 256\npin 31 10 -1\n"
+    ≡ text "line 5: not a call\n0\nrefused 13\nrefused 14 record 2\n0 0\n0 12 0009ffee\n0 length 80000 runs 1 legs 2 weighed 4\n"
+    ++ text "job 7 length 8 runs 2 weighed 5\n0 31 lower\nleg -20000 0 2147483647 -2147483648\nclosed\n"
+    ++ text "job 65535 pins 32 standing 0 taken 256\npin 31 10 -1\n"
 unfolding choose digits integer placeText hexDigit hex carriedText toldLine hexPart writtenLine wiredLine jobLine runLine legLine drawingLine pinLine notACallLine
 printed = refl

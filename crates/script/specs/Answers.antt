@@ -1,10 +1,7 @@
--- How answers are printed: numbers, and each line with its newline.
+-- How answers are printed: each line with its newline.
 use mathlib.Core.List.{List, [], _∷_, _++_}
-use Prim.Native.Nat.{ℕ, zero, suc, _+_, _/_, _%_}
-use Prim.Native.String.{String}
-use lib.IntN.{ℤ, pos, natAbs}
-use lib.Signed.{ltZ}
-use lib.Dec.{ltb, eqb}
+use Prim.Native.Nat.{ℕ}
+use lib.Dec.{eqb}
 use lib.ListN.{take}
 use Rattle.refusal.specs.Tests.{choose}
 use Rattle.refusal.specs.Refusals.{toldOf}
@@ -13,38 +10,41 @@ use Rattle.refusal.specs.declared.Carried.{Carried}
 use Rattle.refusal.specs.declared.Carried.the-variants.{Nothing, Record}
 use Rattle.refusal.specs.declared.Told.{Told}
 use Rattle.grid.specs.declared.Place.{Place}
-use Rattle.script.specs.Text.{text}
-use Rattle.script.specs.Orders.{mostRoom}
+use Rattle.text.specs.Text.{text}
+use Rattle.text.specs.Digits.{decimal, field, placeText, hex}
+use Rattle.script.specs.Said.{mostRoom}
 
--- The decimal digits of a number of at most so many digits.
-unfoldable pub digits : ℕ → ℕ → List ℕ
-digits zero n = []
-digits (suc k) n = choose (ltb n 10) ((48 + n) ∷ []) (digits k (n / 10) ++ ((48 + n % 10) ∷ []))
+-- The line of an answer, but that of a writing, has at most so many bytes.
+abbrev pub mostLineBytes : ℕ
+mostLineBytes = 200
 
--- The decimal digits of a number of 64 bits: at most twenty.
-abbrev pub decimal : ℕ → List ℕ
-decimal n = digits 20 n
+-- The labels of such a line have at most so many bytes together.
+abbrev pub mostLabelBytes : ℕ
+mostLabelBytes = 100
 
--- A number with its sign.
-unfoldable pub integer : ℤ → List ℕ
-integer z = choose (ltZ z (pos 0)) (text "-" ++ decimal (natAbs z)) (decimal (natAbs z))
+-- The line of a run has at most so many bytes.
+abbrev pub mostRunBytes : ℕ
+mostRunBytes = 51
 
--- A label and a number after it.
-abbrev pub field : String → ℕ → List ℕ
-field label n = text label ++ decimal n
+-- The word of a shape has at most so many bytes.
+abbrev pub mostShapeBytes : ℕ
+mostShapeBytes = 8
 
--- A label and a place after it: x, a space, y.
-unfoldable pub placeText : List ℕ → Place → List ℕ
-placeText label p = (label ++ integer (p .x)) ++ (text " " ++ integer (p .y))
+-- The line of a leg has at most so many bytes.
+abbrev pub mostLegBytes : ℕ
+mostLegBytes = 92
 
--- A hex digit, in small letters.
-unfoldable pub hexDigit : ℕ → ℕ
-hexDigit d = choose (ltb d 10) (48 + d) (87 + d)
+-- The line of a pin has at most so many bytes.
+abbrev pub mostPinBytes : ℕ
+mostPinBytes = 69
 
--- Two hex digits for each byte.
-unfoldable pub hex : List ℕ → List ℕ
-hex [] = []
-hex (b ∷ rest) = hexDigit (b / 16) ∷ hexDigit (b % 16) ∷ hex rest
+-- What a refusal carries has at most so many bytes.
+abbrev pub mostCarriedBytes : ℕ
+mostCarriedBytes = 30
+
+-- A lent buffer in hex, a space before it, has at most so many bytes.
+abbrev pub mostHexBytes : ℕ
+mostHexBytes = 2049
 
 -- What a refusal carries: nothing, or ` record R`.
 unfoldable pub carriedText : Carried → List ℕ
@@ -80,12 +80,12 @@ fieldsLine label1 number1 label2 number2 label3 number3 label4 number4 =
 -- An accepted wiring: `0 length L runs R legs G weighed W`.
 unfoldable pub wiredLine : ℕ → ℕ → ℕ → ℕ → List ℕ
 wiredLine length runs legs weighed =
-    field "0 length " length ++ field " runs " runs ++ field " legs " legs ++ field " weighed " weighed ++ text "\n"
+    fieldsLine (text "0 length ") length (text " runs ") runs (text " legs ") legs (text " weighed ") weighed
 
 -- An accepted wiring of a map: `job J length L runs R weighed W`.
 unfoldable pub jobLine : ℕ → ℕ → ℕ → ℕ → List ℕ
 jobLine job length runs weighed =
-    field "job " job ++ field " length " length ++ field " runs " runs ++ field " weighed " weighed ++ text "\n"
+    fieldsLine (text "job ") job (text " length ") length (text " runs ") runs (text " weighed ") weighed
 
 -- A run: `near far shape`.
 unfoldable pub runLine : ℕ → ℕ → List ℕ → List ℕ
@@ -102,7 +102,7 @@ closedLine = text "closed\n"
 -- A drawing: `job J pins N standing S taken T`.
 unfoldable pub drawingLine : ℕ → ℕ → ℕ → ℕ → List ℕ
 drawingLine job pins standing taken =
-    field "job " job ++ field " pins " pins ++ field " standing " standing ++ field " taken " taken ++ text "\n"
+    fieldsLine (text "job ") job (text " pins ") pins (text " standing ") standing (text " taken ") taken
 
 -- A pin of a drawing: `pin P X Y`.
 unfoldable pub pinLine : ℕ → Place → List ℕ

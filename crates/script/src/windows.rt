@@ -1,11 +1,11 @@
 // Input of any length taken in window by window: where a line ends in a window, and the line so far kept in a lent buffer.
-use crate::words::stop_at;
+use text::words::stop_at;
 ghost use mathlib.Core.Path.{_≡_};
 ghost use Prim.Native.Nat.{_+_, _-_, _≤_, min};
 ghost use lib.ListN.{length, take};
 ghost use lib.Seq.{sets};
-ghost use Rattle.script.specs.Words.{newline as newlineByte, stopAt};
-ghost use Rattle.script.specs.Orders.{mostKept};
+ghost use Rattle.text.specs.Words.{newline as newlineByte, stopAt};
+ghost use Rattle.script.specs.Said.{mostKept};
 
 // Of a longer line it is enough to keep so many bytes.
 pub const MOST_KEPT: usize = 16386;
@@ -16,7 +16,7 @@ pub fn newline(window: &[u8], at: usize) -> usize
     ensures { λ r. ⌜ r ≡ stopAt newlineByte (now (window .entry)) at ⌝ }
     ensures { λ r. ⌜ (at ≤ r) × (r ≤ length (now (window .entry))) ⌝ }
 {
-    stop_at(window, at, 10)
+    stop_at(window, at, b'\n')
 }
 
 // The smaller of two numbers.

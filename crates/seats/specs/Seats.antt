@@ -1,21 +1,20 @@
 -- Seats: what one is as calls leave it, and the jobs that are open.
 use mathlib.Core.Bool.{Bool, true, false, not}
-use mathlib.Core.List.{List, [], _∷_, map}
+use mathlib.Core.List.{List, [], map}
 use Prim.Native.Nat.{ℕ, _+_, _-_}
 use lib.Dec.{eqb}
-use lib.ListN.{replicate, getD}
-use Rattle.refusal.specs.Tests.{both, either, choose}
+use lib.ListN.{length, getD}
+use Rattle.refusal.specs.Tests.{both, choose, anyOf, noTwo}
 use Rattle.drawing.specs.declared.Pin.{Pin}
 use Rattle.drawing.specs.declared.Edit.{Edit}
-use Rattle.feed.specs.Feeds.{mostPins}
-use Rattle.drawing.specs.Pins.{absent}
+use Rattle.drawing.specs.Pins.{noPins}
 use Rattle.drawing.specs.Edits.{made, unmade}
 use Rattle.journal.specs.Journal.{noEdit}
 use Rattle.seats.specs.declared.Seat.{Seat}
 
 -- A closed seat, as calls leave it.
 abbrev pub closedSeat : Seat
-closedSeat = record { opened = false; job = 0; pins = replicate mostPins absent; standing = 0 }
+closedSeat = record { opened = false; job = 0; pins = noPins; standing = 0 }
 
 -- What a list of seats has past its end.
 abbrev pub noSeat : Seat
@@ -28,6 +27,10 @@ openSeat job l = record { opened = true; job = job; pins = l; standing = 0 }
 -- A seat with other pins and another number of standing edits.
 abbrev pub withPins : Seat → List Pin → ℕ → Seat
 withPins t l n = record { opened = t .opened; job = t .job; pins = l; standing = n }
+
+-- How many of a seat's edits are taken back: all but those that stand.
+abbrev pub takenBackCount : Seat → List Edit → ℕ
+takenBackCount t edits = length edits - t .standing
 
 -- A seat after a new edit, which stands.
 abbrev pub editedSeat : Seat → Edit → Seat
@@ -54,11 +57,9 @@ unfoldable pub sameJob : ℕ → ℕ → Bool
 sameJob i j = both (not (eqb i 0)) (eqb i j)
 
 -- A job is open at one of these seats.
-unfoldable pub jobAmong : ℕ → List ℕ → Bool
-jobAmong j [] = false
-jobAmong j (i ∷ l) = either (sameJob j i) (jobAmong j l)
+abbrev pub jobAmong : ℕ → List ℕ → Bool
+jobAmong j l = anyOf (sameJob j) l
 
 -- No job is repeated.
-unfoldable pub jobsApart : List ℕ → Bool
-jobsApart [] = true
-jobsApart (j ∷ l) = both (not (jobAmong j l)) (jobsApart l)
+abbrev pub jobsApart : List ℕ → Bool
+jobsApart l = noTwo sameJob l

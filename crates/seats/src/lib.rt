@@ -13,7 +13,7 @@ ghost use Rattle.refusal.specs.Tests.{both};
 ghost use Rattle.feed.specs.Feeds.{mostPins};
 ghost use Rattle.drawing.specs.Edits.{pinOf};
 ghost use Rattle.journal.specs.Journal.{mostRecords, mostSeats, noEdit, own, countsOf, seated};
-ghost use Rattle.seats.specs.Seats.{closedSeat, openSeat, editedSeat, undoneSeat, redoneSeat, jobOf, jobsIn, sameJob, jobAmong, jobsApart};
+ghost use Rattle.seats.specs.Seats.{closedSeat, openSeat, takenBackCount, editedSeat, undoneSeat, redoneSeat, jobOf, jobsIn, sameJob, jobAmong, jobsApart};
 ghost use Rattle.seats.specs.Sound.{soundOpen, soundTo, soundAll};
 
 // A seat: whether it is open, and if so its drawing's job and pins, and how many of its edits stand.
@@ -28,8 +28,7 @@ pub struct Seat {
 pub fn closed_seat() -> Seat
     ensures { λ r. ⌜ r ≡ closedSeat ⌝ }
 {
-    let blank = drawing::absent_pin();
-    let pins = [blank; PINS];
+    let pins = drawing::no_pins();
     Seat {
         opened: false,
         job: 0,
@@ -51,10 +50,10 @@ pub fn open_seat(job: u16, pins: [Pin; PINS]) -> Seat
 }
 
 // The job of an open seat, 0 for a closed one.
-fn job_of(seat: Seat) -> u16
-    ensures { λ r. ⌜ r ≡ jobOf seat ⌝ }
+fn job_of(s: Seat) -> u16
+    ensures { λ r. ⌜ r ≡ jobOf s ⌝ }
 {
-    if seat.opened { seat.job } else { 0 }
+    if s.opened { s.job } else { 0 }
 }
 
 // The jobs of the seats.
@@ -71,7 +70,7 @@ pub fn jobs_of(seats: [Seat; SEATS]) -> [u16; SEATS]
     jobs
 }
 
-// Whether two seats are open for one job.
+// Whether two jobs are the same, and not 0, which stands for a closed seat.
 fn same_job(a: u16, b: u16) -> bool
     ensures { λ r. ⌜ r ≡ sameJob a b ⌝ }
 {
@@ -183,18 +182,31 @@ pub fn are_sound(seats: [Seat; SEATS], journal: [Record; RECORDS], used: usize) 
 }
 
 // A seat after a new edit, which stands: its pins with the edit made.
-pub fn edited(seat: Seat, edit: Edit) -> Seat
-    requires { ⌜ (pinOf edit < mostPins) × (seat .standing ≤ mostRecords) ⌝ }
-    ensures { λ r. ⌜ r ≡ editedSeat seat edit ⌝ }
+pub fn edited(s: Seat, edit: Edit) -> Seat
+    requires { ⌜ (pinOf edit < mostPins) × (s .standing ≤ mostRecords) ⌝ }
+    ensures { λ r. ⌜ r ≡ editedSeat s edit ⌝ }
 {
-    let pins = seat.pins;
+    let pins = s.pins;
     let changed = drawing::make(pins, edit);
     Seat {
-        opened: seat.opened,
-        job: seat.job,
+        opened: s.opened,
+        job: s.job,
         pins: changed,
-        standing: seat.standing + 1,
+        standing: s.standing + 1,
     }
+}
+
+// How many of a seat's edits are taken back.
+pub fn taken_back_count(s: Seat, journal: [Record; RECORDS], used: usize, seat: usize) -> usize
+    requires { ⌜ used ≤ mostRecords ⌝ }
+    ensures { λ r. ⌜ r ≡ takenBackCount s (own seat (take used journal)) ⌝ }
+{
+    let standing = s.standing;
+    let owned = journal::count_of(journal, used, seat);
+    if owned <= standing {
+        return 0;
+    }
+    owned - standing
 }
 
 // A seat after undo: its latest standing edit taken back.
@@ -203,8 +215,8 @@ pub fn undone(s: Seat, journal: [Record; RECORDS], used: usize, seat: usize) -> 
     ensures { λ r. ⌜ r ≡ undoneSeat s (own seat (take used journal)) ⌝ }
 {
     let standing = s.standing;
-    let owned = journal::count_of(journal, used, seat);
-    let edit = journal::edit_of(journal, used, seat, owned - standing);
+    let taken_back = taken_back_count(s, journal, used, seat);
+    let edit = journal::edit_of(journal, used, seat, taken_back);
     let pins = s.pins;
     let former = drawing::take_back(pins, edit);
     Seat {
@@ -221,8 +233,8 @@ pub fn redone(s: Seat, journal: [Record; RECORDS], used: usize, seat: usize) -> 
     ensures { λ r. ⌜ r ≡ redoneSeat s (own seat (take used journal)) ⌝ }
 {
     let standing = s.standing;
-    let owned = journal::count_of(journal, used, seat);
-    let edit = journal::edit_of(journal, used, seat, owned - standing - 1);
+    let taken_back = taken_back_count(s, journal, used, seat);
+    let edit = journal::edit_of(journal, used, seat, taken_back - 1);
     let pins = s.pins;
     let remade = drawing::make(pins, edit);
     Seat {

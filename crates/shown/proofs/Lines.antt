@@ -2,22 +2,24 @@
 use mathlib.Core.Path.{_≡_, sym, _∙_, ap}
 use mathlib.Core.Bool.{true, false}
 use mathlib.Core.List.{List, [], _∷_, _++_, append-assoc, append-nil}
-use Prim.Native.Nat.{ℕ, suc, _+_, _<_, min}
-use native.Mathlib.Nat.{add-zero}
+use Prim.Native.Nat.{ℕ, suc, _+_, _≤_, _<_, min}
+use native.Mathlib.Nat.{add-zero, zero-add}
 use native.Mathlib.Omega.{arith}
 use lib.ListN.{length, take, drop, getD}
 use lib.Seq.{length-take-le}
 use Rattle.feed.specs.declared.Spot.{Spot}
 use Rattle.feed.specs.declared.Spot.the-variants.{Absent}
+use Rattle.feed.specs.Feeds.{present}
+use Rattle.refusal.specs.Tests.{choose}
 use Rattle.refusal.specs.Refusals.{accepted}
 use Rattle.refusal.proofs.Tests.{choose-yes, choose-no}
 use Rattle.wiring.specs.declared.Wiring.{Wiring}
 use Rattle.wiring.specs.declared.Laid.{Laid}
-use Rattle.script.specs.Text.{over}
+use Rattle.text.specs.Text.{over, answerBytes, Holds}
 use Rattle.script.specs.Answers.{verdictLine, wiredLine, jobLine}
-use Rattle.script.proofs.Printing.{Put, take-smaller}
-use Rattle.script.proofs.Steps.{front, first-more}
-use Rattle.shown.specs.Shown.{lineForEach, runsText, legsText, spotText, pinsText, counted, pinsThere, wiredText, laidText, jobText, mapText}
+use Rattle.text.proofs.Printing.{Put, take-smaller}
+use Rattle.text.proofs.Steps.{front, first-more}
+use Rattle.shown.specs.Shown.{lineForEach, runsText, legsText, spotText, pinsText, pinsThere, wiredText, laidText, jobText, mapText}
 
 module _ {A : Type 0} where
   -- The text of a list with one element more is one line longer;
@@ -56,29 +58,40 @@ pins-more feed pin h =
     ∙ pins-snoc 0 (take pin feed) (getD feed pin Absent)
     ∙ ap (pinsText 0) (first-more Absent feed pin h)
 
--- One pin more is counted.
-pub count-more : (feed : List Spot) (pin : ℕ) → pin < length feed
-    → pinsThere (drop pin feed) ≡ counted (getD feed pin Absent) + pinsThere (drop (pin + 1) feed)
-unfolding pinsThere
-count-more feed pin h = ap pinsThere (front Absent feed pin h)
+-- A pin that is there is counted,
+pub count-there : (feed : List Spot) (pin : ℕ) → pin < length feed → present (getD feed pin Absent) ≡ true
+    → pinsThere (drop pin feed) ≡ 1 + pinsThere (drop (pin + 1) feed)
+unfolding pinsThere choose
+count-there feed pin h t = ap pinsThere (front Absent feed pin h) ∙ rw t
+
+-- one that is not is not.
+pub count-absent : (feed : List Spot) (pin : ℕ) → pin < length feed → present (getD feed pin Absent) ≡ false
+    → pinsThere (drop pin feed) ≡ pinsThere (drop (pin + 1) feed)
+unfolding pinsThere choose
+count-absent feed pin h t = ap pinsThere (front Absent feed pin h) ∙ rw t (zero-add (pinsThere (drop (pin + 1) feed)))
 
 -- What is printed from the start on, as a piece that others follow.
 pub begun : (o p : List ℕ) {n : ℕ} {v : List ℕ} → n ≡ length p → v ≡ over p o → Put o 0 p n v
 begun o p e f = (omega (arith, e), f)
 
+-- What is printed within fewer bytes is held within the room of an answer, under any name of its text.
+pub held : (before : List ℕ) (most : ℕ) {p q : List ℕ} {n : ℕ} {after : List ℕ} → most ≤ answerBytes → p ≡ q → Holds most p before n after
+    → Holds answerBytes q before n after
+held before most k e h = ((h .0 .0 ∙ ap length e, omega (arith, h .0 .1)), h .1 ∙ ap (λ (t : List ℕ). over t before) e)
+
 -- The answer of a wiring with its legs, where it is refused,
 pub laid-refused : (laid : Laid) → accepted (laid .wiring .verdict) ≡ false → verdictLine (laid .wiring .verdict) ≡ laidText laid
 unfolding laidText
-laid-refused laid h = sym (choose-no (wiredText (laid .wiring) (laid .legs)) (verdictLine (laid .wiring .verdict)) h)
+laid-refused laid h = sym (choose-no (wiredText (laid .wiring) (laid .list)) (verdictLine (laid .wiring .verdict)) h)
 
 -- and where it is accepted.
 pub laid-accepted : (laid : Laid) → accepted (laid .wiring .verdict) ≡ true
-    → wiredLine (laid .wiring .length) (laid .wiring .count) (laid .wiring .legs) (laid .wiring .weighed)
-    ++ runsText (take (laid .wiring .count) (laid .wiring .runs))
-    ++ legsText (take (laid .wiring .legs) (laid .legs))
+    → wiredLine (laid .wiring .length) (laid .wiring .runs) (laid .wiring .legs) (laid .wiring .weighed)
+    ++ runsText (take (laid .wiring .runs) (laid .wiring .entries))
+    ++ legsText (take (laid .wiring .legs) (laid .list))
     ≡ laidText laid
 unfolding laidText wiredText
-laid-accepted laid h = sym (choose-yes (wiredText (laid .wiring) (laid .legs)) (verdictLine (laid .wiring .verdict)) h)
+laid-accepted laid h = sym (choose-yes (wiredText (laid .wiring) (laid .list)) (verdictLine (laid .wiring .verdict)) h)
 
 -- The answer of the wiring of a map, where it is refused,
 pub map-refused : (job : ℕ) (wiring : Wiring) → accepted (wiring .verdict) ≡ false → verdictLine (wiring .verdict) ≡ mapText job wiring
@@ -87,6 +100,6 @@ map-refused job wiring h = sym (choose-no (jobText job wiring) (verdictLine (wir
 
 -- and where it is accepted.
 pub map-accepted : (job : ℕ) (wiring : Wiring) → accepted (wiring .verdict) ≡ true
-    → jobLine job (wiring .length) (wiring .count) (wiring .weighed) ++ runsText (take (wiring .count) (wiring .runs)) ≡ mapText job wiring
+    → jobLine job (wiring .length) (wiring .runs) (wiring .weighed) ++ runsText (take (wiring .runs) (wiring .entries)) ≡ mapText job wiring
 unfolding mapText jobText
 map-accepted job wiring h = sym (choose-yes (jobText job wiring) (verdictLine (wiring .verdict)) h)

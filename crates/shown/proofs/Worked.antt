@@ -2,7 +2,8 @@
 use mathlib.Core.Path.{_≡_, refl}
 use mathlib.Core.List.{List, [], _∷_, _++_}
 use lib.IntN.{pos, negsuc}
-use Rattle.refusal.specs.Tests.{both, either, choose}
+use Rattle.refusal.specs.Tests.{both, either, choose, anyOf, noTwo}
+use Rattle.refusal.specs.Sums.{sum}
 use Rattle.refusal.specs.Refusals.{accepted, turn}
 use Rattle.refusal.specs.declared.Verdict.the-variants.{MapLength, OtherJob}
 use Rattle.feed.specs.declared.Spot.{Spot}
@@ -10,15 +11,16 @@ use Rattle.feed.specs.declared.Spot.the-variants.{Absent, At}
 use Rattle.grid.specs.Place.{difference, larger, sameNumber, isStraight}
 use Rattle.grid.specs.Weight.{distanceOf, weightOf, pairOf, byPart, byNumber, comesBefore}
 use Rattle.tree.specs.Growth.{pairAt, sooner, keptIf, pinsFrom, without, runsFrom, runsBetween, earliest, earliestOf, nextRun, grown, runsAmong, pinsOf, runsOf}
-use Rattle.tree.specs.Boxes.{belowBoth, under, overlap, boxesShare, isEnd, common, clash, clashAny, boxesMeet}
+use Rattle.tree.specs.Boxes.{belowBoth, under, overlap, boxesShare, isEnd, common, clash}
 use Rattle.tree.specs.Bends.{bent, howMany}
 use Rattle.copper.specs.Shapes.{lowerCorner, upperCorner, legsOf}
-use Rattle.copper.specs.Length.{sameStep, stepsAcross, stepsUp, smaller, stepsOf, stepsOfAll, among, different, lengthOf}
+use Rattle.copper.specs.Length.{sameStep, stepsAcross, stepsUp, smaller, stepsOf, stepsOfAll, different, lengthOf}
 use Rattle.wiring.specs.declared.Laid.{Laid}
 use Rattle.wiring.specs.Choices.{bentShapes, shapesOf, withShape, withShapes, choicesOf, legsOfChoice, lengthOfChoice, shortest, shortestOf, bestChoice, weighedAt, weighedOf}
-use Rattle.wiring.specs.Answer.{shapedRuns, runEntries, legEntries, laidWith, turnedAway, answerWith, wiringVerdict, wiringWith, wiringFavouring, wiringOf}
-use Rattle.script.specs.Text.{text}
-use Rattle.script.specs.Answers.{digits, integer, placeText, carriedText, toldLine, wiredLine, jobLine, runLine, legLine, drawingLine, pinLine}
+use Rattle.wiring.specs.Answer.{shapedRuns, runEntries, legEntries, turnedAway, answerWith, wiringVerdict, wiringWith, wiringFavouring, wiringOf}
+use Rattle.text.specs.Text.{text}
+use Rattle.text.specs.Digits.{digits, integer, placeText}
+use Rattle.script.specs.Answers.{carriedText, toldLine, wiredLine, jobLine, runLine, legLine, drawingLine, pinLine}
 use Rattle.shown.specs.Shown.{shapedLine, lineForEach, legText, spotText, pinsText, pinsThere, wiredText, laidText, jobText, mapText, drawnText}
 
 -- W3: (0,0), (4,2), (4,-2).
@@ -27,12 +29,22 @@ w3 = wiringOf (At (record { x = pos 0; y = pos 0 }) ∷ At (record { x = pos 4; 
 
 -- W3 as a map of job 7.
 pub map-of-w3 : mapText 7 (w3 .wiring) ≡ text "job 7 length 8 runs 2 weighed 5\n0 1 lower\n1 2 straight\n"
-unfolding wiringOf wiringFavouring wiringWith wiringVerdict answerWith turnedAway laidWith legEntries runEntries shapedRuns weighedOf weighedAt howMany bent bestChoice shortestOf shortest lengthOfChoice legsOfChoice choicesOf withShapes withShape shapesOf bentShapes lengthOf different among stepsOfAll stepsOf smaller stepsUp stepsAcross sameStep legsOf lowerCorner upperCorner isStraight boxesMeet clashAny clash common isEnd boxesShare overlap under belowBoth runsOf pinsOf runsAmong grown nextRun earliestOf earliest runsBetween runsFrom without pinsFrom keptIf sooner pairAt comesBefore byPart byNumber pairOf weightOf distanceOf difference larger sameNumber accepted turn both either choose digits jobLine runLine shapedLine lineForEach jobText mapText
+unfolding wiringOf wiringFavouring wiringWith wiringVerdict answerWith turnedAway legEntries runEntries shapedRuns weighedOf sum weighedAt
+    howMany bent bestChoice shortestOf shortest lengthOfChoice legsOfChoice choicesOf withShapes withShape shapesOf bentShapes lengthOf different
+    anyOf stepsOfAll stepsOf smaller stepsUp stepsAcross sameStep legsOf lowerCorner upperCorner isStraight noTwo clash common isEnd
+    boxesShare overlap under belowBoth runsOf pinsOf runsAmong grown nextRun earliestOf earliest runsBetween runsFrom without pinsFrom keptIf sooner
+    pairAt comesBefore byPart byNumber pairOf weightOf distanceOf difference larger sameNumber accepted turn both either choose digits jobLine runLine
+    shapedLine lineForEach jobText mapText
 map-of-w3 = refl
 
 -- W3 with its legs.
 pub laid-w3 : laidText w3 ≡ text "0 length 8 runs 2 legs 3 weighed 5\n0 1 lower\n1 2 straight\nleg 0 0 4 0\nleg 4 0 4 2\nleg 4 2 4 -2\n"
-unfolding wiringOf wiringFavouring wiringWith wiringVerdict answerWith turnedAway laidWith legEntries runEntries shapedRuns weighedOf weighedAt howMany bent bestChoice shortestOf shortest lengthOfChoice legsOfChoice choicesOf withShapes withShape shapesOf bentShapes lengthOf different among stepsOfAll stepsOf smaller stepsUp stepsAcross sameStep legsOf lowerCorner upperCorner isStraight boxesMeet clashAny clash common isEnd boxesShare overlap under belowBoth runsOf pinsOf runsAmong grown nextRun earliestOf earliest runsBetween runsFrom without pinsFrom keptIf sooner pairAt comesBefore byPart byNumber pairOf weightOf distanceOf difference larger sameNumber accepted turn both either choose digits integer placeText wiredLine runLine legLine shapedLine lineForEach legText wiredText laidText
+unfolding wiringOf wiringFavouring wiringWith wiringVerdict answerWith turnedAway legEntries runEntries shapedRuns weighedOf sum weighedAt
+    howMany bent bestChoice shortestOf shortest lengthOfChoice legsOfChoice choicesOf withShapes withShape shapesOf bentShapes lengthOf different
+    anyOf stepsOfAll stepsOf smaller stepsUp stepsAcross sameStep legsOf lowerCorner upperCorner isStraight noTwo clash common isEnd
+    boxesShare overlap under belowBoth runsOf pinsOf runsAmong grown nextRun earliestOf earliest runsBetween runsFrom without pinsFrom keptIf sooner
+    pairAt comesBefore byPart byNumber pairOf weightOf distanceOf difference larger sameNumber accepted turn both either choose digits integer
+    placeText wiredLine runLine legLine shapedLine lineForEach legText wiredText laidText
 laid-w3 = refl
 
 -- Refused maps: of a wrong length, and with a record of another job.

@@ -6,13 +6,14 @@ use Rattle.refusal.specs.Tests.{choose}
 use Rattle.refusal.specs.Refusals.{accepted}
 use Rattle.feed.specs.declared.Spot.{Spot}
 use Rattle.feed.specs.declared.Spot.the-variants.{Absent, At}
+use Rattle.feed.specs.Feeds.{present}
 use Rattle.copper.specs.declared.Shape.{Shape}
 use Rattle.copper.specs.declared.Shape.the-variants.{Straight, Lower, Upper}
 use Rattle.copper.specs.declared.Leg.{Leg}
-use Rattle.wiring.specs.declared.Shaped.{Shaped}
+use Rattle.wiring.specs.declared.RunEntry.{RunEntry}
 use Rattle.wiring.specs.declared.Wiring.{Wiring}
 use Rattle.wiring.specs.declared.Laid.{Laid}
-use Rattle.script.specs.Text.{text}
+use Rattle.text.specs.Text.{text}
 use Rattle.script.specs.Answers.{verdictLine, wiredLine, jobLine, runLine, legLine, drawingLine, pinLine}
 
 -- The word of a shape.
@@ -22,7 +23,7 @@ shapeWord Lower = text "lower"
 shapeWord Upper = text "upper"
 
 -- The line of a run: near, far, shape.
-unfoldable pub shapedLine : Shaped → List ℕ
+unfoldable pub shapedLine : RunEntry → List ℕ
 shapedLine run = runLine (run .near) (run .far) (shapeWord (run .shape))
 
 -- A line for each of a list, one after the other.
@@ -31,7 +32,7 @@ lineForEach line [] = []
 lineForEach line (a ∷ rest) = line a ++ lineForEach line rest
 
 -- A line for each run.
-abbrev pub runsText : List Shaped → List ℕ
+abbrev pub runsText : List RunEntry → List ℕ
 runsText runs = lineForEach shapedLine runs
 
 -- The line of a leg: its two ends.
@@ -52,32 +53,27 @@ unfoldable pub pinsText : ℕ → List Spot → List ℕ
 pinsText pin [] = []
 pinsText pin (spot ∷ rest) = spotText pin spot ++ pinsText (suc pin) rest
 
--- A pin counts where it is there.
-abbrev pub counted : Spot → ℕ
-counted Absent = 0
-counted (At place) = 1
-
 -- How many pins are there.
 unfoldable pub pinsThere : List Spot → ℕ
 pinsThere [] = 0
-pinsThere (spot ∷ rest) = counted spot + pinsThere rest
+pinsThere (spot ∷ rest) = choose (present spot) 1 0 + pinsThere rest
 
 -- An accepted wiring: its line, its runs, its legs.
 unfoldable pub wiredText : Wiring → List Leg → List ℕ
 wiredText wiring legs =
-    wiredLine (wiring .length) (wiring .count) (wiring .legs) (wiring .weighed)
-    ++ runsText (take (wiring .count) (wiring .runs))
+    wiredLine (wiring .length) (wiring .runs) (wiring .legs) (wiring .weighed)
+    ++ runsText (take (wiring .runs) (wiring .entries))
     ++ legsText (take (wiring .legs) legs)
 
 -- The answer of a wiring with its legs; where it is refused, the line of its verdict alone.
 unfoldable pub laidText : Laid → List ℕ
 laidText laid =
-    choose (accepted (laid .wiring .verdict)) (wiredText (laid .wiring) (laid .legs)) (verdictLine (laid .wiring .verdict))
+    choose (accepted (laid .wiring .verdict)) (wiredText (laid .wiring) (laid .list)) (verdictLine (laid .wiring .verdict))
 
 -- An accepted wiring of a map: its line and its runs.
 unfoldable pub jobText : ℕ → Wiring → List ℕ
 jobText job wiring =
-    jobLine job (wiring .length) (wiring .count) (wiring .weighed) ++ runsText (take (wiring .count) (wiring .runs))
+    jobLine job (wiring .length) (wiring .runs) (wiring .weighed) ++ runsText (take (wiring .runs) (wiring .entries))
 
 -- The answer of the wiring of a map; where it is refused, the line of its verdict alone.
 unfoldable pub mapText : ℕ → Wiring → List ℕ

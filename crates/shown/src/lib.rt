@@ -3,7 +3,6 @@ use copper::Leg;
 use copper::Shape;
 use feed::PINS;
 use feed::Spot;
-use script::answers::ANSWER_BYTES;
 use script::answers::print_drawing;
 use script::answers::print_job;
 use script::answers::print_leg;
@@ -12,22 +11,27 @@ use script::answers::print_run;
 use script::answers::print_verdict;
 use script::answers::print_wired;
 use script::windows::smaller;
+use text::ANSWER_BYTES;
 use tree::RUNS;
 use wiring::LEGS;
 use wiring::Laid;
-use wiring::Shaped;
+use wiring::RunEntry;
 use wiring::Wiring;
 ghost use mathlib.Core.Path.{_≡_};
-ghost use Prim.Native.Nat.{_+_, _≤_};
+ghost use Prim.Native.Nat.{_+_, _*_, _≤_};
 ghost use lib.ListN.{length, take};
 ghost use lib.Seq.{sets};
-ghost use Rattle.script.specs.Text.{over, answerBytes};
-ghost use Rattle.shown.specs.Shown.{shapedLine, runsText, legText, legsText, spotText, pinsText, counted, pinsThere, laidText, mapText, drawnText};
+ghost use Rattle.feed.specs.Feeds.{mostPins};
+ghost use Rattle.tree.specs.Trees.{mostRuns};
+ghost use Rattle.wiring.specs.Answer.{mostLegs};
+ghost use Rattle.text.specs.Text.{answerBytes, Holds};
+ghost use Rattle.script.specs.Answers.{mostRunBytes, mostLegBytes, mostPinBytes};
+ghost use Rattle.shown.specs.Shown.{shapedLine, runsText, legText, legsText, spotText, pinsText, pinsThere, laidText, mapText, drawnText};
 
 // A run, from a position on.
-fn put_shaped(run: Shaped, out: &mut [u8; ANSWER_BYTES], at: usize) -> usize
-    requires { ⌜ at + 51 ≤ answerBytes ⌝ }
-    ensures { λ r. ⌜ (r ≡ at + length (shapedLine run)) × (r ≤ at + 51) ⌝ }
+fn put_shaped(run: RunEntry, out: &mut [u8; ANSWER_BYTES], at: usize) -> usize
+    requires { ⌜ at + mostRunBytes ≤ answerBytes ⌝ }
+    ensures { λ r. ⌜ (r ≡ at + length (shapedLine run)) × (r ≤ at + mostRunBytes) ⌝ }
     ensures { λ _. ⌜ now (out .exit) ≡ sets (now (out .entry)) at (shapedLine run) ⌝ }
 {
     let shape = run.shape;
@@ -39,9 +43,9 @@ fn put_shaped(run: Shaped, out: &mut [u8; ANSWER_BYTES], at: usize) -> usize
 }
 
 // The first runs of a list, from a position on.
-fn put_runs(runs: [Shaped; RUNS], count: usize, out: &mut [u8; ANSWER_BYTES], at: usize) -> usize
-    requires { ⌜ at + 1581 ≤ answerBytes ⌝ }
-    ensures { λ r. ⌜ (r ≡ at + length (runsText (take count runs))) × (r ≤ at + 1581) ⌝ }
+fn put_runs(runs: [RunEntry; RUNS], count: usize, out: &mut [u8; ANSWER_BYTES], at: usize) -> usize
+    requires { ⌜ at + mostRuns * mostRunBytes ≤ answerBytes ⌝ }
+    ensures { λ r. ⌜ (r ≡ at + length (runsText (take count runs))) × (r ≤ at + mostRuns * mostRunBytes) ⌝ }
     ensures { λ _. ⌜ now (out .exit) ≡ sets (now (out .entry)) at (runsText (take count runs)) ⌝ }
 {
     let most = smaller(count, RUNS);
@@ -57,8 +61,8 @@ fn put_runs(runs: [Shaped; RUNS], count: usize, out: &mut [u8; ANSWER_BYTES], at
 
 // A leg, from a position on.
 fn put_leg(leg: Leg, out: &mut [u8; ANSWER_BYTES], at: usize) -> usize
-    requires { ⌜ at + 92 ≤ answerBytes ⌝ }
-    ensures { λ r. ⌜ (r ≡ at + length (legText leg)) × (r ≤ at + 92) ⌝ }
+    requires { ⌜ at + mostLegBytes ≤ answerBytes ⌝ }
+    ensures { λ r. ⌜ (r ≡ at + length (legText leg)) × (r ≤ at + mostLegBytes) ⌝ }
     ensures { λ _. ⌜ now (out .exit) ≡ sets (now (out .entry)) at (legText leg) ⌝ }
 {
     let from = leg.from;
@@ -68,8 +72,8 @@ fn put_leg(leg: Leg, out: &mut [u8; ANSWER_BYTES], at: usize) -> usize
 
 // The first legs of a list, from a position on.
 fn put_legs(legs: [Leg; LEGS], count: usize, out: &mut [u8; ANSWER_BYTES], at: usize) -> usize
-    requires { ⌜ at + 5704 ≤ answerBytes ⌝ }
-    ensures { λ r. ⌜ (r ≡ at + length (legsText (take count legs))) × (r ≤ at + 5704) ⌝ }
+    requires { ⌜ at + mostLegs * mostLegBytes ≤ answerBytes ⌝ }
+    ensures { λ r. ⌜ (r ≡ at + length (legsText (take count legs))) × (r ≤ at + mostLegs * mostLegBytes) ⌝ }
     ensures { λ _. ⌜ now (out .exit) ≡ sets (now (out .entry)) at (legsText (take count legs)) ⌝ }
 {
     let most = smaller(count, LEGS);
@@ -85,8 +89,8 @@ fn put_legs(legs: [Leg; LEGS], count: usize, out: &mut [u8; ANSWER_BYTES], at: u
 
 // A pin that is there, from a position on.
 fn put_spot(pin: usize, spot: Spot, out: &mut [u8; ANSWER_BYTES], at: usize) -> usize
-    requires { ⌜ at + 69 ≤ answerBytes ⌝ }
-    ensures { λ r. ⌜ (r ≡ at + length (spotText pin spot)) × (r ≤ at + 69) ⌝ }
+    requires { ⌜ at + mostPinBytes ≤ answerBytes ⌝ }
+    ensures { λ r. ⌜ (r ≡ at + length (spotText pin spot)) × (r ≤ at + mostPinBytes) ⌝ }
     ensures { λ _. ⌜ now (out .exit) ≡ sets (now (out .entry)) at (spotText pin spot) ⌝ }
 {
     match spot {
@@ -97,8 +101,8 @@ fn put_spot(pin: usize, spot: Spot, out: &mut [u8; ANSWER_BYTES], at: usize) -> 
 
 // The pins of a feed that are there, from a position on.
 fn put_pins(feed: [Spot; PINS], out: &mut [u8; ANSWER_BYTES], at: usize) -> usize
-    requires { ⌜ at + 2208 ≤ answerBytes ⌝ }
-    ensures { λ r. ⌜ (r ≡ at + length (pinsText 0 feed)) × (r ≤ at + 2208) ⌝ }
+    requires { ⌜ at + mostPins * mostPinBytes ≤ answerBytes ⌝ }
+    ensures { λ r. ⌜ (r ≡ at + length (pinsText 0 feed)) × (r ≤ at + mostPins * mostPinBytes) ⌝ }
     ensures { λ _. ⌜ now (out .exit) ≡ sets (now (out .entry)) at (pinsText 0 feed) ⌝ }
 {
     let mut next = at;
@@ -111,16 +115,6 @@ fn put_pins(feed: [Spot; PINS], out: &mut [u8; ANSWER_BYTES], at: usize) -> usiz
     next
 }
 
-// What a pin counts for.
-fn count_of(spot: Spot) -> usize
-    ensures { λ r. ⌜ (r ≡ counted spot) × (r ≤ 1) ⌝ }
-{
-    match spot {
-        Spot::Absent => 0,
-        Spot::At(_) => 1,
-    }
-}
-
 // How many pins of a feed are there.
 fn pins_there(feed: [Spot; PINS]) -> usize
     ensures { λ r. ⌜ r ≡ pinsThere feed ⌝ }
@@ -129,45 +123,45 @@ fn pins_there(feed: [Spot; PINS]) -> usize
     let mut pin = 0;
     while pin < PINS {
         let spot = feed[pin];
-        count += count_of(spot);
         pin += 1;
+        if feed::is_there(spot) {
+            count += 1;
+        }
     }
     count
 }
 
 // Prints the answer of a wiring with its legs, and answers how many bytes that is.
 pub fn print_laid(laid: Laid, out: &mut [u8; ANSWER_BYTES]) -> usize
-    ensures { λ r. ⌜ (r ≡ length (laidText laid)) × (r ≤ answerBytes) ⌝ }
-    ensures { λ _. ⌜ now (out .exit) ≡ over (laidText laid) (now (out .entry)) ⌝ }
+    ensures { λ r. ⌜ Holds answerBytes (laidText laid) (now (out .entry)) r (now (out .exit)) ⌝ }
 {
     let wiring = laid.wiring;
     let verdict = wiring.verdict;
     if !refusal::is_accepted(verdict) {
         return print_verdict(verdict, out);
     }
-    let runs = wiring.runs;
-    let legs = laid.legs;
+    let runs = wiring.entries;
+    let legs = laid.list;
     let length = wiring.length as usize;
     let weighed = wiring.weighed as usize;
-    let one = print_wired(length, wiring.count, wiring.legs, weighed, out);
-    let two = put_runs(runs, wiring.count, out, one);
+    let one = print_wired(length, wiring.runs, wiring.legs, weighed, out);
+    let two = put_runs(runs, wiring.runs, out, one);
     put_legs(legs, wiring.legs, out, two)
 }
 
 // Prints the answer of the wiring of a map, and answers how many bytes that is.
 pub fn print_map(job: u16, wiring: Wiring, out: &mut [u8; ANSWER_BYTES]) -> usize
-    ensures { λ r. ⌜ (r ≡ length (mapText job wiring)) × (r ≤ answerBytes) ⌝ }
-    ensures { λ _. ⌜ now (out .exit) ≡ over (mapText job wiring) (now (out .entry)) ⌝ }
+    ensures { λ r. ⌜ Holds answerBytes (mapText job wiring) (now (out .entry)) r (now (out .exit)) ⌝ }
 {
     let outcome = wiring.verdict;
     if !refusal::is_accepted(outcome) {
         return print_verdict(outcome, out);
     }
-    let runs = wiring.runs;
+    let runs = wiring.entries;
     let length = wiring.length as usize;
     let weighed = wiring.weighed as usize;
-    let one = print_job(job as usize, length, wiring.count, weighed, out);
-    put_runs(runs, wiring.count, out, one)
+    let one = print_job(job as usize, length, wiring.runs, weighed, out);
+    put_runs(runs, wiring.runs, out, one)
 }
 
 // Prints a drawing, and answers how many bytes that is.
@@ -178,8 +172,7 @@ pub fn print_drawn(
     taken: usize,
     out: &mut [u8; ANSWER_BYTES],
 ) -> usize
-    ensures { λ r. ⌜ (r ≡ length (drawnText job feed standing taken)) × (r ≤ answerBytes) ⌝ }
-    ensures { λ _. ⌜ now (out .exit) ≡ over (drawnText job feed standing taken) (now (out .entry)) ⌝ }
+    ensures { λ r. ⌜ Holds answerBytes (drawnText job feed standing taken) (now (out .entry)) r (now (out .exit)) ⌝ }
 {
     let pins = pins_there(feed);
     let next = print_drawing(job as usize, pins, standing, taken, out);

@@ -1,20 +1,37 @@
--- The three answers of `treeOf`, each just under its condition; and its entries. Assumes nothing; the number of runs, from pins that stand on the board.
-use mathlib.Core.Path.{_≡_, refl, ap, _∙_}
+-- The three answers of `treeOf`, each just under its condition; its entries; and how many runs there are at most. Assumes nothing.
+use mathlib.Core.Path.{_≡_, refl, ap}
 use mathlib.Core.Bool.{true, false}
 use mathlib.Core.List.{List, [], _∷_}
 use mathlib.Core.Logic.{_⊎_, inl, inr}
-use Prim.Native.Nat.{ℕ, _-_, _≤_}
+use Prim.Native.Nat.{ℕ, zero, suc, _≤_}
 use native.Mathlib.Omega.{arith}
 use lib.ListN.{length}
+use Rattle.refusal.specs.Tests.{choose}
+use Rattle.refusal.specs.Refusals.{accepted, turn}
 use Rattle.refusal.specs.declared.Verdict.the-variants.{Accepted, NoPins, BoxesMeet}
-use Rattle.refusal.proofs.Tests.{decide, choose-yes, choose-no}
+use Rattle.refusal.proofs.Tests.{decide}
 use Rattle.feed.specs.declared.Spot.{Spot}
-use Rattle.feed.specs.Feeds.{mostPins, allWithin}
-use Rattle.tree.specs.Growth.{pinsOf, runsOf}
+use Rattle.feed.specs.Feeds.{mostPins}
+use Rattle.tree.specs.Growth.{pinsOf, runsAmong, runsOf, grown}
 use Rattle.tree.specs.Boxes.{boxesMeet}
 use Rattle.tree.specs.Trees.{mostRuns, treeWith, none, treeOf}
 use Rattle.tree.proofs.Membership.{pins-few}
-use Rattle.tree.proofs.Listing.{runs-rooted}
+
+module _ (feed : List Spot) where
+  -- 17, where there are no pins.
+  pub seventeen : none (pinsOf feed) ≡ true → treeOf feed ≡ treeWith NoPins []
+  unfolding treeOf turn accepted choose
+  seventeen e = rw e
+
+  -- 18, where there are, and boxes meet.
+  pub eighteen : none (pinsOf feed) ≡ false → boxesMeet feed (runsOf feed) ≡ true → treeOf feed ≡ treeWith BoxesMeet []
+  unfolding treeOf turn accepted choose
+  eighteen e b = rw (e, b)
+
+  -- Else the runs.
+  pub runs-told : none (pinsOf feed) ≡ false → boxesMeet feed (runsOf feed) ≡ false → treeOf feed ≡ treeWith Accepted (runsOf feed)
+  unfolding treeOf turn accepted choose
+  runs-told e b = rw (e, b)
 
 -- 17, 18 or the runs.
 pub data Answer (feed : List Spot) : Type 0 where
@@ -25,15 +42,26 @@ pub data Answer (feed : List Spot) : Type 0 where
 
 -- Every feed has one of the three.
 pub answer : (feed : List Spot) → Answer feed
-unfolding treeOf
 answer feed = go (pinsOf feed) refl (decide (boxesMeet feed (runsOf feed)))
   where
     go : (l : List ℕ) → pinsOf feed ≡ l → (boxesMeet feed (runsOf feed) ≡ true) ⊎ (boxesMeet feed (runsOf feed) ≡ false) → Answer feed
-    go [] e b = no-pins e (choose-yes _ _ (ap none e))
-    go (f ∷ left) e (inl b) = boxes-meet f left e b (choose-no _ _ (ap none e) ∙ choose-yes _ _ b)
-    go (f ∷ left) e (inr b) = the-runs f left e b (choose-no _ _ (ap none e) ∙ choose-no _ _ b)
+    go [] e b = no-pins e (seventeen feed (ap none e))
+    go (f ∷ left) e (inl b) = boxes-meet f left e b (eighteen feed (ap none e) b)
+    go (f ∷ left) e (inr b) = the-runs f left e b (runs-told feed (ap none e) b)
 
--- There are 31 runs at most.
-pub runs-few : (feed : List Spot) → length feed ≡ mostPins → allWithin feed ≡ true → (f : ℕ) (left : List ℕ) → pinsOf feed ≡ f ∷ left → length (runsOf feed) ≤ mostRuns
-unfolding pinsOf
-runs-few feed full ok f left e = omega (arith, runs-rooted feed full ok f left e .many, pins-few 0 feed, ap length e)
+-- Growing takes as many runs as it is told.
+grown-many : (feed : List Spot) (n : ℕ) (reached left : List ℕ) → length (grown feed n reached left) ≡ n
+unfolding grown
+grown-many feed zero reached left = refl
+grown-many feed (suc n) reached left = ap suc (grown-many feed n _ _)
+
+-- One run fewer than pins.
+among-few : (feed : List Spot) (pins : List ℕ) → length pins ≤ mostPins → length (runsAmong feed pins) ≤ mostRuns
+unfolding runsAmong
+among-few feed [] h = omega arith
+among-few feed (p ∷ left) h = omega (arith, grown-many feed (length left) (p ∷ []) left)
+
+-- So a feed has at most 31 runs.
+pub runs-few : (feed : List Spot) → length feed ≡ mostPins → length (runsOf feed) ≤ mostRuns
+unfolding runsOf pinsOf
+runs-few feed full = among-few feed (pinsOf feed) (omega (arith, pins-few 0 feed))

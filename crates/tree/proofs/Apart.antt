@@ -10,20 +10,21 @@ use native.Mathlib.Nat.{min-comm, max-comm}
 use lib.Dec.{eqb}
 use lib.ListN.{length}
 use borrow.Author.Tests.{eqb-false}
-use Rattle.refusal.specs.Tests.{both, either}
+use Rattle.refusal.specs.Tests.{both, either, anyOf, noTwo}
 use Rattle.refusal.specs.declared.Verdict.the-variants.{Accepted}
-use Rattle.refusal.proofs.Tests.{decide, either-false, fails-if, both-no, both-yes, either-right, choose-no}
+use Rattle.refusal.proofs.Tests.{decide, either-false, fails-if, both-no, both-yes, either-no, both-of}
 use Rattle.feed.specs.declared.Spot.{Spot}
 use Rattle.grid.proofs.Flat.{Site}
 use Rattle.tree.specs.declared.Run.{Run}
-use Rattle.feed.specs.Feeds.{mostPins, placeOf, spotAt, allWithin}
+use Rattle.feed.specs.Feeds.{mostPins, placeAt, allWithin}
 use Rattle.tree.specs.Growth.{pinsOf, runsOf}
 use Rattle.tree.specs.Boxes.{boxesShare, isEnd, common, clash, clashAny, boxesMeet}
 use Rattle.tree.specs.Trees.{treeWith, none, treeOf}
 use Rattle.tree.proofs.Membership.{Among, first, later}
+use Rattle.tree.proofs.Answer.{runs-told}
 use Rattle.tree.proofs.Numbering.{siteAt, keyAt, keyed, stands, fits}
 use Rattle.tree.proofs.Branches.{
-  Reached,
+  IsReached,
   fresh,
   HasRun,
   here,
@@ -74,14 +75,16 @@ box-turn {a} {b} h =
 
 module _ (feed : List Spot) (full : length feed ≡ mostPins) (ok : allWithin feed ≡ true) (f : ℕ) (left : List ℕ) (e : pinsOf feed ≡ f ∷ left)
     {rs : List Run} (g : Grown (keyAt feed) (λ (a : ℕ). Among a (f ∷ left)) f rs) where
+  -- The runs branch, as those that were grown do.
   w : Branching (λ (a : ℕ). Among a (f ∷ left)) f rs
   w = branching g
 
-  low : (a : ℕ) → Reached f a rs → a < mostPins
+  -- Every reached pin has a number below 32.
+  low : (a : ℕ) → IsReached f a rs → a < mostPins
   low a h = pins-low feed full ok f left e a (reached-there (first refl) w a h)
 
   -- A run comes before any other pair across it.
-  strict : (s t a b : ℕ) → HasRun s t rs → Reached f a rs → Reached f b rs → (hangs rs t a ≡ hangs rs t b → ⊥)
+  strict : (s t a b : ℕ) → HasRun s t rs → IsReached f a rs → IsReached f b rs → (hangs rs t a ≡ hangs rs t b → ⊥)
       → ((s ≡ a) × (t ≡ b) → ⊥) → ((s ≡ b) × (t ≡ a) → ⊥) → keyAt feed s t < keyAt feed a b
   strict s t a b h ia ib ne n m =
       let le = cut (keyAt feed) (keyed feed ok .swap) g s t a b h ia ib ne in
@@ -93,7 +96,8 @@ module _ (feed : List Spot) (full : length feed ≡ mostPins) (ok : allWithin fe
       other (inl q) = n q
       other (inr q) = m q
 
-  before : (p q r s : ℕ) → Reached f p rs → Reached f q rs → Reached f r rs → Reached f s rs → keyAt feed p q < keyAt feed r s
+  -- Keys in order are pairs in order, part by part.
+  before : (p q r s : ℕ) → IsReached f p rs → IsReached f q rs → IsReached f r rs → IsReached f s rs → keyAt feed p q < keyAt feed r s
       → Before (siteAt feed p) p (siteAt feed q) q (siteAt feed r) r (siteAt feed s) s
   unfolding keyAt
   before p q r s ip iq ir is h =
@@ -138,6 +142,7 @@ module _ (feed : List Spot) (full : length feed ≡ mostPins) (ok : allWithin fe
       (before s' t' s t' is' it' is it' k2) (before s t s' t is it is' it k1)
       (m .point) (m .in-first) (m .in-second)
 
+  -- So, whether one hangs from the other or not, the boxes of two such runs share no point.
   separate : (s t s' t' : ℕ) → HasRun s t rs → HasRun s' t' rs → (s ≡ s' → ⊥) → (s ≡ t' → ⊥) → (t ≡ s' → ⊥) → (t ≡ t' → ⊥)
       → Shared (siteAt feed s) (siteAt feed t) (siteAt feed s') (siteAt feed t') → ⊥
   separate s t s' t' h h' n1 n2 n3 n4 m = go (decide (hangs rs t t')) (decide (hangs rs t' t))
@@ -158,6 +163,7 @@ record FourEnds (r s : Run) : Type 0 where
   far-near : r .far ≡ s .near → ⊥
   far-far : r .far ≡ s .far → ⊥
 
+-- The test for a common pin says so.
 four-ends : (r s : Run) → common r s ≡ false → FourEnds r s
 unfolding common isEnd
 four-ends r s e =
@@ -174,48 +180,49 @@ four-ends r s e =
 module _ (feed : List Spot) (full : length feed ≡ mostPins) (ok : allWithin feed ≡ true) where
   -- THE BOXES OF TWO RUNS WITHOUT A COMMON PIN SHARE NO POINT.
   pub boxes-apart : (r s : Run) → Among r (runsOf feed) → Among s (runsOf feed) → common r s ≡ false
-      → boxesShare (placeOf (spotAt feed (r .near))) (placeOf (spotAt feed (r .far))) (placeOf (spotAt feed (s .near))) (placeOf (spotAt feed (s .far))) ≡ false
+      → boxesShare (placeAt feed (r .near)) (placeAt feed (r .far)) (placeAt feed (s .near)) (placeAt feed (s .far)) ≡ false
   boxes-apart r s hr hs c = fails-if _ (λ b. go (pinsOf feed) refl b)
     where
       run-of : {q : Run} → Among q (runsOf feed) → HasRun (q .near) (q .far) (reverseAux (runsOf feed) [])
       run-of h = has-run (in-turned (runsOf feed) (inl h))
 
       go : (l : List ℕ) → pinsOf feed ≡ l
-          → boxesShare (placeOf (spotAt feed (r .near))) (placeOf (spotAt feed (r .far))) (placeOf (spotAt feed (s .near))) (placeOf (spotAt feed (s .far))) ≡ true → ⊥
+          → boxesShare (placeAt feed (r .near)) (placeAt feed (r .far)) (placeAt feed (s .near)) (placeAt feed (s .far)) ≡ true → ⊥
       go [] e b = none-among (no-runs feed e) hr
       go (f ∷ left) e b =
           let z = four-ends r s c in
           separate feed full ok f left e (runs-grown feed full ok f left e) (r .near) (r .far) (s .near) (s .far) (run-of hr) (run-of hs)
           (z .near-near) (z .near-far) (z .far-near) (z .far-far)
-          (shared-point (placeOf (spotAt feed (r .near))) (placeOf (spotAt feed (r .far))) (placeOf (spotAt feed (s .near))) (placeOf (spotAt feed (s .far)))
+          (shared-point (placeAt feed (r .near)) (placeAt feed (r .far)) (placeAt feed (s .near)) (placeAt feed (s .far))
           (stands feed ok (r .near) .held) (stands feed ok (r .far) .held) (stands feed ok (s .near) .held) (stands feed ok (s .far) .held) b)
 
+  -- So no two runs clash,
   clash-none : (r s : Run) → Among r (runsOf feed) → Among s (runsOf feed) → clash feed r s ≡ false
   unfolding clash
   clash-none r s hr hs = go (decide (common r s))
     where
       go : (common r s ≡ true) ⊎ (common r s ≡ false)
-          → both (not (common r s)) (boxesShare (placeOf (spotAt feed (r .near))) (placeOf (spotAt feed (r .far)))
-          (placeOf (spotAt feed (s .near))) (placeOf (spotAt feed (s .far)))) ≡ false
+          → both (not (common r s)) (boxesShare (placeAt feed (r .near)) (placeAt feed (r .far))
+          (placeAt feed (s .near)) (placeAt feed (s .far))) ≡ false
       go (inl c) = both-no _ (ap not c)
       go (inr c) = both-yes _ (ap not c) ∙ boxes-apart r s hr hs c
 
+  -- no run clashes with any of the others,
   any-none : (r : Run) → Among r (runsOf feed) → (l : List Run) → ((s : Run) → Among s l → Among s (runsOf feed)) → clashAny feed r l ≡ false
-  unfolding clashAny
+  unfolding anyOf
   any-none r hr [] h = refl
-  any-none r hr (s ∷ l) h = either-right (clashAny feed r l) (clash-none r s hr (h s (first refl))) ∙ any-none r hr l (λ q m. h q (later m))
+  any-none r hr (s ∷ l) h = either-no (clash-none r s hr (h s (first refl))) (any-none r hr l (λ q m. h q (later m)))
 
-  meet-none : (l : List Run) → ((s : Run) → Among s l → Among s (runsOf feed)) → boxesMeet feed l ≡ false
-  unfolding boxesMeet
-  meet-none [] h = refl
-  meet-none (s ∷ l) h =
-      either-right (boxesMeet feed l) (any-none s (h s (first refl)) l (λ q m. h q (later m))) ∙ meet-none l (λ q m. h q (later m))
+  -- and the search for boxes that meet finds none.
+  none-meet : (l : List Run) → ((s : Run) → Among s l → Among s (runsOf feed)) → noTwo (clash feed) l ≡ true
+  unfolding noTwo
+  none-meet [] h = refl
+  none-meet (s ∷ l) h = both-of (ap not (any-none s (h s (first refl)) l (λ q m. h q (later m)))) (none-meet l (λ q m. h q (later m)))
 
   -- 18 IS NEVER GIVEN: where there are pins, the answer is their runs.
   pub never-meet : boxesMeet feed (runsOf feed) ≡ false
-  never-meet = meet-none (runsOf feed) (λ s m. m)
+  never-meet = ap not (none-meet (runsOf feed) (λ s m. m))
 
   -- So where there are pins, the answer is their runs.
   pub always-runs : (f : ℕ) (left : List ℕ) → pinsOf feed ≡ f ∷ left → treeOf feed ≡ treeWith Accepted (runsOf feed)
-  unfolding treeOf
-  always-runs f left e = choose-no _ _ (ap none e) ∙ choose-no _ _ never-meet
+  always-runs f left e = runs-told feed (ap none e) never-meet

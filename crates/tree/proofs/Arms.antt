@@ -12,34 +12,34 @@ use Rattle.feed.specs.declared.Spot.{Spot}
 use Rattle.grid.specs.Weight.{comesBefore}
 use Rattle.tree.specs.declared.Run.{Run}
 use Rattle.tree.specs.declared.Offer.{Offer}
-use Rattle.tree.specs.declared.Choice.{Choice}
-use Rattle.feed.specs.Feeds.{present, placeOf, spotAt}
+use Rattle.tree.specs.declared.Next.{Next}
+use Rattle.feed.specs.Feeds.{present, placeOf, placeAt}
 use Rattle.tree.specs.Boxes.{under, overlap, boxesShare, isEnd, common, clash}
-use Rattle.tree.specs.Offers.{noOffer, offerOf, firstOffer, betterOffer, nextOffer, betterChoice}
+use Rattle.tree.specs.Offers.{noOffer, offerOf, firstOffer, betterOffer, nextOffer, earlierNext}
 
--- ---- the earlier of a choice and a pin with what it keeps
-module _ (c : Choice) (pin : ℕ) (o : Offer) where
-  -- A pin that does not wait leaves the choice as it is.
-  pub choice-skip : o .waits ≡ false → c ≡ betterChoice c pin o
-  unfolding betterChoice choose
-  choice-skip e = rw e
+-- ---- the earlier of the pin that is reached next so far and a pin with what it keeps
+module _ (c : Next) (pin : ℕ) (o : Offer) where
+  -- A pin that does not wait changes nothing.
+  pub earlier-skip : o .waits ≡ false → c ≡ earlierNext c pin o
+  unfolding earlierNext choose
+  earlier-skip e = rw e
 
-  -- A pin that waits is the choice where none waited before.
-  pub choice-first : o .waits ≡ true → c .offer .waits ≡ false → record { pin = pin; offer = o } ≡ betterChoice c pin o
-  unfolding betterChoice choose
-  choice-first e f = rw (e, f)
+  -- A pin that waits is next where none waited before.
+  pub earlier-first : o .waits ≡ true → c .offer .waits ≡ false → record { pin = pin; offer = o } ≡ earlierNext c pin o
+  unfolding earlierNext choose
+  earlier-first e f = rw (e, f)
 
-  -- It is the choice where its pair comes before,
-  pub choice-sooner : {t : Bool} → o .waits ≡ true → c .offer .waits ≡ true → t ≡ comesBefore (o .pair) (c .offer .pair) → t ≡ true
-      → record { pin = pin; offer = o } ≡ betterChoice c pin o
-  unfolding betterChoice choose
-  choice-sooner e f g h = rw (e, f, ← g, h)
+  -- It is next where its pair comes before,
+  pub earlier-sooner : {t : Bool} → o .waits ≡ true → c .offer .waits ≡ true → t ≡ comesBefore (o .pair) (c .offer .pair) → t ≡ true
+      → record { pin = pin; offer = o } ≡ earlierNext c pin o
+  unfolding earlierNext choose
+  earlier-sooner e f g h = rw (e, f, ← g, h)
 
-  -- and the choice stays where it does not.
-  pub choice-later : {t : Bool} → o .waits ≡ true → c .offer .waits ≡ true → t ≡ comesBefore (o .pair) (c .offer .pair) → t ≡ false
-      → c ≡ betterChoice c pin o
-  unfolding betterChoice choose
-  choice-later e f g h = rw (e, f, ← g, h)
+  -- and the one so far where it does not.
+  pub earlier-later : {t : Bool} → o .waits ≡ true → c .offer .waits ≡ true → t ≡ comesBefore (o .pair) (c .offer .pair) → t ≡ false
+      → c ≡ earlierNext c pin o
+  unfolding earlierNext choose
+  earlier-later e f g h = rw (e, f, ← g, h)
 
 -- ---- the earlier of two offers
 module _ (o p : Offer) {t : Bool} (g : t ≡ comesBefore (p .pair) (o .pair)) where
@@ -120,14 +120,8 @@ module _ {s : Bool} (r q : Run) (e : s ≡ isEnd (r .near) q) where
   unfolding common either
   common-far f h = rw (← e, h) f
 
-module _ {s : Bool} (feed : List Spot) (r q : Run) (e : s ≡ common r q) where
-  -- Runs with a common pin do not clash.
-  pub clash-common : s ≡ true → false ≡ clash feed r q
-  unfolding clash both choose
-  clash-common h = rw (← e, h)
-
-  -- Others do where their boxes share a point.
-  pub clash-boxes : s ≡ false
-      → boxesShare (placeOf (spotAt feed (r .near))) (placeOf (spotAt feed (r .far))) (placeOf (spotAt feed (q .near))) (placeOf (spotAt feed (q .far))) ≡ clash feed r q
-  unfolding clash both choose
-  clash-boxes h = rw (← e, h)
+-- Two runs clash by where their pins stand.
+pub clash-by : (feed : List Spot) (r q : Run) {t : Bool} {a b c d : Place} → a ≡ placeAt feed (r .near) → b ≡ placeAt feed (r .far)
+    → c ≡ placeAt feed (q .near) → d ≡ placeAt feed (q .far) → t ≡ both (not (common r q)) (boxesShare a b c d) → t ≡ clash feed r q
+unfolding clash
+clash-by feed r q e f g h i = rw (e, f, g, h) at i

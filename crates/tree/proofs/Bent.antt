@@ -8,17 +8,17 @@ use lib.Dec.{eqb}
 use lib.IntN.{ℤ}
 use lib.ListN.{length}
 use borrow.Author.Tests.{eqb-true, eqb-false, not-true}
-use Rattle.refusal.specs.Tests.{both, either, choose}
+use Rattle.refusal.specs.Tests.{both, either}
 use Rattle.refusal.proofs.Tests.{either-false}
 use Rattle.feed.specs.declared.Spot.{Spot}
 use Rattle.grid.specs.Place.{difference, sameNumber, isStraight}
 use Rattle.grid.proofs.Signed.{off, I32}
 use Rattle.grid.proofs.Flat.{gap, gap-self, difference-gap}
 use Rattle.tree.specs.declared.Run.{Run}
-use Rattle.feed.specs.Feeds.{mostPins, placeOf, spotAt, allWithin}
+use Rattle.feed.specs.Feeds.{mostPins, placeAt, allWithin}
 use Rattle.tree.specs.Growth.{pinsOf, runsAmong, runsOf}
 use Rattle.tree.specs.Boxes.{isEnd}
-use Rattle.tree.specs.Bends.{bent, howMany, bentAt, bentFrom, bentInto}
+use Rattle.tree.specs.Bends.{bent, oneIf, howMany, bentAt, bentFrom, bentInto}
 use Rattle.tree.proofs.Membership.{Among, first, later}
 use Rattle.tree.proofs.Numbering.{siteAt, keyAt, keyed, stands, fits}
 use Rattle.tree.proofs.Branches.{Grown, branching, reached-there}
@@ -26,7 +26,7 @@ use Rattle.tree.proofs.Listing.{runs-grown, pins-low}
 use Rattle.tree.proofs.Spanning.{runs-join}
 use Rattle.tree.proofs.FourPins.{key-span}
 use Rattle.tree.proofs.Neighbours.{Joined, joined-reached, neighbours, around, All, All.none, All.also, Pairwise, around-joined, around-once}
-use Rattle.tree.proofs.Zones.{oneIf, tally, skew, skew-of, Spread, six}
+use Rattle.tree.proofs.Zones.{skew, skew-of, Spread, six}
 
 -- Numbers that are not the same are not the same in ℕ.
 number-apart : (a b : ℤ) → I32 a → I32 b → sameNumber a b ≡ false → off a ≡ off b → ⊥
@@ -39,22 +39,24 @@ module _ (feed : List Spot) (ok : allWithin feed ≡ true) where
   bent-apart : (r : Run) → bent feed r ≡ true → (siteAt feed (r .near) .x ≡ siteAt feed (r .far) .x → ⊥) × (siteAt feed (r .near) .y ≡ siteAt feed (r .far) .y → ⊥)
   unfolding bent isStraight
   bent-apart r e =
-      let a = placeOf (spotAt feed (r .near)) in
-      let b = placeOf (spotAt feed (r .far)) in
+      let a = placeAt feed (r .near) in
+      let b = placeAt feed (r .far) in
       let z = either-false (sameNumber (a .x) (b .x)) (sameNumber (a .y) (b .y)) (not-true _ e) in
       let p = stands feed ok (r .near) .held in
       let q = stands feed ok (r .far) .held in
       (number-apart (a .x) (b .x) (p .x) (q .x) (z .0), number-apart (a .y) (b .y) (p .y) (q .y) (z .1))
 
+  -- So the far pin of a bent run is off the row and the column of its near pin,
   bent-onward : (r : Run) → bent feed r ≡ true → skew (siteAt feed (r .near)) (siteAt feed (r .far)) ≡ true
   bent-onward r e = let z = bent-apart r e in skew-of (siteAt feed (r .near)) (siteAt feed (r .far)) (z .0) (z .1)
 
+  -- and the near pin off those of its far pin.
   bent-backward : (r : Run) → bent feed r ≡ true → skew (siteAt feed (r .far)) (siteAt feed (r .near)) ≡ true
   bent-backward r e = let z = bent-apart r e in skew-of (siteAt feed (r .far)) (siteAt feed (r .near)) (λ q. z .0 (sym q)) (λ q. z .1 (sym q))
 
   -- The bent runs at a pin are no more than the pins that runs join to it, off its row and its column.
-  bent-around : (n : ℕ) (rs : List Run) → bentAt feed rs n ≤ tally (λ a. skew (siteAt feed n) (siteAt feed a)) (around n rs)
-  unfolding howMany around tally isEnd both either choose
+  bent-around : (n : ℕ) (rs : List Run) → bentAt feed rs n ≤ howMany (λ a. skew (siteAt feed n) (siteAt feed a)) (around n rs)
+  unfolding howMany around isEnd both either
   bent-around n [] = omega arith
   bent-around n (r ∷ rs) = go (eqb n (r .near)) (eqb n (r .far)) (bent feed r) refl refl refl (bent-around n rs)
     where
@@ -65,9 +67,9 @@ module _ (feed : List Spot) (ok : allWithin feed ≡ true) where
       away a e h f = rw (e, f) (bent-backward r h)
 
       go : (p q b : Bool) → eqb n (r .near) ≡ p → eqb n (r .far) ≡ q → bent feed r ≡ b
-          → bentAt feed rs n ≤ tally (λ a. skew (siteAt feed n) (siteAt feed a)) (around n rs)
-          → choose (both (either p q) b) 1 0 + bentAt feed rs n
-          ≤ tally (λ a. skew (siteAt feed n) (siteAt feed a)) (cond p (r .far ∷ around n rs) (cond q (r .near ∷ around n rs) (around n rs)))
+          → bentAt feed rs n ≤ howMany (λ a. skew (siteAt feed n) (siteAt feed a)) (around n rs)
+          → oneIf (both (either p q) b) + bentAt feed rs n
+          ≤ howMany (λ a. skew (siteAt feed n) (siteAt feed a)) (cond p (r .far ∷ around n rs) (cond q (r .near ∷ around n rs) (around n rs)))
       go true q true e f h l = omega (arith, ap oneIf (toward (r .far) (eqb-true n (r .near) e) h refl))
       go true q false e f h l = omega arith
       go false true true e f h l = omega (arith, ap oneIf (away (r .near) (eqb-true n (r .far) f) h refl))
@@ -95,16 +97,19 @@ module _ (feed : List Spot) (full : length feed ≡ mostPins) (ok : allWithin fe
         second = key-span (siteAt feed i) i (siteAt feed b) b (siteAt feed a) a (siteAt feed b) b (fits feed ok a la) (fits feed ok b lb) (k .1);
       }
 
+  -- One such pin and each of some others are spread so,
   each : {rs : List Run} → Grown (keyAt feed) (λ (a : ℕ). Among a (f ∷ left)) f rs → (i a : ℕ) → Joined i a rs → {l : List ℕ} → All (λ (b : ℕ). Joined i b rs) l
       → All (λ (b : ℕ). a ≡ b → ⊥) l → All (Spread (siteAt feed) (siteAt feed i) a) l
   each g i a h none none = none
   each g i a h (also {a = b} k ks) (also m ms) = also (spread g i a b h k m) (each g i a h ks ms)
 
+  -- and so are any two of them.
   pairwise : {rs : List Run} → Grown (keyAt feed) (λ (a : ℕ). Among a (f ∷ left)) f rs → (i : ℕ) {l : List ℕ} → All (λ (b : ℕ). Joined i b rs) l
       → Pairwise (λ (a b : ℕ). a ≡ b → ⊥) l → Pairwise (Spread (siteAt feed) (siteAt feed i)) l
   pairwise g i none Pairwise.none = Pairwise.none
   pairwise g i (also {a = a} k ks) (Pairwise.also m ms) = Pairwise.also (each g i a k ks m) (pairwise g i ks ms)
 
+  -- At most six bent runs end at a pin, the runs listed the newest first,
   six-newest : (n : ℕ) → bentAt feed (reverseAux (runsOf feed) []) n ≤ 6
   six-newest n =
       let g = runs-grown feed full ok f left e in
@@ -115,6 +120,7 @@ module _ (feed : List Spot) (full : length feed ≡ mostPins) (ok : allWithin fe
         six (siteAt feed) (siteAt feed n) (pairwise g n (around-joined n rs) (around-once n (branching g))),
       )
 
+  -- and in the order in which they are taken.
   six-some : (n : ℕ) → bentAt feed (runsOf feed) n ≤ 6
   unfolding howMany
   six-some n = omega (arith, six-newest n, bent-turned feed (runsOf feed) [] n)
@@ -130,8 +136,8 @@ six-bent feed full ok n = go (pinsOf feed) refl
 
 -- ---- leading on, and reaching
 split-go : (n near far : ℕ) (p q b : Bool) → eqb n near ≡ p → eqb n far ≡ q → (near ≡ far → ⊥)
-    → choose (both (either p q) b) 1 0 ≡ choose (both p b) 1 0 + choose (both q b) 1 0
-unfolding both either choose
+    → oneIf (both (either p q) b) ≡ oneIf (both p b) + oneIf (both q b)
+unfolding both either
 split-go n near far true true b e f ne = absurd (ne (sym (eqb-true n near e) ∙ eqb-true n far f))
 split-go n near far true false true e f ne = refl
 split-go n near far true false false e f ne = refl
@@ -140,6 +146,7 @@ split-go n near far false true false e f ne = refl
 split-go n near far false false true e f ne = refl
 split-go n near far false false false e f ne = refl
 
+-- The bent runs at a pin are those leading on from it and those that reach it.
 bent-split : (feed : List Spot) (runs : List Run) (n : ℕ) → ((r : Run) → Among r runs → r .near ≡ r .far → ⊥)
     → bentAt feed runs n ≡ bentFrom feed runs n + bentInto feed runs n
 unfolding howMany isEnd

@@ -2,25 +2,27 @@
 -- From places whose numbers an i32 holds.
 use mathlib.Core.Path.{_≡_, sym, _∙_, ap}
 use mathlib.Core.Bool.{Bool, true, false, not}
-use mathlib.Core.List.{List, [], _∷_}
+use mathlib.Core.List.{List}
 use mathlib.Core.Logic.{_⊎_, inl, inr}
-use Prim.Native.Nat.{ℕ, zero, suc, _<_, _≤_, min, max}
+use Prim.Native.Nat.{ℕ, _<_, _≤_, min, max}
 use native.Mathlib.Omega.{arith}
 use native.Mathlib.Nat.{max-le}
 use lib.IntN.{ℤ}
 use lib.Signed.{ltZ}
-use lib.ListN.{length, getD}
+use lib.ListN.{length}
 use borrow.Author.Tests.{ltb-true, ltb-false, not-false, not-true}
 use Rattle.refusal.specs.Tests.{both}
-use Rattle.refusal.proofs.Tests.{decide, both-false, either-false, both-left, both-right, both-of}
+use Rattle.refusal.proofs.Tests.{decide, both-false, both-left, both-right, both-of}
+use Rattle.refusal.proofs.Anyone.{two-at}
 use Rattle.grid.specs.declared.Place.{Place}
 use Rattle.feed.specs.declared.Spot.{Spot}
 use Rattle.grid.proofs.Signed.{off, I32, ltZ-off}
-use Rattle.grid.proofs.Flat.{Site, site, Held}
+use Rattle.grid.proofs.Flat.{Site, site, PlaceI32}
+use Rattle.tree.specs.Reached.{runAt}
 use Rattle.tree.specs.declared.Run.{Run}
-use Rattle.feed.specs.Feeds.{placeOf, spotAt}
+use Rattle.feed.specs.Feeds.{placeAt}
 use Rattle.tree.specs.Growth.{run}
-use Rattle.tree.specs.Boxes.{belowBoth, under, overlap, boxesShare, common, clash, clashAny, boxesMeet}
+use Rattle.tree.specs.Boxes.{belowBoth, under, overlap, boxesShare, common, clash, boxesMeet}
 use Rattle.tree.proofs.FourPins.{InBox}
 
 -- ---- boxes share a point just where the test says so
@@ -36,9 +38,11 @@ under-yes a b c d ha hb hc hd e =
     let bd = ltb-true (off b) (off d) (sym (ltZ-off b d hb hd) ∙ both-right (ltZ b c) (ltZ b d) q) in
     omega arith
 
+-- A number that is not less than another: in ℕ.
 not-less : (a b : ℤ) → I32 a → I32 b → ltZ a b ≡ false → off b ≤ off a
 not-less a b ha hb e = ltb-false (off a) (off b) (sym (ltZ-off a b ha hb) ∙ e)
 
+-- Where not both are less, the stretches reach each other from this side.
 under-no : (a b c d : ℤ) → I32 a → I32 b → I32 c → I32 d → under a b c d ≡ false → min (off c) (off d) ≤ max (off a) (off b)
 unfolding under belowBoth
 under-no a b c d ha hb hc hd e = go (both-false (both (ltZ a c) (ltZ a d)) (both (ltZ b c) (ltZ b d)) e)
@@ -62,6 +66,7 @@ record Common (a b c d n : ℕ) : Type 0 where
   low' : min c d ≤ n
   high' : n ≤ max c d
 
+-- Two stretches that reach each other have the larger of their lower ends in common.
 larger-low : (a b c d : ℕ) → min c d ≤ max a b → min a b ≤ max c d → Common a b c d (max (min a b) (min c d))
 larger-low a b c d h k =
     record {
@@ -72,6 +77,7 @@ larger-low a b c d h k =
     }
 
 module _ (a b c d : ℤ) (ha : I32 a) (hb : I32 b) (hc : I32 c) (hd : I32 d) where
+  -- Stretches that overlap have a number in common,
   overlap-yes : overlap a b c d ≡ true → Common (off a) (off b) (off c) (off d) (max (min (off a) (off b)) (min (off c) (off d)))
   unfolding overlap
   overlap-yes e =
@@ -79,6 +85,7 @@ module _ (a b c d : ℤ) (ha : I32 a) (hb : I32 b) (hc : I32 c) (hd : I32 d) whe
       (under-no a b c d ha hb hc hd (not-true (under a b c d) (both-left (not (under a b c d)) (not (under c d a b)) e)))
       (under-no c d a b hc hd ha hb (not-true (under c d a b) (both-right (not (under a b c d)) (not (under c d a b)) e)))
 
+  -- and stretches with a common number overlap.
   overlap-no : (n : ℕ) → Common (off a) (off b) (off c) (off d) n → overlap a b c d ≡ false → ⊥
   unfolding overlap
   overlap-no n h e = go (both-false (not (under a b c d)) (not (under c d a b)) e)
@@ -98,7 +105,7 @@ pub record Shared (a b c d : Site) : Type 0 where
   pub in-first : InBox a b point
   pub in-second : InBox c d point
 
-module _ (a b c d : Place) (ha : Held a) (hb : Held b) (hc : Held c) (hd : Held d) where
+module _ (a b c d : Place) (ha : PlaceI32 a) (hb : PlaceI32 b) (hc : PlaceI32 c) (hd : PlaceI32 d) where
   -- THE TEST FINDS A POINT in both boxes,
   pub shared-point : boxesShare a b c d ≡ true → Shared (site a) (site b) (site c) (site d)
   unfolding boxesShare
@@ -135,22 +142,13 @@ module _ (a b c d : Place) (ha : Held a) (hb : Held b) (hc : Held c) (hd : Held 
           (record { low = s .in-first .bottom; high = s .in-first .top; low' = s .in-second .bottom; high' = s .in-second .top })
 
 -- ---- what an accepted tree says of its boxes
+-- Two runs that do not clash and have no common pin have boxes apart.
 pub clash-apart : (feed : List Spot) (r s : Run) → clash feed r s ≡ false → common r s ≡ false
-    → boxesShare (placeOf (spotAt feed (r .near))) (placeOf (spotAt feed (r .far))) (placeOf (spotAt feed (s .near))) (placeOf (spotAt feed (s .far))) ≡ false
+    → boxesShare (placeAt feed (r .near)) (placeAt feed (r .far)) (placeAt feed (s .near)) (placeAt feed (s .far)) ≡ false
 unfolding clash both
 clash-apart feed r s e f = rw (ap not f) at e
 
-any-clear : (feed : List Spot) (r : Run) (l : List Run) → clashAny feed r l ≡ false → (j : ℕ) → j < length l → clash feed r (getD l j (run 0 0)) ≡ false
-unfolding clashAny
-any-clear feed r [] e j h = absurd (omega arith)
-any-clear feed r (s ∷ l) e zero h = either-false (clash feed r s) (clashAny feed r l) e .0
-any-clear feed r (s ∷ l) e (suc j) h = any-clear feed r l (either-false (clash feed r s) (clashAny feed r l) e .1) j (omega arith)
-
 -- NO TWO RUNS CLASH where the boxes do not meet, by their positions.
 pub no-clash : (feed : List Spot) (l : List Run) → boxesMeet feed l ≡ false → (i j : ℕ) → i < j → j < length l
-    → clash feed (getD l i (run 0 0)) (getD l j (run 0 0)) ≡ false
-unfolding boxesMeet
-no-clash feed [] e i j h k = absurd (omega arith)
-no-clash feed (r ∷ l) e i zero h k = absurd (omega arith)
-no-clash feed (r ∷ l) e zero (suc j) h k = any-clear feed r l (either-false (clashAny feed r l) (boxesMeet feed l) e .0) j (omega arith)
-no-clash feed (r ∷ l) e (suc i) (suc j) h k = no-clash feed l (either-false (clashAny feed r l) (boxesMeet feed l) e .1) i j (omega arith) (omega arith)
+    → clash feed (runAt l i) (runAt l j) ≡ false
+no-clash feed l e i j h k = two-at (clash feed) (run 0 0) l i j (not-false _ e) h (λ past. absurd (omega arith))

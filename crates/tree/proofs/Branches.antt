@@ -14,17 +14,17 @@ use Rattle.grid.proofs.Flat.{order}
 use Rattle.tree.specs.declared.Run.{Run}
 
 -- ---- the pins that the runs reach from a first pin
-pub data Reached (o a : ℕ) : List Run → Type 0 where
-  start : a ≡ o → Reached o a []
-  new : {r : Run} {rs : List Run} → a ≡ r .far → Reached o a (r ∷ rs)
-  old : {r : Run} {rs : List Run} → Reached o a rs → Reached o a (r ∷ rs)
+pub data IsReached (o a : ℕ) : List Run → Type 0 where
+  start : a ≡ o → IsReached o a []
+  new : {r : Run} {rs : List Run} → a ≡ r .far → IsReached o a (r ∷ rs)
+  old : {r : Run} {rs : List Run} → IsReached o a rs → IsReached o a (r ∷ rs)
 
 -- A reached pin is not one that is not reached.
-pub fresh : (o a t : ℕ) {rs : List Run} → Reached o a rs → ¬ Reached o t rs → a ≡ t → ⊥
-fresh o a t {rs} h k e = k (subst (λ (z : ℕ). Reached o z rs) e h)
+pub fresh : (o a t : ℕ) {rs : List Run} → IsReached o a rs → ¬ IsReached o t rs → a ≡ t → ⊥
+fresh o a t {rs} h k e = k (subst (λ (z : ℕ). IsReached o z rs) e h)
 
 -- The first pin is reached.
-pub from-start : (o : ℕ) (rs : List Run) → Reached o o rs
+pub from-start : (o : ℕ) (rs : List Run) → IsReached o o rs
 from-start o [] = start refl
 from-start o (r ∷ rs) = old (from-start o rs)
 
@@ -62,6 +62,7 @@ module _ (key : ℕ → ℕ → ℕ) (r : Run) (rs : List Run) (a b : ℕ) where
   unfolding widest
   widest-old e f = rw (ne-eqb a (r .far) e, ne-eqb b (r .far) f)
 
+-- Where both tests are one, only that case is left in which nothing is added.
 cond-self : (t : Bool) (x y z : ℕ) → z ≡ 0 → cond t (cond t 0 x) (cond t y z) ≡ 0
 cond-self true x y z e = refl
 cond-self false x y z e = e
@@ -74,6 +75,7 @@ widest-self key (r ∷ rs) a =
     cond-self (eqb a (r .far)) (max (key (r .near) (r .far)) (widest key rs (r .near) a)) (max (key (r .near) (r .far)) (widest key rs a (r .near)))
     (widest key rs a a) (widest-self key rs a)
 
+-- The two tests in either order.
 cond-swap : (p q : Bool) (k x y z x' y' z' : ℕ) → x ≡ y' → y ≡ x' → z ≡ z'
     → cond p (cond q 0 (max k x)) (cond q (max k y) z) ≡ cond q (cond p 0 (max k x')) (cond p (max k y') z')
 cond-swap true true k x y z x' y' z' a b c = refl
@@ -119,8 +121,8 @@ module _ (r : Run) (rs : List Run) (t a : ℕ) where
 -- ---- any tree, told by how it may grow
 -- The run joins a reached pin to one that is there and not reached.
 pub record Joins (There : ℕ → Type 0) (o : ℕ) (r : Run) (rs : List Run) : Type 0 where
-  pub from : Reached o (r .near) rs
-  pub unmet : ¬ Reached o (r .far) rs
+  pub from : IsReached o (r .near) rs
+  pub unmet : ¬ IsReached o (r .far) rs
   pub there : There (r .far)
 
 -- Runs that join one pin more each, the newest first.
@@ -129,17 +131,17 @@ pub data Branching (There : ℕ → Type 0) (o : ℕ) : List Run → Type 0 wher
   branch : {r : Run} {rs : List Run} → Joins There o r rs → Branching There o rs → Branching There o (r ∷ rs)
 
 -- It joins them by the earliest pair.
-pub record Next (key : ℕ → ℕ → ℕ) (There : ℕ → Type 0) (o : ℕ) (r : Run) (rs : List Run) : Type 0 where
+pub record JoinsEarliest (key : ℕ → ℕ → ℕ) (There : ℕ → Type 0) (o : ℕ) (r : Run) (rs : List Run) : Type 0 where
   pub joins : Joins There o r rs
-  pub least : (a b : ℕ) → Reached o a rs → ¬ Reached o b rs → There b → key (r .near) (r .far) ≤ key a b
+  pub least : (a b : ℕ) → IsReached o a rs → ¬ IsReached o b rs → There b → key (r .near) (r .far) ≤ key a b
 
 -- Runs that join it by the earliest pair each.
 pub data Grown (key : ℕ → ℕ → ℕ) (There : ℕ → Type 0) (o : ℕ) : List Run → Type 0 where
   seed : Grown key There o []
-  grow : {r : Run} {rs : List Run} → Next key There o r rs → Grown key There o rs → Grown key There o (r ∷ rs)
+  grow : {r : Run} {rs : List Run} → JoinsEarliest key There o r rs → Grown key There o rs → Grown key There o (r ∷ rs)
 
 -- The far end of a run is reached,
-pub far-reached : (o s t : ℕ) {rs : List Run} → HasRun s t rs → Reached o t rs
+pub far-reached : (o s t : ℕ) {rs : List Run} → HasRun s t rs → IsReached o t rs
 far-reached o s t (here e f) = new f
 far-reached o s t (further h) = old (far-reached o s t h)
 
@@ -150,12 +152,12 @@ module _ {There : ℕ → Type 0} {o : ℕ} where
   branching (grow l g) = branch (l .joins) (branching g)
 
   -- and so is its near end.
-  pub near-reached : (s t : ℕ) {rs : List Run} → Branching There o rs → HasRun s t rs → Reached o s rs
-  near-reached s t (branch {rs = rs} j w) (here e f) = old (subst (λ (z : ℕ). Reached o z rs) (sym e) (j .from))
+  pub near-reached : (s t : ℕ) {rs : List Run} → Branching There o rs → HasRun s t rs → IsReached o s rs
+  near-reached s t (branch {rs = rs} j w) (here e f) = old (subst (λ (z : ℕ). IsReached o z rs) (sym e) (j .from))
   near-reached s t (branch j w) (further h) = old (near-reached s t w h)
 
   -- Every reached pin is there, where the first is.
-  pub reached-there : There o → {rs : List Run} → Branching There o rs → (a : ℕ) → Reached o a rs → There a
+  pub reached-there : There o → {rs : List Run} → Branching There o rs → (a : ℕ) → IsReached o a rs → There a
   reached-there k trunk a (start e) = subst There (sym e) k
   reached-there k (branch j w) a (new e) = subst There (sym e) (j .there)
   reached-there k (branch j w) a (old h) = reached-there k w a h
@@ -167,8 +169,8 @@ module _ {There : ℕ → Type 0} {o : ℕ} where
 
 module _ (key : ℕ → ℕ → ℕ) (swap : (a b : ℕ) → key a b ≡ key b a) {There : ℕ → Type 0} {o : ℕ} where
   -- Two reached pins: no run on the way between them is later than the later of two pairs that lead out from them.
-  pub leads-out : {rs : List Run} → Grown key There o rs → (u w v v' : ℕ) → Reached o u rs → Reached o w rs
-      → ¬ Reached o v rs → ¬ Reached o v' rs → There v → There v' → widest key rs u w ≤ max (key u v) (key w v')
+  pub leads-out : {rs : List Run} → Grown key There o rs → (u w v v' : ℕ) → IsReached o u rs → IsReached o w rs
+      → ¬ IsReached o v rs → ¬ IsReached o v' rs → There v → There v' → widest key rs u w ≤ max (key u v) (key w v')
   unfolding widest
   leads-out seed u w v v' iu iw nv nv' lv lv' = omega arith
   leads-out (grow {r = r} {rs = rs} l g) u w v v' (new e) (new f) nv nv' lv lv' = rw (widest-both key r rs u w e f) (omega arith)
@@ -194,7 +196,7 @@ module _ (key : ℕ → ℕ → ℕ) (swap : (a b : ℕ) → key a b ≡ key b a
       (leads-out g u w v v' h k (λ z. nv (old z)) (λ z. nv' (old z)) lv lv')
 
   -- No run on the way between two pins is later than their pair.
-  pub way-least : {rs : List Run} → Grown key There o rs → (a b : ℕ) → Reached o a rs → Reached o b rs → (a ≡ b → ⊥) → widest key rs a b ≤ key a b
+  pub way-least : {rs : List Run} → Grown key There o rs → (a b : ℕ) → IsReached o a rs → IsReached o b rs → (a ≡ b → ⊥) → widest key rs a b ≤ key a b
   unfolding widest
   way-least seed a b ia ib ne = omega arith
   way-least (grow {r = r} {rs = rs} l g) a b (new e) (new f) ne = absurd (ne (e ∙ sym f))
@@ -230,6 +232,7 @@ module _ (key : ℕ → ℕ → ℕ) where
     pub is : widest key rs a b ≡ key s t
     pub apart : hangs rs t a ≡ hangs rs t b → ⊥
 
+  -- The same, seen from the other pin.
   turned : {rs : List Run} {a b : ℕ} → Widest rs a b → Widest rs b a
   turned {rs} {a} {b} w =
       record {
@@ -246,7 +249,7 @@ differ e f g = let z : _≡_ {A = ℕ} 0 1 = cc in omega arith
 
 module _ (key : ℕ → ℕ → ℕ) {There : ℕ → Type 0} {o : ℕ} where
   -- A run lies on every way between the pins that hang from it and the others.
-  pub lies-on : {rs : List Run} → Branching There o rs → (s t a b : ℕ) → HasRun s t rs → Reached o a rs → Reached o b rs
+  pub lies-on : {rs : List Run} → Branching There o rs → (s t a b : ℕ) → HasRun s t rs → IsReached o a rs → IsReached o b rs
       → (hangs rs t a ≡ hangs rs t b → ⊥) → key s t ≤ widest key rs a b
   lies-on (branch {r = r} {rs = rs} j w) s t a b (here e f) (new p) (new q) ne =
       absurd (ne (hangs-self r rs t a p f ∙ sym (hangs-self r rs t b q f)))
@@ -276,7 +279,8 @@ module _ (key : ℕ → ℕ → ℕ) {There : ℕ → Type 0} {o : ℕ} where
       rw (widest-old key r rs a b fa fb)
       (lies-on w s t a b h p q (λ z. ne (hangs-old r rs t a fa ft ∙ z ∙ sym (hangs-old r rs t b fb ft))))
 
-  widest-new : (r : Run) (rs : List Run) → Joins There o r rs → (a b : ℕ) → a ≡ r .far → Reached o b rs
+  -- The newest run is such a run, or one before it is.
+  widest-new : (r : Run) (rs : List Run) → Joins There o r rs → (a b : ℕ) → a ≡ r .far → IsReached o b rs
       → ((r .near ≡ b → ⊥) → Widest key rs (r .near) b) → Widest key (r ∷ rs) a b
   widest-new r rs j a b p q ih = go (order (widest key rs (r .near) b) (key (r .near) (r .far)))
     where
@@ -304,7 +308,7 @@ module _ (key : ℕ → ℕ → ℕ) {There : ℕ → Type 0} {o : ℕ} where
           }
 
   -- There is such a run for any two reached pins.
-  pub widest-run : {rs : List Run} → Branching There o rs → (a b : ℕ) → Reached o a rs → Reached o b rs → (a ≡ b → ⊥) → Widest key rs a b
+  pub widest-run : {rs : List Run} → Branching There o rs → (a b : ℕ) → IsReached o a rs → IsReached o b rs → (a ≡ b → ⊥) → Widest key rs a b
   widest-run trunk a b (start e) (start f) ne = absurd (ne (e ∙ sym f))
   widest-run (branch {r = r} {rs = rs} j w) a b (new p) (new q) ne = absurd (ne (p ∙ sym q))
   widest-run (branch {r = r} {rs = rs} j w) a b (new p) (old q) ne = widest-new r rs j a b p q (widest-run w (r .near) b (j .from) q)
@@ -325,7 +329,7 @@ module _ (key : ℕ → ℕ → ℕ) {There : ℕ → Type 0} {o : ℕ} where
 
 module _ (key : ℕ → ℕ → ℕ) (swap : (a b : ℕ) → key a b ≡ key b a) {There : ℕ → Type 0} {o : ℕ} where
   -- THE CUT PROPERTY: no pair of a pin that hangs from a run and one that does not has a smaller key than the run.
-  pub cut : {rs : List Run} → Grown key There o rs → (s t a b : ℕ) → HasRun s t rs → Reached o a rs → Reached o b rs
+  pub cut : {rs : List Run} → Grown key There o rs → (s t a b : ℕ) → HasRun s t rs → IsReached o a rs → IsReached o b rs
       → (hangs rs t a ≡ hangs rs t b → ⊥) → key s t ≤ key a b
   cut {rs} g s t a b h ia ib ne =
       omega (
@@ -367,10 +371,3 @@ module _ {There : ℕ → Type 0} {o : ℕ} where
       hangs-old r rs t t' (fresh o t' (r .far) (far-reached o s' t' h') (j .unmet)) ft
       ∙ run-hangs w s t s' t' h h' ne
       ∙ sym (hangs-old r rs t s' (fresh o s' (r .far) (near-reached s' t' w h') (j .unmet)) ft)
-
-  -- A pin is the far end of one run only.
-  pub one-run : {rs : List Run} → Branching There o rs → (s s' t : ℕ) → HasRun s t rs → HasRun s' t rs → s ≡ s'
-  one-run (branch j w) s s' t (here e f) (here e' f') = e ∙ sym e'
-  one-run (branch {r = r} j w) s s' t (here e f) (further h) = absurd (fresh o t (r .far) (far-reached o s' t h) (j .unmet) f)
-  one-run (branch {r = r} j w) s s' t (further h) (here e f) = absurd (fresh o t (r .far) (far-reached o s t h) (j .unmet) f)
-  one-run (branch j w) s s' t (further h) (further h') = one-run w s s' t h h'

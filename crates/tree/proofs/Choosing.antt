@@ -15,10 +15,10 @@ use Rattle.grid.specs.declared.Place.{Place}
 use Rattle.feed.specs.declared.Spot.{Spot}
 use Rattle.grid.specs.Weight.{comesBefore}
 use Rattle.tree.specs.declared.Offer.{Offer}
-use Rattle.tree.specs.declared.Choice.{Choice}
+use Rattle.tree.specs.declared.Next.{Next}
 use Rattle.feed.specs.Feeds.{mostPins, spotAt}
 use Rattle.tree.specs.Growth.{pairAt}
-use Rattle.tree.specs.Offers.{noOffer, firstOffer, nextOffer, firstOffers, nextOffers, betterChoice, choiceFrom, choiceOf}
+use Rattle.tree.specs.Offers.{noOffer, firstOffer, nextOffer, firstOffers, nextOffers, earlierNext, nextFrom, nextOf}
 use Rattle.tree.proofs.Earliest.{Keyed}
 
 -- What pin k keeps.
@@ -60,15 +60,15 @@ next-many n p i [] offers e = refl
 next-many n p i (s ∷ feed) [] e = absurd (omega arith)
 next-many n p i (s ∷ feed) (o ∷ offers) e = ap suc (next-many n p (suc i) feed offers (omega arith))
 
--- ---- the choice
+-- ---- the pin that is reached next
 -- Pin k waits, with the pair of the pin that offers and itself.
 pub record Open (feed : List Spot) (o : Offer) (k : ℕ) : Type 0 where
   pub pin : k < mostPins
   pub near : o .near < mostPins
   pub pair : o .pair ≡ pairAt feed (o .near) k
 
--- The choice is the earliest of the offers at the pins below i; it waits if one of them does.
-pub record Chosen (key : ℕ → ℕ → ℕ) (at : ℕ → Offer) (i : ℕ) (c : Choice) : Type 0 where
+-- The pin that is reached next has the earliest of the offers at the pins below i; it waits if one of them does.
+pub record Chosen (key : ℕ → ℕ → ℕ) (at : ℕ → Offer) (i : ℕ) (c : Next) : Type 0 where
   pub low : c .offer .waits ≡ true → c .pin < i
   pub kept : c .offer .waits ≡ true → c .offer ≡ at (c .pin)
   pub found : (k : ℕ) → k < i → at k .waits ≡ true → c .offer .waits ≡ true
@@ -76,7 +76,7 @@ pub record Chosen (key : ℕ → ℕ → ℕ) (at : ℕ → Offer) (i : ℕ) (c 
 
 module _ {feed : List Spot} {key : ℕ → ℕ → ℕ} (keyed : Keyed feed key) (at : ℕ → Offer) where
   -- A pin that does not wait changes nothing.
-  skip : (i : ℕ) (c : Choice) → Chosen key at i c → at i .waits ≡ false → Chosen key at (suc i) c
+  skip : (i : ℕ) (c : Next) → Chosen key at i c → at i .waits ≡ false → Chosen key at (suc i) c
   skip i c h e =
       record {
         low = λ w. omega (arith, h .low w);
@@ -94,7 +94,7 @@ module _ {feed : List Spot} {key : ℕ → ℕ → ℕ} (keyed : Keyed feed key)
       least k w (inr l) = h .least k l w
 
   -- A pin that waits is taken where its key is no greater than those before.
-  take : (i : ℕ) (c : Choice) → Chosen key at i c → at i .waits ≡ true
+  take : (i : ℕ) (c : Next) → Chosen key at i c → at i .waits ≡ true
       → ((k : ℕ) → k < i → at k .waits ≡ true → key (at i .near) i ≤ key (at k .near) k)
       → Chosen key at (suc i) (record { pin = i; offer = at i })
   take i c h e f =
@@ -109,8 +109,8 @@ module _ {feed : List Spot} {key : ℕ → ℕ → ℕ} (keyed : Keyed feed key)
       least k w (inl q) = rw q (omega arith)
       least k w (inr l) = f k l w
 
-  -- A pin that waits is left where its key is no smaller than the choice's.
-  leave : (i : ℕ) (c : Choice) → Chosen key at i c → c .offer .waits ≡ true → key (c .offer .near) (c .pin) ≤ key (at i .near) i
+  -- A pin that waits is left where its key is no smaller than that of the one so far.
+  leave : (i : ℕ) (c : Next) → Chosen key at i c → c .offer .waits ≡ true → key (c .offer .near) (c .pin) ≤ key (at i .near) i
       → Chosen key at (suc i) c
   leave i c h e f =
       record {
@@ -125,12 +125,12 @@ module _ {feed : List Spot} {key : ℕ → ℕ → ℕ} (keyed : Keyed feed key)
       least k w (inr l) = h .least k l w
 
   -- One pin more.
-  pub choice-step : ((k : ℕ) → at k .waits ≡ true → Open feed (at k) k) → (i : ℕ) (c : Choice) → Chosen key at i c
-      → Chosen key at (suc i) (betterChoice c i (at i))
-  unfolding betterChoice
-  choice-step sound i c h = go (decide (at i .waits)) (decide (c .offer .waits)) (decide (comesBefore (at i .pair) (c .offer .pair)))
+  pub chosen-step : ((k : ℕ) → at k .waits ≡ true → Open feed (at k) k) → (i : ℕ) (c : Next) → Chosen key at i c
+      → Chosen key at (suc i) (earlierNext c i (at i))
+  unfolding earlierNext
+  chosen-step sound i c h = go (decide (at i .waits)) (decide (c .offer .waits)) (decide (comesBefore (at i .pair) (c .offer .pair)))
     where
-      this : Choice
+      this : Next
       this = record { pin = i; offer = at i }
 
       same : at i .waits ≡ true → c .offer .waits ≡ true → comesBefore (at i .pair) (c .offer .pair) ≡ ltb (key (at i .near) i) (key (c .offer .near) (c .pin))
@@ -168,22 +168,22 @@ module _ {feed : List Spot} {key : ℕ → ℕ → ℕ} (keyed : Keyed feed key)
           (leave i c h f m)
 
   -- All pins from i on.
-  pub choice-all : ((k : ℕ) → at k .waits ≡ true → Open feed (at k) k) → (i : ℕ) (c : Choice) (offers : List Offer)
-      → ((k : ℕ) → k < length offers → offerAt offers k ≡ at (i + k)) → Chosen key at i c → Chosen key at (i + length offers) (choiceFrom c i offers)
-  unfolding choiceFrom
-  choice-all sound i c [] f h = let e : i + 0 ≡ i = omega arith in rw e h
-  choice-all sound i c (o ∷ offers) f h =
+  pub chosen-all : ((k : ℕ) → at k .waits ≡ true → Open feed (at k) k) → (i : ℕ) (c : Next) (offers : List Offer)
+      → ((k : ℕ) → k < length offers → offerAt offers k ≡ at (i + k)) → Chosen key at i c → Chosen key at (i + length offers) (nextFrom c i offers)
+  unfolding nextFrom
+  chosen-all sound i c [] f h = let e : i + 0 ≡ i = omega arith in rw e h
+  chosen-all sound i c (o ∷ offers) f h =
       let e : i + suc (length offers) ≡ suc i + length offers = omega arith in
       let q : o ≡ at i = f 0 (omega arith) ∙ ap at (omega arith) in
       rw (e, q)
-      (choice-all sound (suc i) (betterChoice c i (at i)) offers (λ k l. f (suc k) (omega arith) ∙ ap at (omega arith)) (choice-step sound i c h))
+      (chosen-all sound (suc i) (earlierNext c i (at i)) offers (λ k l. f (suc k) (omega arith) ∙ ap at (omega arith)) (chosen-step sound i c h))
 
--- The choice of all offers.
-pub choice-chosen : {feed : List Spot} {key : ℕ → ℕ → ℕ} → Keyed feed key → (offers : List Offer)
+-- The pin that is reached next, of all.
+pub next-chosen : {feed : List Spot} {key : ℕ → ℕ → ℕ} → Keyed feed key → (offers : List Offer)
     → ((k : ℕ) → offerAt offers k .waits ≡ true → Open feed (offerAt offers k) k)
-    → Chosen key (offerAt offers) (length offers) (choiceOf offers)
-unfolding choiceOf
-choice-chosen {key = key} keyed offers sound =
+    → Chosen key (offerAt offers) (length offers) (nextOf offers)
+unfolding nextOf
+next-chosen {key = key} keyed offers sound =
     let none : Chosen key (offerAt offers) 0 (record { pin = 0; offer = noOffer }) =
     record {
       low = λ w. absurd (opposite w refl);
@@ -192,4 +192,4 @@ choice-chosen {key = key} keyed offers sound =
       least = λ k l w. absurd (omega arith);
     } in
     let e : 0 + length offers ≡ length offers = omega arith in
-    rw e at (choice-all keyed (offerAt offers) sound 0 (record { pin = 0; offer = noOffer }) offers (λ k l. ap (offerAt offers) (omega arith)) none)
+    rw e at (chosen-all keyed (offerAt offers) sound 0 (record { pin = 0; offer = noOffer }) offers (λ k l. ap (offerAt offers) (omega arith)) none)

@@ -30,7 +30,7 @@ abbrev pub keyOf : (ℕ → ℕ → ℕ) → Run → ℕ
 keyOf key r = key (r .near) (r .far)
 
 -- Both ends are pin numbers.
-pub record Ends (r : Run) : Type 0 where
+pub record LowEnds (r : Run) : Type 0 where
   pub near : r .near < mostPins
   pub far : r .far < mostPins
 
@@ -59,7 +59,8 @@ module _ {feed : List Spot} {key : ℕ → ℕ → ℕ} (k : Keyed feed key) whe
     left : keyOf key e ≤ keyOf key r
     right : keyOf key e ≤ keyOf key s
 
-  keeps : (r s : Run) → Ends r → Ends s → Kept r s (choose (sooner feed s r) s r)
+  -- The earlier of two runs is kept.
+  keeps : (r s : Run) → LowEnds r → LowEnds s → Kept r s (choose (sooner feed s r) s r)
   unfolding sooner
   keeps r s hr hs = go (decide (comesBefore (pairAt feed (s .near) (s .far)) (pairAt feed (r .near) (r .far))))
     where
@@ -82,7 +83,7 @@ module _ {feed : List Spot} {key : ℕ → ℕ → ℕ} (k : Keyed feed key) whe
     pub least : (s : Run) → Among s (r ∷ others) → keyOf key e ≤ keyOf key s
 
   -- What the definition takes is such a run.
-  pub earliest-least : (r : Run) (others : List Run) → ((s : Run) → Among s (r ∷ others) → Ends s) → Least r others (earliest feed r others)
+  pub earliest-least : (r : Run) (others : List Run) → ((s : Run) → Among s (r ∷ others) → LowEnds s) → Least r others (earliest feed r others)
   unfolding earliest
   earliest-least r [] h = record { one = first refl; least = λ s m. only s m }
     where
@@ -93,7 +94,7 @@ module _ {feed : List Spot} {key : ℕ → ℕ → ℕ} (k : Keyed feed key) whe
       kept : Kept r s (choose (sooner feed s r) s r)
       kept = keeps r s (h r (first refl)) (h s (later (first refl)))
 
-      ends : (t : Run) → Among t (choose (sooner feed s r) s r ∷ others) → Ends t
+      ends : (t : Run) → Among t (choose (sooner feed s r) s r ∷ others) → LowEnds t
       ends t (first e) = ⊎-elim (λ q. h t (first (e ∙ q))) (λ q. h t (later (first (e ∙ q)))) (kept .one)
       ends t (later m) = h t (later (later m))
 

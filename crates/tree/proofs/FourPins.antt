@@ -86,15 +86,19 @@ pub record InBox (a b p : Site) : Type 0 where
 
 module _ (a : Site) (i : ℕ) (b : Site) (j : ℕ) (c : Site) (k : ℕ) (d : Site) (l : ℕ)
     (cd : Before c k d l a i d l) (ab : Before a i b j c k b j) (p : Site) (in-ab : InBox a b p) (in-cd : InBox c d p) where
+  -- p lies between a and b in x,
   x-ab : gap (a .x) (b .x) ≡ gap (a .x) (p .x) + gap (p .x) (b .x)
   x-ab = gap-at (a .x) (b .x) (p .x) (in-ab .left) (in-ab .right)
 
+  -- and in y,
   y-ab : gap (a .y) (b .y) ≡ gap (a .y) (p .y) + gap (p .y) (b .y)
   y-ab = gap-at (a .y) (b .y) (p .y) (in-ab .bottom) (in-ab .top)
 
+  -- and between c and d in x,
   x-cd : gap (c .x) (d .x) ≡ gap (c .x) (p .x) + gap (p .x) (d .x)
   x-cd = gap-at (c .x) (d .x) (p .x) (in-cd .left) (in-cd .right)
 
+  -- and in y.
   y-cd : gap (c .y) (d .y) ≡ gap (c .y) (p .y) + gap (p .y) (d .y)
   y-cd = gap-at (c .y) (d .y) (p .y) (in-cd .bottom) (in-cd .top)
 
@@ -108,6 +112,7 @@ module _ (a : Site) (i : ℕ) (b : Site) (j : ℕ) (c : Site) (k : ℕ) (d : Sit
     y-cb : gap (c .y) (b .y) ≡ gap (c .y) (p .y) + gap (p .y) (b .y)
     sum : gap (a .x) (p .x) + gap (a .y) (p .y) ≡ gap (c .x) (p .x) + gap (c .y) (p .y)
 
+  -- So it is.
   even : Even
   unfolding span
   even =
@@ -127,12 +132,15 @@ module _ (a : Site) (i : ℕ) (b : Site) (j : ℕ) (c : Site) (k : ℕ) (d : Sit
   far-y : gap (a .y) (p .y) ≡ gap (c .y) (p .y)
   far-y = omega (arith, y-ab, y-cd, even .y-ad, even .y-cb, ab .rise (even .span-ab), cd .rise (even .span-cd))
 
+  -- And in x.
   far-x : gap (a .x) (p .x) ≡ gap (c .x) (p .x)
   far-x = omega (arith, far-y, even .sum)
 
+  -- So the differences in y of the pairs with d are the same,
   rise-cd : gap (c .y) (d .y) ≡ gap (a .y) (d .y)
   rise-cd = omega (arith, far-y, y-cd, even .y-ad)
 
+  -- and of those with b.
   rise-ab : gap (a .y) (b .y) ≡ gap (c .y) (b .y)
   rise-ab = omega (arith, far-y, y-ab, even .y-cb)
 
@@ -141,9 +149,11 @@ module _ (a : Site) (i : ℕ) (b : Site) (j : ℕ) (c : Site) (k : ℕ) (d : Sit
   same-x =
       level (a .x) (c .x) (b .x) (d .x) (p .x) far-x (even .x-cb) (even .x-ad) (cd .right (even .span-cd) rise-cd) (ab .right (even .span-ab) rise-ab)
 
+  -- So the larger x of the pairs with d is the same,
   right-cd : max (c .x) (d .x) ≡ max (a .x) (d .x)
   right-cd = rw same-x
 
+  -- and of those with b.
   right-ab : max (a .x) (b .x) ≡ max (c .x) (b .x)
   right-ab = rw same-x
 

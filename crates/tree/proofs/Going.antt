@@ -5,43 +5,39 @@ use mathlib.Core.List.{List, [], _∷_, _++_, append-nil}
 use Prim.Native.Nat.{ℕ, zero, suc, _+_, _-_, _<_, _≤_}
 use native.Mathlib.Omega.{arith}
 use lib.ListN.{length, set, replicate, length-append}
-use lib.Seq.{set-at, append-snoc}
+use lib.Seq.{append-snoc}
 use Rattle.refusal.proofs.Tests.{choose-yes, choose-no}
+use Rattle.refusal.proofs.Lists.{padded-more}
 use Rattle.feed.specs.declared.Spot.{Spot}
 use Rattle.tree.specs.declared.Run.{Run}
 use Rattle.tree.specs.declared.Offer.{Offer}
-use Rattle.tree.specs.declared.Choice.{Choice}
-use Rattle.feed.specs.Feeds.{placeOf, spotAt}
+use Rattle.tree.specs.declared.Next.{Next}
+use Rattle.feed.specs.Feeds.{placeAt}
 use Rattle.tree.specs.Growth.{run}
 use Rattle.tree.specs.Trees.{mostRuns, entries}
-use Rattle.tree.specs.Offers.{nextOffers, choiceOf, takenRuns, takenOf}
+use Rattle.tree.specs.Offers.{nextOffers, nextOf, takenRuns, takenOf}
 
 -- What the pins keep when pin t is reached.
 abbrev pub after : List Spot → ℕ → List Offer → List Offer
-after feed t offers = nextOffers t (placeOf (spotAt feed t)) 0 feed offers
+after feed t offers = nextOffers t (placeAt feed t) 0 feed offers
 
 -- No pin waits: nothing more is taken.
-pub nothing : (feed : List Spot) (turns : ℕ) (offers : List Offer) → choiceOf offers .offer .waits ≡ false → takenRuns feed turns offers ≡ []
+pub nothing : (feed : List Spot) (turns : ℕ) (offers : List Offer) → nextOf offers .offer .waits ≡ false → takenRuns feed turns offers ≡ []
 unfolding takenRuns
 nothing feed zero offers e = refl
 nothing feed (suc turns) offers e = choose-no _ [] e
 
 -- A pin waits: the earliest offer is taken.
-pub something : (feed : List Spot) (turns : ℕ) (offers : List Offer) → choiceOf offers .offer .waits ≡ true
+pub something : (feed : List Spot) (turns : ℕ) (offers : List Offer) → nextOf offers .offer .waits ≡ true
     → takenRuns feed (suc turns) offers
-    ≡ run (choiceOf offers .offer .near) (choiceOf offers .pin) ∷ takenRuns feed turns (after feed (choiceOf offers .pin) offers)
+    ≡ run (nextOf offers .offer .near) (nextOf offers .pin) ∷ takenRuns feed turns (after feed (nextOf offers .pin) offers)
 unfolding takenRuns
 something feed turns offers e = choose-yes _ [] e
 
 -- One entry more.
 pub entries-more : (l : List Run) (r : Run) → length l < mostRuns → set (entries l) (length l) r ≡ entries (l ++ (r ∷ []))
 unfolding entries
-entries-more l r h =
-    let e : mostRuns - length l ≡ suc (mostRuns - suc (length l)) = omega arith in
-    let n : length (l ++ (r ∷ [])) ≡ suc (length l) = length-append l (r ∷ []) ∙ omega arith in
-    rw (e, n)
-    (set-at l (run 0 0) (replicate (mostRuns - suc (length l)) (run 0 0)) r (length l) refl
-    ∙ sym (append-snoc l r (replicate (mostRuns - suc (length l)) (run 0 0))))
+entries-more l r h = padded-more mostRuns (run 0 0) l r h
 
 -- The runs taken so far, in their entries; with those still to be taken they are all.
 pub record Going (feed : List Spot) (opening offers : List Offer) (runs : List Run) (count : ℕ) : Type 0 where
@@ -58,7 +54,7 @@ going-start feed opening = record { taken = []; many = refl; few = omega arith; 
 
 module _ {feed : List Spot} {opening offers : List Offer} {runs : List Run} {count : ℕ} (g : Going feed opening offers runs count) where
   -- At a turn the earliest offer is taken.
-  pub going-turn : (c : Choice) (next : List Offer) → c ≡ choiceOf offers → c .offer .waits ≡ true → count < mostRuns → next ≡ after feed (c .pin) offers
+  pub going-turn : (c : Next) (next : List Offer) → c ≡ nextOf offers → c .offer .waits ≡ true → count < mostRuns → next ≡ after feed (c .pin) offers
       → Going feed opening next (set runs count (run (c .offer .near) (c .pin))) (count + 1)
   going-turn c next ec w h en =
       let e : mostRuns - count ≡ suc (mostRuns - (count + 1)) = omega arith in
@@ -81,7 +77,7 @@ module _ {feed : List Spot} {opening offers : List Offer} {runs : List Run} {cou
       λ i. record { count = (g .many ∙ ap length l) i; runs = (g .kept ∙ ap entries l) i }
 
   -- So it is where no pin waits,
-  pub going-stop : (c : Choice) → c ≡ choiceOf offers → c .offer .waits ≡ false → record { count = count; runs = runs } ≡ takenOf (takenRuns feed mostRuns opening)
+  pub going-stop : (c : Next) → c ≡ nextOf offers → c .offer .waits ≡ false → record { count = count; runs = runs } ≡ takenOf (takenRuns feed mostRuns opening)
   going-stop c ec w = going-all (nothing feed (mostRuns - count) offers (rw ec at w))
 
   -- and after the last turn.

@@ -12,6 +12,7 @@ pub mod Taking
 pub mod Result
 pub mod Branches
 pub mod Listing
+pub mod Positions
 pub mod Ways
 pub mod Spanning
 pub mod FourPins

@@ -6,16 +6,17 @@ use mathlib.Core.List.{List, [], _∷_, reverseAux}
 use mathlib.Core.Logic.{_⊎_, inl, inr, ⊎-elim}
 use Prim.Native.Nat.{ℕ, zero, suc, _<_}
 use native.Mathlib.Omega.{arith}
-use lib.ListN.{length, getD}
+use lib.ListN.{length}
 use Rattle.feed.specs.declared.Spot.{Spot}
 use Rattle.grid.proofs.Flat.{same-or-not}
 use Rattle.tree.specs.declared.Run.{Run}
 use Rattle.feed.specs.Feeds.{mostPins, allWithin}
-use Rattle.tree.specs.Growth.{run, pinsOf, without, nextRun, grown, runsAmong, runsOf}
-use Rattle.tree.proofs.Membership.{Among, first, later, Distinct, also, without-in, in-without, length-without, distinct-without, pins-there, pins-distinct}
+use Rattle.tree.specs.Growth.{pinsOf, without, nextRun, grown, runsAmong, runsOf}
+use Rattle.tree.proofs.Membership.{Among, first, later, Distinct, also, without-in, in-without, length-without, distinct-without, pins-there, pins-distinct, distinct-rest}
+use Rattle.tree.specs.Reached.{runAt}
 use Rattle.tree.proofs.Earliest.{Keyed, Earliest, next-earliest}
 use Rattle.tree.proofs.Numbering.{keyAt, keyed}
-use Rattle.tree.proofs.Branches.{Reached, start, new, old, Next, Grown, seed, grow}
+use Rattle.tree.proofs.Branches.{start, new, old, JoinsEarliest, Grown, seed, grow, IsReached}
 
 -- Runs as they are taken: each is the earliest between the pins reached and those left.
 pub data Listed (key : ℕ → ℕ → ℕ) : List ℕ → List ℕ → List Run → Type 0 where
@@ -43,46 +44,43 @@ grown-listed {feed} k (suc turns) reached (b ∷ left) a ha low low' d e =
     lows t m c (first q) = omega (arith, low' t m)
     lows t m c (later n) = low c n
 
--- The near pin of the run at a position,
-abbrev pub nearAt : List Run → ℕ → ℕ
-nearAt runs r = getD runs r (run 0 0) .near
-
--- and its far pin.
-abbrev pub farAt : List Run → ℕ → ℕ
-farAt runs r = getD runs r (run 0 0) .far
-
 module _ {key : ℕ → ℕ → ℕ} where
+  -- There are as many runs as pins left.
   many : {reached left : List ℕ} {rs : List Run} → Listed key reached left rs → Distinct left → length rs ≡ length left
   many done d = refl
   many (taking {left = left} {r = r} h l) d =
       omega (arith, length-without (r .far) d (h .to), many l (distinct-without (r .far) d))
 
-  far-left : {reached left : List ℕ} {rs : List Run} → Listed key reached left rs → (r : ℕ) → r < length rs → Among (farAt rs r) left
+  -- A far pin is one of those left.
+  far-left : {reached left : List ℕ} {rs : List Run} → Listed key reached left rs → (r : ℕ) → r < length rs → Among (runAt rs r .far) left
   far-left done r h = absurd (omega arith)
   far-left (taking e l) zero h = e .to
   far-left (taking {left = left} {r = q} e l) (suc r) h = without-in (q .far) left (far-left l r (omega arith)) .0
 
-  far-once : {reached left : List ℕ} {rs : List Run} → Listed key reached left rs → (q r : ℕ) → q < r → r < length rs → farAt rs q ≡ farAt rs r → ⊥
+  -- No pin is the far pin of two runs.
+  far-once : {reached left : List ℕ} {rs : List Run} → Listed key reached left rs → (q r : ℕ) → q < r → r < length rs → runAt rs q .far ≡ runAt rs r .far → ⊥
   far-once done q r h k e = omega arith
   far-once (taking f l) q zero h k e = omega arith
   far-once (taking {left = left} {r = s} f l) zero (suc r) h k e = without-in (s .far) left (far-left l r (omega arith)) .1 (sym e)
   far-once (taking f l) (suc q) (suc r) h k e = far-once l q r (omega arith) (omega arith) e
 
+  -- A near pin was reached before, or is the far pin of an earlier run.
   near-known : {reached left : List ℕ} {rs : List Run} → Listed key reached left rs → (r : ℕ) → r < length rs
-      → Among (nearAt rs r) reached ⊎ ((q : ℕ) × (q < r) × (nearAt rs r ≡ farAt rs q))
+      → Among (runAt rs r .near) reached ⊎ ((q : ℕ) × (q < r) × (runAt rs r .near ≡ runAt rs q .far))
   near-known done r h = absurd (omega arith)
   near-known (taking e l) zero h = inl (e .from)
   near-known (taking {reached = reached} {r = s} {rs = rs} e l) (suc r) h = ⊎-elim known (λ z. inr (suc (z .0), omega (arith, z .1), z .2)) (near-known l r (omega arith))
     where
-      known : Among (nearAt rs r) (s .far ∷ reached) → Among (nearAt rs r) reached ⊎ ((q : ℕ) × (q < suc r) × (nearAt rs r ≡ farAt (s ∷ rs) q))
+      known : Among (runAt rs r .near) (s .far ∷ reached) → Among (runAt rs r .near) reached ⊎ ((q : ℕ) × (q < suc r) × (runAt rs r .near ≡ runAt (s ∷ rs) q .far))
       known (first q) = inr (0, omega arith, q)
       known (later m) = inl m
 
-  all-reached : {reached left : List ℕ} {rs : List Run} → Listed key reached left rs → (p : ℕ) → Among p left → (r : ℕ) × (r < length rs) × (p ≡ farAt rs r)
+  -- Every pin left is the far pin of a run.
+  all-reached : {reached left : List ℕ} {rs : List Run} → Listed key reached left rs → (p : ℕ) → Among p left → (r : ℕ) × (r < length rs) × (p ≡ runAt rs r .far)
   all-reached (taking {left = left} {r = s} {rs = rs} e l) p m = go (same-or-not p (s .far)) (all-reached l p)
     where
-      go : (p ≡ s .far) ⊎ (p ≡ s .far → ⊥) → (Among p (without (s .far) left) → (r : ℕ) × (r < length rs) × (p ≡ farAt rs r))
-          → (r : ℕ) × (r < suc (length rs)) × (p ≡ farAt (s ∷ rs) r)
+      go : (p ≡ s .far) ⊎ (p ≡ s .far → ⊥) → (Among p (without (s .far) left) → (r : ℕ) × (r < length rs) × (p ≡ runAt rs r .far))
+          → (r : ℕ) × (r < suc (length rs)) × (p ≡ runAt (s ∷ rs) r .far)
       go (inl q) ih = (0, omega arith, q)
       go (inr q) ih = let z = ih (in-without (s .far) m q) in (suc (z .0), omega (arith, z .1), z .2)
 
@@ -91,18 +89,18 @@ pub record Rooted (first : ℕ) (left : List ℕ) (runs : List Run) : Type 0 whe
   -- There is one run fewer than pins.
   pub many : length runs ≡ length left
   -- A run's near pin is the first pin or the far pin of an earlier run.
-  pub near-reached : (r : ℕ) → r < length runs → (nearAt runs r ≡ first) ⊎ ((q : ℕ) × (q < r) × (nearAt runs r ≡ farAt runs q))
+  pub near-reached : (r : ℕ) → r < length runs → (runAt runs r .near ≡ first) ⊎ ((q : ℕ) × (q < r) × (runAt runs r .near ≡ runAt runs q .far))
   -- Its near pin is there.
-  pub near-there : (r : ℕ) → r < length runs → Among (nearAt runs r) (first ∷ left)
+  pub near-there : (r : ℕ) → r < length runs → Among (runAt runs r .near) (first ∷ left)
   -- Its far pin is there, and not the first pin.
-  pub far-there : (r : ℕ) → r < length runs → Among (farAt runs r) left
-  pub far-new : (r : ℕ) → r < length runs → farAt runs r ≡ first → ⊥
+  pub far-there : (r : ℕ) → r < length runs → Among (runAt runs r .far) left
+  pub far-new : (r : ℕ) → r < length runs → runAt runs r .far ≡ first → ⊥
   -- No pin is the far pin of two runs.
-  pub far-once : (q r : ℕ) → q < r → r < length runs → farAt runs q ≡ farAt runs r → ⊥
+  pub far-once : (q r : ℕ) → q < r → r < length runs → runAt runs q .far ≡ runAt runs r .far → ⊥
   -- A run's ends are different pins.
-  pub ends-differ : (r : ℕ) → r < length runs → nearAt runs r ≡ farAt runs r → ⊥
+  pub ends-differ : (r : ℕ) → r < length runs → runAt runs r .near ≡ runAt runs r .far → ⊥
   -- Every pin but the first is the far pin of a run.
-  pub all-reached : (p : ℕ) → Among p left → (r : ℕ) × (r < length runs) × (p ≡ farAt runs r)
+  pub all-reached : (p : ℕ) → Among p left → (r : ℕ) × (r < length runs) × (p ≡ runAt runs r .far)
 
 -- Runs listed so, from the first pin on, are such runs.
 pub listed-rooted : {key : ℕ → ℕ → ℕ} {f : ℕ} {left : List ℕ} {runs : List Run} → Distinct (f ∷ left) → Listed key (f ∷ []) left runs → Rooted f left runs
@@ -118,59 +116,61 @@ listed-rooted {f = f} {left = left} {runs = runs} (also out d) l =
       all-reached = λ p m. all-reached l p m;
     }
   where
-    near : (r : ℕ) → Among (nearAt runs r) (f ∷ []) ⊎ ((q : ℕ) × (q < r) × (nearAt runs r ≡ farAt runs q))
-        → (nearAt runs r ≡ f) ⊎ ((q : ℕ) × (q < r) × (nearAt runs r ≡ farAt runs q))
+    near : (r : ℕ) → Among (runAt runs r .near) (f ∷ []) ⊎ ((q : ℕ) × (q < r) × (runAt runs r .near ≡ runAt runs q .far))
+        → (runAt runs r .near ≡ f) ⊎ ((q : ℕ) × (q < r) × (runAt runs r .near ≡ runAt runs q .far))
     near r (inl (first q)) = inl q
     near r (inr z) = inr z
 
-    there : (r : ℕ) → r < length runs → (nearAt runs r ≡ f) ⊎ ((q : ℕ) × (q < r) × (nearAt runs r ≡ farAt runs q)) → Among (nearAt runs r) (f ∷ left)
+    there : (r : ℕ) → r < length runs → (runAt runs r .near ≡ f) ⊎ ((q : ℕ) × (q < r) × (runAt runs r .near ≡ runAt runs q .far)) → Among (runAt runs r .near) (f ∷ left)
     there r h (inl q) = first q
     there r h (inr z) = later {l = left} (rw (z .2) (far-left l (z .0) (omega (arith, z .1))))
 
-    new' : (r : ℕ) → r < length runs → farAt runs r ≡ f → ⊥
+    new' : (r : ℕ) → r < length runs → runAt runs r .far ≡ f → ⊥
     new' r h e = out (rw e at (far-left l r h))
 
-    ends : (r : ℕ) → r < length runs → nearAt runs r ≡ farAt runs r → (nearAt runs r ≡ f) ⊎ ((q : ℕ) × (q < r) × (nearAt runs r ≡ farAt runs q)) → ⊥
+    ends : (r : ℕ) → r < length runs → runAt runs r .near ≡ runAt runs r .far
+        → (runAt runs r .near ≡ f) ⊎ ((q : ℕ) × (q < r) × (runAt runs r .near ≡ runAt runs q .far)) → ⊥
     ends r h e (inl q) = new' r h (sym e ∙ q)
     ends r h e (inr z) = far-once l (z .0) r (z .1) h (sym (z .2) ∙ e)
 
 -- ---- the same, the newest first
 pub listed-grown : {key : ℕ → ℕ → ℕ} {There : ℕ → Type 0} {o : ℕ} {reached left : List ℕ} {rs : List Run} → Listed key reached left rs
     → (before : List Run) → Grown key There o before
-    → ((a : ℕ) → Among a reached → Reached o a before) → ((a : ℕ) → Reached o a before → Among a reached)
-    → ((a : ℕ) → Among a left → There a × (Reached o a before → ⊥)) → ((a : ℕ) → There a → (Reached o a before → ⊥) → Among a left)
+    → ((a : ℕ) → Among a reached → IsReached o a before) → ((a : ℕ) → IsReached o a before → Among a reached)
+    → ((a : ℕ) → Among a left → There a × (IsReached o a before → ⊥)) → ((a : ℕ) → There a → (IsReached o a before → ⊥) → Among a left)
     → Grown key There o (reverseAux rs before)
 listed-grown done before g to from out into = g
 listed-grown {key = key} {There = There} {o = o} (taking {reached = reached} {left = left} {r = r} {rs = rs} e l) before g to from out into =
     listed-grown l (r ∷ before) (grow one g) to' from' out' into'
   where
-    one : Next key There o r before
+    one : JoinsEarliest key There o r before
     one =
         record {
           joins = record { from = to (r .near) (e .from); unmet = out (r .far) (e .to) .1; there = out (r .far) (e .to) .0 };
           least = λ a b ha nb tb. e .least a b (from a ha) (into b tb nb);
         }
 
-    to' : (a : ℕ) → Among a (r .far ∷ reached) → Reached o a (r ∷ before)
+    to' : (a : ℕ) → Among a (r .far ∷ reached) → IsReached o a (r ∷ before)
     to' a (first q) = new q
     to' a (later m) = old (to a m)
 
-    from' : (a : ℕ) → Reached o a (r ∷ before) → Among a (r .far ∷ reached)
+    from' : (a : ℕ) → IsReached o a (r ∷ before) → Among a (r .far ∷ reached)
     from' a (new q) = first q
     from' a (old h) = later (from a h)
 
-    out' : (a : ℕ) → Among a (without (r .far) left) → There a × (Reached o a (r ∷ before) → ⊥)
+    out' : (a : ℕ) → Among a (without (r .far) left) → There a × (IsReached o a (r ∷ before) → ⊥)
     out' a m = let z = without-in (r .far) left m in (out a (z .0) .0, λ h. no a (z .0) (z .1) h)
       where
-        no : (a : ℕ) → Among a left → (a ≡ r .far → ⊥) → Reached o a (r ∷ before) → ⊥
+        no : (a : ℕ) → Among a left → (a ≡ r .far → ⊥) → IsReached o a (r ∷ before) → ⊥
         no a m q (new p) = q p
         no a m q (old h) = out a m .1 h
 
-    into' : (a : ℕ) → There a → (Reached o a (r ∷ before) → ⊥) → Among a (without (r .far) left)
+    into' : (a : ℕ) → There a → (IsReached o a (r ∷ before) → ⊥) → Among a (without (r .far) left)
     into' a t n = in-without (r .far) (into a t (λ h. n (old h))) (λ q. n (new q))
 
 -- ---- the runs of a feed
 module _ (feed : List Spot) (full : length feed ≡ mostPins) (ok : allWithin feed ≡ true) (f : ℕ) (left : List ℕ) (e : pinsOf feed ≡ f ∷ left) where
+  -- No pin is listed twice.
   distinct : Distinct (f ∷ left)
   unfolding pinsOf
   distinct = rw e at (pins-distinct 0 feed)
@@ -184,13 +184,10 @@ module _ (feed : List Spot) (full : length feed ≡ mostPins) (ok : allWithin fe
   pub runs-listed : Listed (keyAt feed) (f ∷ []) left (runsOf feed)
   unfolding runsOf runsAmong
   runs-listed =
-      rw e (grown-listed (keyed feed ok) (length left) (f ∷ []) left f (first refl) low (λ b m. pins-low b (later m)) (rest distinct) refl)
+      rw e (grown-listed (keyed feed ok) (length left) (f ∷ []) left f (first refl) low (λ b m. pins-low b (later m)) (distinct-rest distinct) refl)
     where
       low : (b : ℕ) → Among b (f ∷ []) → b < mostPins
       low b (first q) = omega (arith, pins-low f (first refl))
-
-      rest : Distinct (f ∷ left) → Distinct left
-      rest (also n d) = d
 
   -- THE RUNS JOIN ALL PINS, one run fewer than pins, each from a pin reached before to one that is not.
   pub runs-rooted : Rooted f left (runsOf feed)
@@ -200,21 +197,21 @@ module _ (feed : List Spot) (full : length feed ≡ mostPins) (ok : allWithin fe
   pub runs-grown : Grown (keyAt feed) (λ (a : ℕ). Among a (f ∷ left)) f (reverseAux (runsOf feed) [])
   runs-grown = listed-grown runs-listed [] seed to from out into
     where
-      to : (a : ℕ) → Among a (f ∷ []) → Reached f a []
+      to : (a : ℕ) → Among a (f ∷ []) → IsReached f a []
       to a (first q) = start q
 
-      from : (a : ℕ) → Reached f a [] → Among a (f ∷ [])
+      from : (a : ℕ) → IsReached f a [] → Among a (f ∷ [])
       from a (start q) = first q
 
       apart : Distinct (f ∷ left) → Among f left → ⊥
       apart (also n d) m = n m
 
-      out : (a : ℕ) → Among a left → Among a (f ∷ left) × (Reached f a [] → ⊥)
+      out : (a : ℕ) → Among a left → Among a (f ∷ left) × (IsReached f a [] → ⊥)
       out a m = (later m, λ h. no a m h)
         where
-          no : (a : ℕ) → Among a left → Reached f a [] → ⊥
+          no : (a : ℕ) → Among a left → IsReached f a [] → ⊥
           no a m (start q) = apart distinct (rw q at m)
 
-      into : (a : ℕ) → Among a (f ∷ left) → (Reached f a [] → ⊥) → Among a left
+      into : (a : ℕ) → Among a (f ∷ left) → (IsReached f a [] → ⊥) → Among a left
       into a (first q) n = absurd (n (start q))
       into a (later m) n = m

@@ -1,15 +1,13 @@
 -- Members of a list, lists without repeats, and the lists of pins and runs that the growth is made of. Assumes nothing.
 use mathlib.Core.Path.{_≡_, refl, sym, ap, _∙_}
-use mathlib.Core.Bool.{Bool, true, false}
+use mathlib.Core.Bool.{Bool, true, false, not}
 use mathlib.Core.List.{List, [], _∷_, _++_}
 use mathlib.Core.Logic.{_⊎_, inl, inr, ⊎-elim}
 use Prim.Native.Nat.{ℕ, zero, suc, _+_, _<_, _≤_}
 use native.Mathlib.Omega.{arith}
 use lib.Dec.{eqb}
 use lib.ListN.{length, getD}
-use borrow.Author.Tests.{eq-eqb, ne-eqb}
-use Rattle.refusal.specs.Tests.{choose}
-use Rattle.refusal.proofs.Tests.{opposite, choose-yes, choose-no}
+use borrow.Author.Tests.{eq-eqb, ne-eqb, eqb-false, not-true}
 use Rattle.feed.specs.declared.Spot.{Spot}
 use Rattle.feed.specs.declared.Spot.the-variants.{Absent}
 use Rattle.grid.proofs.Flat.{same-or-not}
@@ -26,6 +24,10 @@ pub data Among {A : Type 0} (a : A) : List A → Type 0 where
 pub data Distinct : List ℕ → Type 0 where
   none : Distinct []
   also : {a : ℕ} {l : List ℕ} → (Among a l → ⊥) → Distinct l → Distinct (a ∷ l)
+
+-- Nor does one of those after the first.
+pub distinct-rest : {a : ℕ} {l : List ℕ} → Distinct (a ∷ l) → Distinct l
+distinct-rest (also out d) = d
 
 -- What stands in a list stands in it with others after it,
 pub in-front : {A : Type 0} {a : A} {l : List A} (m : List A) → Among a l → Among a (l ++ m)
@@ -72,37 +74,35 @@ kept-old n true h = later h
 kept-old n false h = h
 
 -- ---- the pins without one
--- m is another number than n.
-abbrev differs : ℕ → ℕ → Bool
-differs m n = choose (eqb m n) false true
+-- Numbers that the test tells apart are not the same,
+another-no : (m n : ℕ) → not (eqb m n) ≡ true → m ≡ n → ⊥
+another-no m n e = eqb-false m n (not-true (eqb m n) e)
 
-differs-no : (m n : ℕ) → differs m n ≡ true → m ≡ n → ⊥
-differs-no m n e q = opposite e (choose-yes false true (eq-eqb m n q))
-
-differs-yes : (m n : ℕ) → (m ≡ n → ⊥) → differs m n ≡ true
-differs-yes m n q = choose-no false true (ne-eqb m n q)
+-- and those that are not are told apart.
+another-yes : (m n : ℕ) → (m ≡ n → ⊥) → not (eqb m n) ≡ true
+another-yes m n q = ap not (ne-eqb m n q)
 
 -- What is left without a pin stood there before, and is another.
 pub without-in : {a : ℕ} (n : ℕ) (l : List ℕ) → Among a (without n l) → Among a l × (a ≡ n → ⊥)
 unfolding without
-without-in {a} n (m ∷ l) h = go (in-kept (differs m n) h) (without-in n l)
+without-in {a} n (m ∷ l) h = go (in-kept (not (eqb m n)) h) (without-in n l)
   where
-    go : ((differs m n ≡ true) × (a ≡ m)) ⊎ Among a (without n l) → (Among a (without n l) → Among a l × (a ≡ n → ⊥)) → Among a (m ∷ l) × (a ≡ n → ⊥)
-    go (inl e) ih = (first (e .1), λ q. differs-no m n (e .0) (sym (e .1) ∙ q))
+    go : ((not (eqb m n) ≡ true) × (a ≡ m)) ⊎ Among a (without n l) → (Among a (without n l) → Among a l × (a ≡ n → ⊥)) → Among a (m ∷ l) × (a ≡ n → ⊥)
+    go (inl e) ih = (first (e .1), λ q. another-no m n (e .0) (sym (e .1) ∙ q))
     go (inr k) ih = (later (ih k .0), ih k .1)
 
 -- Any other pin is left.
 pub in-without : {a : ℕ} (n : ℕ) {l : List ℕ} → Among a l → (a ≡ n → ⊥) → Among a (without n l)
 unfolding without
-in-without n (first {b = m} {l = l} e) ne = kept-new (without n l) (differs-yes m n (λ q. ne (e ∙ q))) e
-in-without n (later {b = m} h) ne = kept-old m (differs m n) (in-without n h ne)
+in-without n (first {b = m} {l = l} e) ne = kept-new (without n l) (another-yes m n (λ q. ne (e ∙ q))) e
+in-without n (later {b = m} h) ne = kept-old m (not (eqb m n)) (in-without n h ne)
 
 -- Without a pin that is not there all are left.
 pub without-none : (n : ℕ) (l : List ℕ) → (Among n l → ⊥) → without n l ≡ l
 unfolding without
 without-none n [] h = refl
 without-none n (m ∷ l) h =
-    kept-yes m (without n l) (differs-yes m n (λ q. h (first (sym q)))) ∙ ap (_∷_ m) (without-none n l (λ k. h (later k)))
+    kept-yes m (without n l) (another-yes m n (λ q. h (first (sym q)))) ∙ ap (_∷_ m) (without-none n l (λ k. h (later k)))
 
 -- Without a pin that is there one fewer is left.
 pub length-without : (n : ℕ) {l : List ℕ} → Distinct l → Among n l → length l ≡ suc (length (without n l))
@@ -110,11 +110,12 @@ unfolding without
 length-without n (also {a = m} {l = l} d ds) h = go (same-or-not m n) h (length-without n ds)
   where
     go : (m ≡ n) ⊎ (m ≡ n → ⊥) → Among n (m ∷ l) → (Among n l → length l ≡ suc (length (without n l)))
-        → suc (length l) ≡ suc (length (keptIf (differs m n) m (without n l)))
-    go (inl e) k ih = ap suc (sym (ap length (kept-no m (without n l) (choose-yes false true (eq-eqb m n e)) ∙ without-none n l (λ z. d (rw e z)))))
+        → suc (length l) ≡ suc (length (keptIf (not (eqb m n)) m (without n l)))
+    go (inl e) k ih = ap suc (sym (ap length (kept-no m (without n l) (ap not (eq-eqb m n e)) ∙ without-none n l (λ z. d (rw e z)))))
     go (inr e) (first f) ih = absurd (e (sym f))
-    go (inr e) (later k) ih = ap suc (ih k ∙ sym (ap length (kept-yes m (without n l) (differs-yes m n e))))
+    go (inr e) (later k) ih = ap suc (ih k ∙ sym (ap length (kept-yes m (without n l) (another-yes m n e))))
 
+-- A list without repeats stays so with a new number before it.
 distinct-kept : (m : ℕ) (t : Bool) {l : List ℕ} → (Among m l → ⊥) → Distinct l → Distinct (keptIf t m l)
 unfolding keptIf
 distinct-kept m true d k = also d k
@@ -124,7 +125,7 @@ distinct-kept m false d k = k
 pub distinct-without : (n : ℕ) {l : List ℕ} → Distinct l → Distinct (without n l)
 unfolding without
 distinct-without n none = none
-distinct-without n (also {a = m} {l = l} d ds) = distinct-kept m (differs m n) (λ w. d (without-in n l w .0)) (distinct-without n ds)
+distinct-without n (also {a = m} {l = l} d ds) = distinct-kept m (not (eqb m n)) (λ w. d (without-in n l w .0)) (distinct-without n ds)
 
 -- ---- the pins that are there: pin i + k stands among them where the k-th spot has a pin
 -- What stands among the pins is the number of a spot that has a pin,
@@ -155,24 +156,7 @@ pins-distinct i [] = none
 pins-distinct i (s ∷ feed) =
     distinct-kept i (present s) (λ h. let z = pins-there (suc i) feed h in omega (arith, z .1)) (pins-distinct (suc i) feed)
 
--- The first of the pins is the lowest.
-above-kept : (i : ℕ) (t : Bool) (l : List ℕ) (f : ℕ) (left : List ℕ) → ((a : ℕ) → Among a l → i < a) → (l ≡ f ∷ left → (a : ℕ) → Among a left → f < a)
-    → keptIf t i l ≡ f ∷ left → (a : ℕ) → Among a left → f < a
-unfolding keptIf
-above-kept i true l f left up ih e a m =
-    let p : i ≡ f = cc in
-    let q : l ≡ left = cc in
-    rw (sym p) (up a (rw (sym q) at m))
-above-kept i false l f left up ih e a m = ih e a m
-
--- Every other pin has a higher number than the first.
-pub first-lowest : (i : ℕ) (feed : List Spot) (f : ℕ) (left : List ℕ) → pinsFrom i feed ≡ f ∷ left → (a : ℕ) → Among a left → f < a
-unfolding pinsFrom
-first-lowest i [] f left e a m = let z : _≡_ {A = ℕ} 0 1 = cc in absurd (omega arith)
-first-lowest i (s ∷ feed) f left e a m =
-    above-kept i (present s) (pinsFrom (suc i) feed) f left (λ b n. let z = pins-there (suc i) feed n in omega (arith, z .1))
-    (λ q b n. first-lowest (suc i) feed f left q b n) e a m
-
+-- A number more, at most.
 few-kept : (n : ℕ) (t : Bool) (l : List ℕ) (m : ℕ) → length l ≤ m → length (keptIf t n l) ≤ suc m
 unfolding keptIf
 few-kept n true l m h = omega arith
@@ -185,11 +169,13 @@ pins-few i [] = omega arith
 pins-few i (s ∷ feed) = few-kept i (present s) (pinsFrom (suc i) feed) (length feed) (pins-few (suc i) feed)
 
 -- ---- the runs between some near and some far pins
+-- A run from a near pin goes from it to one of the far ones,
 from-in : {r : Run} (near : ℕ) (fars : List ℕ) → Among r (runsFrom near fars) → (r .near ≡ near) × Among (r .far) fars
 unfolding runsFrom
 from-in near (b ∷ fars) (first e) = (ap (λ (z : Run). z .near) e, first (ap (λ (z : Run). z .far) e))
 from-in near (b ∷ fars) (later h) = let z = from-in near fars h in (z .0, later (z .1))
 
+-- and every such run stands there.
 in-from : {b : ℕ} (near : ℕ) {fars : List ℕ} → Among b fars → Among (run near b) (runsFrom near fars)
 unfolding runsFrom
 in-from near (first e) = first (ap (run near) e)
@@ -205,6 +191,7 @@ between-in {r} (n ∷ nears) fars h = go (in-either (runsFrom n fars) h) (betwee
     go (inl k) ih = let z = from-in n fars k in (first (z .0), z .1)
     go (inr k) ih = let z = ih k in (later (z .0), z .1)
 
+-- A run from the same pin.
 as-near : {a n b : ℕ} {l : List Run} → a ≡ n → Among (run n b) l → Among (run a b) l
 as-near e h = rw e h
 

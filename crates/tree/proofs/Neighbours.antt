@@ -9,7 +9,7 @@ use native.Mathlib.Omega.{arith}
 use lib.Dec.{eqb}
 use borrow.Author.Tests.{eqb-true}
 use Rattle.tree.specs.declared.Run.{Run}
-use Rattle.tree.proofs.Branches.{Reached, new, old, fresh, HasRun, here, further, widest, widest-self, widest-swap, widest-left, widest-right, widest-old, Branching, trunk, branch, Grown, branching, far-reached, near-reached, way-least}
+use Rattle.tree.proofs.Branches.{IsReached, new, old, fresh, HasRun, here, further, widest, widest-self, widest-swap, widest-left, widest-right, widest-old, Branching, trunk, branch, Grown, branching, far-reached, near-reached, way-least}
 
 -- i and j are the ends of a run.
 pub data Joined (i j : ℕ) : List Run → Type 0 where
@@ -19,21 +19,22 @@ pub data Joined (i j : ℕ) : List Run → Type 0 where
 
 module _ {There : ℕ → Type 0} {o : ℕ} where
   -- Both ends of a run are reached.
-  pub joined-reached : {rs : List Run} → Branching There o rs → (i j : ℕ) → Joined i j rs → Reached o i rs × Reached o j rs
-  joined-reached (branch {rs = rs} z w) i j (onward e f) = (old (subst (λ (y : ℕ). Reached o y rs) (sym e) (z .from)), new f)
-  joined-reached (branch {rs = rs} z w) i j (backward e f) = (new e, old (subst (λ (y : ℕ). Reached o y rs) (sym f) (z .from)))
+  pub joined-reached : {rs : List Run} → Branching There o rs → (i j : ℕ) → Joined i j rs → IsReached o i rs × IsReached o j rs
+  joined-reached (branch {rs = rs} z w) i j (onward e f) = (old (subst (λ (y : ℕ). IsReached o y rs) (sym e) (z .from)), new f)
+  joined-reached (branch {rs = rs} z w) i j (backward e f) = (new e, old (subst (λ (y : ℕ). IsReached o y rs) (sym f) (z .from)))
   joined-reached (branch z w) i j (beyond h) = let k = joined-reached w i j h in (old (k .0), old (k .1))
 
 module _ (key : ℕ → ℕ → ℕ) {There : ℕ → Type 0} {o : ℕ} where
   -- A run is the whole way between its ends.
   run-whole : {rs : List Run} → Branching There o rs → (s t : ℕ) → HasRun s t rs → widest key rs s t ≡ key s t
   run-whole (branch {r = r} {rs = rs} j w) s t (here e f) =
-      rw (widest-right key r rs s t (λ z. j .unmet (subst (λ (y : ℕ). Reached o y rs) (sym e ∙ z) (j .from))) f, e, f)
+      rw (widest-right key r rs s t (λ z. j .unmet (subst (λ (y : ℕ). IsReached o y rs) (sym e ∙ z) (j .from))) f, e, f)
       (omega (arith, widest-self key rs (r .near)))
   run-whole (branch {r = r} {rs = rs} j w) s t (further h) =
       rw (widest-old key r rs s t (fresh o s (r .far) (near-reached s t w h) (j .unmet)) (fresh o t (r .far) (far-reached o s t h) (j .unmet)))
       (run-whole w s t h)
 
+-- Two pins that a run joins are its ends, one way or the other.
 has : {i j : ℕ} {rs : List Run} → Joined i j rs → HasRun i j rs ⊎ HasRun j i rs
 has (onward e f) = inl (here e f)
 has (backward e f) = inr (here f e)
@@ -44,6 +45,7 @@ has {i} {j} (beyond {rs = rs} k) = up (has k)
     up (inr x) = inr (further x)
 
 module _ (key : ℕ → ℕ → ℕ) (swap : (a b : ℕ) → key a b ≡ key b a) {There : ℕ → Type 0} {o : ℕ} where
+  -- So is it both ways.
   joined-whole : {rs : List Run} → Branching There o rs → (i j : ℕ) → Joined i j rs → widest key rs i j ≡ key i j
   joined-whole {rs} w i j h = go (has h)
     where

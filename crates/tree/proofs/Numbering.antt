@@ -8,14 +8,14 @@ use Rattle.feed.specs.declared.Spot.{Spot}
 use Rattle.grid.proofs.Flat.{Site, site, place-held}
 use Rattle.grid.proofs.Keys.{OnBoard, on-board, Fits, key, key-swap, key-one, before-key}
 use Rattle.grid.proofs.Order.{Pin, pin-fits}
-use Rattle.feed.specs.Feeds.{mostPins, placeOf, spotAt, allWithin}
+use Rattle.feed.specs.Feeds.{mostPins, placeAt, allWithin}
 use Rattle.tree.specs.Growth.{pairAt}
 use Rattle.feed.proofs.Rules.{inside-at}
 use Rattle.tree.proofs.Earliest.{Keyed}
 
 -- Where a pin of a feed stands, in ℕ.
 abbrev pub siteAt : List Spot → ℕ → Site
-siteAt feed a = site (placeOf (spotAt feed a))
+siteAt feed a = site (placeAt feed a)
 
 -- The key of two pins of a feed.
 unfoldable pub keyAt : List Spot → ℕ → ℕ → ℕ
@@ -23,11 +23,12 @@ keyAt feed a b = key (siteAt feed a) a (siteAt feed b) b
 
 module _ (feed : List Spot) (ok : allWithin feed ≡ true) where
   -- Every pin's place is one of the board.
-  pub stands : (a : ℕ) → OnBoard (placeOf (spotAt feed a))
-  stands a = on-board (place-held (placeOf (spotAt feed a)) (inside-at feed ok a)) (inside-at feed ok a)
+  pub stands : (a : ℕ) → OnBoard (placeAt feed a)
+  stands a = on-board (place-held (placeAt feed a) (inside-at feed ok a)) (inside-at feed ok a)
 
+  -- A pin of the feed, as one that has a key.
   pin : (a : ℕ) → a < mostPins → Pin
-  pin a h = record { number = a; place = placeOf (spotAt feed a); few = h; on = stands a }
+  pin a h = record { number = a; place = placeAt feed a; few = h; on = stands a }
 
   -- The site and the number of a pin fit the digits of a key.
   pub fits : (a : ℕ) → a < mostPins → Fits (siteAt feed a) a

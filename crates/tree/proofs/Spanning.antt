@@ -6,7 +6,7 @@ use mathlib.Core.List.{List, [], _∷_, reverseAux}
 use mathlib.Core.Logic.{_⊎_, inl, inr, ⊎-elim}
 use Prim.Native.Nat.{ℕ, zero, suc, _<_, _≤_}
 use native.Mathlib.Omega.{arith}
-use lib.ListN.{length, getD}
+use lib.ListN.{length}
 use borrow.Author.Tests.{lt-ltb, ltb-true}
 use Rattle.feed.specs.declared.Spot.{Spot}
 use Rattle.grid.specs.Weight.{comesBefore}
@@ -14,12 +14,13 @@ use Rattle.grid.proofs.Flat.{same-or-not}
 use Rattle.tree.specs.declared.Run.{Run}
 use Rattle.feed.specs.Feeds.{mostPins, allWithin}
 use Rattle.tree.specs.Growth.{run, pairAt, pinsOf, runsAmong, runsOf}
+use Rattle.tree.specs.Reached.{runAt}
 use Rattle.tree.proofs.Membership.{Among, first, later, without-in}
 use Rattle.tree.proofs.Earliest.{Keyed}
 use Rattle.tree.proofs.Numbering.{keyAt, keyed}
-use Rattle.tree.proofs.Branches.{Reached, start, new, old, from-start, HasRun, here, further, hangs, Branching, trunk, branch, Grown, branching, reached-there, ends-differ as runs-differ, far-reached, near-reached, way-least, Widest, differ, widest-run, cut, far-hangs, near-stays, run-hangs}
+use Rattle.tree.proofs.Branches.{IsReached, start, new, old, from-start, HasRun, here, further, hangs, Branching, trunk, branch, Grown, branching, reached-there, ends-differ as runs-differ, far-reached, near-reached, way-least, Widest, differ, widest-run, cut, far-hangs, near-stays, run-hangs}
 use Rattle.tree.proofs.Listing.{Listed, taking, runs-listed, runs-rooted, runs-grown, pins-low}
-use Rattle.tree.proofs.Ways.{Ends, Way, stay, along, Out, top, under, ends-turn, way-then, way-back, way-more, way-same, out-in, rest-in, in-rest, take-out, Parted, spared, used, part, crossing}
+use Rattle.tree.proofs.Ways.{EndsAre, Way, stay, along, Out, top, under, ends-turn, way-then, way-back, way-more, way-same, out-in, rest-in, in-rest, take-out, Parted, spared, used, part, crossing}
 
 -- Some runs join all of some pins: each joins two different ones, and there is a way between any two.
 pub record JoinsAll (pins : List ℕ) (runs : List Run) : Type 0 where
@@ -32,7 +33,7 @@ pub record JoinsAll (pins : List ℕ) (runs : List Run) : Type 0 where
 unfoldable pub CutBefore : List Spot → List ℕ → List Run → Type 0
 CutBefore feed pins runs =
     (r : Run) (rest : List Run) → Out r runs rest → (a b : ℕ) → Among a pins → Among b pins
-    → Way rest a (r .near) → Way rest b (r .far) → (Ends r a b → ⊥) → comesBefore (pairAt feed (r .near) (r .far)) (pairAt feed a b) ≡ true
+    → Way rest a (r .near) → Way rest b (r .far) → (EndsAre r a b → ⊥) → comesBefore (pairAt feed (r .near) (r .far)) (pairAt feed a b) ≡ true
 
 -- ---- between the two orders of a list
 -- What stands in one of two lists stands in both, the first turned round,
@@ -63,13 +64,13 @@ run-in (here {r = r} e f) = first (λ i. record { near = e i; far = f i })
 run-in (further h) = later (run-in h)
 
 -- The entry at a position is one of the list.
-pub entry-in : (l : List Run) (r : ℕ) → r < length l → Among (getD l r (run 0 0)) l
+pub entry-in : (l : List Run) (r : ℕ) → r < length l → Among (runAt l r) l
 entry-in [] r h = absurd (omega arith)
 entry-in (q ∷ l) zero h = first refl
 entry-in (q ∷ l) (suc r) h = later (entry-in l r (omega arith))
 
 -- Every reached pin has a way to the first.
-way-home : {There : ℕ → Type 0} {o : ℕ} {rs : List Run} → Branching There o rs → (a : ℕ) → Reached o a rs → Way rs a o
+way-home : {There : ℕ → Type 0} {o : ℕ} {rs : List Run} → Branching There o rs → (a : ℕ) → IsReached o a rs → Way rs a o
 way-home trunk a (start e) = stay e
 way-home (branch {r = r} j w) a (new e) = along r (r .near) (first refl) (inr (e, refl)) (way-more (λ q h. later h) (way-home w (r .near) (j .from)))
 way-home (branch j w) a (old h) = way-more (λ q k. later k) (way-home w a h)
@@ -79,6 +80,7 @@ far-among : {key : ℕ → ℕ → ℕ} {reached left : List ℕ} {rs : List Run
 far-among (taking {left = left} {r = r} e l) q (first p) = subst (λ (z : Run). Among (z .far) left) (sym p) (e .to)
 far-among (taking {left = left} {r = r} e l) q (later h) = without-in (r .far) left (far-among l q h) .0
 
+-- So it is with the runs that are left without one.
 other-far : {key : ℕ → ℕ → ℕ} {reached left : List ℕ} {rs : List Run} → Listed key reached left rs → {r : Run} {rest : List Run} → Out r rs rest
     → (q : Run) → Among q rest → r .far ≡ q .far → ⊥
 other-far (taking {left = left} {r = s} e l) top q h p = without-in (s .far) left (far-among l q h) .1 (sym p)
@@ -97,9 +99,10 @@ record Facts (feed : List Spot) (key : ℕ → ℕ → ℕ) (pins : List ℕ) (r
   into : (q : Run) → Among q runs → Among q newest
   from : (q : Run) → Among q newest → Among q runs
   other : {r : Run} {rest : List Run} → Out r runs rest → (q : Run) → Among q rest → r .far ≡ q .far → ⊥
-  all : (a : ℕ) → Among a pins → Reached root a newest
+  all : (a : ℕ) → Among a pins → IsReached root a newest
 
 module _ {feed : List Spot} {key : ℕ → ℕ → ℕ} {pins : List ℕ} {runs : List Run} (t : Facts feed key pins runs) where
+  -- They join all pins.
   facts-join : JoinsAll pins runs
   facts-join =
       record {
@@ -127,9 +130,11 @@ module _ {feed : List Spot} {key : ℕ → ℕ → ℕ} {pins : List ℕ} {runs 
           run-hangs (branching (t .grown)) (r .near) (r .far) (q .near) (q .far) (has-run (t .into r (out-in o))) (has-run (t .into q (rest-in o h)))
           (t .other o q h)
 
+  -- The far pin of a run hangs from it,
   side-far : {r : Run} → Among r runs → hangs (t .newest) (r .far) (r .far) ≡ true
   side-far {r} h = far-hangs (branching (t .grown)) (r .near) (r .far) (has-run (t .into r h))
 
+  -- and the near pin does not.
   side-near : {r : Run} → Among r runs → hangs (t .newest) (r .far) (r .near) ≡ false
   side-near {r} h = near-stays (branching (t .grown)) (r .near) (r .far) (has-run (t .into r h))
 
@@ -140,11 +145,12 @@ module _ {feed : List Spot} {key : ℕ → ℕ → ℕ} {pins : List ℕ} {runs 
       cut key (t .keyed .swap) (t .grown) (r .near) (r .far) a b (has-run (t .into r h)) (t .all a ha) (t .all b hb) ne
 
   -- Another pair has another key.
-  apart : (r : Run) → Among r runs → (a b : ℕ) → Among a pins → Among b pins → (Ends r a b → ⊥) → key (r .near) (r .far) ≡ key a b → ⊥
+  apart : (r : Run) → Among r runs → (a b : ℕ) → Among a pins → Among b pins → (EndsAre r a b → ⊥) → key (r .near) (r .far) ≡ key a b → ⊥
   apart r h a b ha hb ne e =
       ⊎-elim (λ z. ne (inl (sym (z .0), sym (z .1)))) (λ z. ne (inr (sym (z .1), sym (z .0))))
       (t .keyed .told (r .near) (r .far) a b (t .low (r .near) (facts-join .near-there r h)) (t .low (r .far) (facts-join .far-there r h)) (t .low a ha) (t .low b hb) e)
 
+  -- So each comes before every other pair joining the two groups that are left without it.
   facts-cut : CutBefore feed pins runs
   unfolding CutBefore
   facts-cut r rest o a b ha hb wa wb ne =
@@ -160,7 +166,7 @@ module _ {feed : List Spot} {key : ℕ → ℕ → ℕ} {pins : List ℕ} {runs 
   facts-groups : (r : Run) (rest : List Run) → Out r runs rest → (a : ℕ) → Among a pins → Way rest a (r .near) ⊎ Way rest a (r .far)
   facts-groups r rest o a ha = go (part o (facts-join .ways a (r .near) ha (facts-join .near-there r (out-in o))))
     where
-      end : (x y : ℕ) → Ends r x y → Way rest a x → Way rest a (r .near) ⊎ Way rest a (r .far)
+      end : (x y : ℕ) → EndsAre r x y → Way rest a x → Way rest a (r .near) ⊎ Way rest a (r .far)
       end x y (inl d) w = inl (subst (λ (z : ℕ). Way rest a z) (d .0) w)
       end x y (inr d) w = inr (subst (λ (z : ℕ). Way rest a z) (d .0) w)
 
@@ -168,20 +174,21 @@ module _ {feed : List Spot} {key : ℕ → ℕ → ℕ} {pins : List ℕ} {runs 
       go (spared w) = inl w
       go (used x y d u v) = end x y d u
 
+  -- None has a way to both.
   facts-two : (r : Run) (rest : List Run) → Out r runs rest → Way rest (r .near) (r .far) → ⊥
   facts-two r rest o w = differ (side-far (out-in o)) (side-near (out-in o)) (sym (still o w))
 
 -- ---- the only tree
 -- A run is among some others, perhaps the other way round.
-pub record Held (r : Run) (l : List Run) : Type 0 where
+pub record EitherWay (r : Run) (l : List Run) : Type 0 where
   pub q : Run
   pub is-in : Among q l
-  pub ends : Ends q (r .near) (r .far)
+  pub ends : EndsAre q (r .near) (r .far)
 
 -- The runs of two lists are the same, each perhaps the other way round.
 pub record SameRuns (l m : List Run) : Type 0 where
-  pub there : (r : Run) → Among r l → Held r m
-  pub back : (r : Run) → Among r m → Held r l
+  pub there : (r : Run) → Among r l → EitherWay r m
+  pub back : (r : Run) → Among r m → EitherWay r l
 
 -- Whether two pins are the ends of a run.
 two-or : {A B : Type 0} → A ⊎ (A → ⊥) → B ⊎ (B → ⊥) → (A × B) ⊎ (A × B → ⊥)
@@ -189,33 +196,37 @@ two-or (inl a) (inl b) = inl (a, b)
 two-or (inl a) (inr n) = inr (λ z. n (z .1))
 two-or (inr n) b = inr (λ z. n (z .0))
 
+-- One of two, or neither.
 one-or : {A B : Type 0} → A ⊎ (A → ⊥) → B ⊎ (B → ⊥) → (A ⊎ B) ⊎ (A ⊎ B → ⊥)
 one-or (inl a) b = inl (inl a)
 one-or (inr n) (inl b) = inl (inr b)
 one-or (inr n) (inr m) = inr (⊎-elim n m)
 
-ends-or : (q : Run) (a b : ℕ) → Ends q a b ⊎ (Ends q a b → ⊥)
+-- Two pins are the ends of a run or are not.
+ends-or : (q : Run) (a b : ℕ) → EndsAre q a b ⊎ (EndsAre q a b → ⊥)
 ends-or q a b = one-or (two-or (same-or-not a (q .near)) (same-or-not b (q .far))) (two-or (same-or-not a (q .far)) (same-or-not b (q .near)))
 
-ends-flip : {u q : Run} → Ends u (q .near) (q .far) → Ends q (u .near) (u .far)
+-- Two runs with the same ends, seen from either.
+ends-flip : {u q : Run} → EndsAre u (q .near) (q .far) → EndsAre q (u .near) (u .far)
 ends-flip (inl e) = inl (sym (e .0), sym (e .1))
 ends-flip (inr e) = inr (sym (e .1), sym (e .0))
 
-way-each : {l m : List Run} {a b : ℕ} → ((q : Run) → Among q l → Held q m) → Way l a b → Way m a b
+-- A way along some runs is one along others that have them all.
+way-each : {l m : List Run} {a b : ℕ} → ((q : Run) → Among q l → EitherWay q m) → Way l a b → Way m a b
 way-each h (stay e) = stay e
 way-each {m = m} h (along r n k (inl e) w) =
     let z = h r k in
-    along (z .q) n (z .is-in) (subst (λ (x : ℕ). Ends (z .q) x n) (sym (e .0)) (subst (λ (y : ℕ). Ends (z .q) (r .near) y) (sym (e .1)) (z .ends))) (way-each h w)
+    along (z .q) n (z .is-in) (subst (λ (x : ℕ). EndsAre (z .q) x n) (sym (e .0)) (subst (λ (y : ℕ). EndsAre (z .q) (r .near) y) (sym (e .1)) (z .ends))) (way-each h w)
 way-each {m = m} h (along r n k (inr e) w) =
     let z = h r k in
     along (z .q) n (z .is-in)
-    (subst (λ (x : ℕ). Ends (z .q) x n) (sym (e .0)) (subst (λ (y : ℕ). Ends (z .q) (r .far) y) (sym (e .1)) (ends-turn (z .ends)))) (way-each h w)
+    (subst (λ (x : ℕ). EndsAre (z .q) x n) (sym (e .0)) (subst (λ (y : ℕ). EndsAre (z .q) (r .far) y) (sym (e .1)) (ends-turn (z .ends)))) (way-each h w)
 
 module _ {feed : List Spot} {key : ℕ → ℕ → ℕ} {pins : List ℕ} {runs : List Run} (t : Facts feed key pins runs)
     (others : List Run) (j : JoinsAll pins others) (c : CutBefore feed pins others) where
   -- What the other tree says of a run e that is taken out of it, in keys.
   sooner-out : {e : Run} {rest : List Run} → Out e others rest → (a b : ℕ) → Among a pins → Among b pins → Way rest a (e .near) → Way rest b (e .far)
-      → (Ends e a b → ⊥) → key (e .near) (e .far) < key a b
+      → (EndsAre e a b → ⊥) → key (e .near) (e .far) < key a b
   unfolding CutBefore
   sooner-out {e} {rest} o a b ha hb wa wb ne =
       let h = out-in o in
@@ -225,8 +236,8 @@ module _ {feed : List Spot} {key : ℕ → ℕ → ℕ} {pins : List ℕ} {runs 
       ∙ c e rest o a b ha hb wa wb ne)
 
   -- In either direction of the run.
-  sooner-ends : {e : Run} {rest : List Run} → Out e others rest → (x y : ℕ) → Ends e x y → (a b : ℕ) → Among a pins → Among b pins
-      → Way rest a x → Way rest b y → (Ends e a b → ⊥) → key x y < key a b
+  sooner-ends : {e : Run} {rest : List Run} → Out e others rest → (x y : ℕ) → EndsAre e x y → (a b : ℕ) → Among a pins → Among b pins
+      → Way rest a x → Way rest b y → (EndsAre e a b → ⊥) → key x y < key a b
   sooner-ends {e} {rest} o x y (inl d) a b ha hb wa wb ne =
       let k = sooner-out o a b ha hb (subst (λ (z : ℕ). Way rest a z) (d .0) wa) (subst (λ (z : ℕ). Way rest b z) (d .1) wb) ne in
       rw (d .0, d .1) k
@@ -234,12 +245,13 @@ module _ {feed : List Spot} {key : ℕ → ℕ → ℕ} {pins : List ℕ} {runs 
       let k = sooner-out o b a hb ha (subst (λ (z : ℕ). Way rest b z) (d .1) wb) (subst (λ (z : ℕ). Way rest a z) (d .0) wa) (λ z. ne (ends-turn z)) in
       rw (d .0, d .1) (omega (arith, k, t .keyed .swap (e .far) (e .near), t .keyed .swap a b))
 
-  end-there : {e : Run} → Among e others → (x y : ℕ) → Ends e x y → Among x pins × Among y pins
+  -- The ends of such a run are pins.
+  end-there : {e : Run} → Among e others → (x y : ℕ) → EndsAre e x y → Among x pins × Among y pins
   end-there {e} h x y (inl d) = (subst (λ (z : ℕ). Among z pins) (sym (d .0)) (j .near-there e h), subst (λ (z : ℕ). Among z pins) (sym (d .1)) (j .far-there e h))
   end-there {e} h x y (inr d) = (subst (λ (z : ℕ). Among z pins) (sym (d .0)) (j .far-there e h), subst (λ (z : ℕ). Among z pins) (sym (d .1)) (j .near-there e h))
 
   -- Each run of the growth is one of the others: their way between its ends crosses on no other.
-  only-there : (r : Run) → Among r runs → Held r others
+  only-there : (r : Run) → Among r runs → EitherWay r others
   only-there r h =
       let s = facts-join t .near-there r h in
       let g = facts-join t .far-there r h in
@@ -255,12 +267,12 @@ module _ {feed : List Spot} {key : ℕ → ℕ → ℕ} {pins : List ℕ} {runs 
         sooner-ends (x .out) (x .x) (x .y) (x .ends) (r .near) (r .far) s g (x .near) (way-back (x .far)) n,
       )))
     where
-      go : {A B : Type 0} → A ⊎ B → (A → Held r others) → (B → Held r others) → Held r others
+      go : {A B : Type 0} → A ⊎ B → (A → EitherWay r others) → (B → EitherWay r others) → EitherWay r others
       go (inl a) f g = f a
       go (inr b) f g = g b
 
   -- Each of the others is a run of the growth: without it the rest would still join all pins.
-  only-back : (u : Run) → Among u others → Held u runs
+  only-back : (u : Run) → Among u others → EitherWay u runs
   only-back u h = go (walk runs (λ q k. only-there q k))
     where
       rest : List Run
@@ -275,35 +287,35 @@ module _ {feed : List Spot} {key : ℕ → ℕ → ℕ} {pins : List ℕ} {runs 
       far : Among (u .far) pins
       far = j .far-there u h
 
-      kept : (q : Run) → Held q others → Ends u (q .near) (q .far) ⊎ Held q rest
+      kept : (q : Run) → EitherWay q others → EndsAre u (q .near) (q .far) ⊎ EitherWay q rest
       kept q z = at (in-rest out (z .is-in))
         where
-          at : (z .q ≡ u) ⊎ Among (z .q) rest → Ends u (q .near) (q .far) ⊎ Held q rest
-          at (inl e) = inl (subst (λ (p : Run). Ends p (q .near) (q .far)) e (z .ends))
+          at : (z .q ≡ u) ⊎ Among (z .q) rest → EndsAre u (q .near) (q .far) ⊎ EitherWay q rest
+          at (inl e) = inl (subst (λ (p : Run). EndsAre p (q .near) (q .far)) e (z .ends))
           at (inr k) = inr (record { q = z .q; is-in = k; ends = z .ends })
 
-      walk : (l : List Run) → ((q : Run) → Among q l → Held q others)
-          → ((q : Run) × Among q l × Ends u (q .near) (q .far)) ⊎ ((q : Run) → Among q l → Held q rest)
+      walk : (l : List Run) → ((q : Run) → Among q l → EitherWay q others)
+          → ((q : Run) × Among q l × EndsAre u (q .near) (q .far)) ⊎ ((q : Run) → Among q l → EitherWay q rest)
       walk [] k = inr (λ q m. none q m)
         where
-          none : (q : Run) → Among q [] → Held q rest
+          none : (q : Run) → Among q [] → EitherWay q rest
           none q m = absurd (empty m)
             where
               empty : {a : Run} → Among a [] → ⊥
               empty = elim [ ]
       walk (p ∷ l) k = step (kept p (k p (first refl))) (walk l (λ q m. k q (later m)))
         where
-          step : Ends u (p .near) (p .far) ⊎ Held p rest → ((q : Run) × Among q l × Ends u (q .near) (q .far)) ⊎ ((q : Run) → Among q l → Held q rest)
-              → ((q : Run) × Among q (p ∷ l) × Ends u (q .near) (q .far)) ⊎ ((q : Run) → Among q (p ∷ l) → Held q rest)
+          step : EndsAre u (p .near) (p .far) ⊎ EitherWay p rest → ((q : Run) × Among q l × EndsAre u (q .near) (q .far)) ⊎ ((q : Run) → Among q l → EitherWay q rest)
+              → ((q : Run) × Among q (p ∷ l) × EndsAre u (q .near) (q .far)) ⊎ ((q : Run) → Among q (p ∷ l) → EitherWay q rest)
           step (inl d) z = inl (p, first refl, d)
           step (inr z) (inl w) = inl (w .0, later (w .1), w .2)
           step (inr z) (inr w) = inr (λ q m. each q m)
             where
-              each : (q : Run) → Among q (p ∷ l) → Held q rest
-              each q (first e) = subst (λ (y : Run). Held y rest) (sym e) z
+              each : (q : Run) → Among q (p ∷ l) → EitherWay q rest
+              each q (first e) = subst (λ (y : Run). EitherWay y rest) (sym e) z
               each q (later m) = w q m
 
-      go : ((q : Run) × Among q runs × Ends u (q .near) (q .far)) ⊎ ((q : Run) → Among q runs → Held q rest) → Held u runs
+      go : ((q : Run) × Among q runs × EndsAre u (q .near) (q .far)) ⊎ ((q : Run) → Among q runs → EitherWay q rest) → EitherWay u runs
       go (inl w) = record { q = w .0; is-in = w .1; ends = ends-flip (w .2) }
       go (inr w) = found (ends-or u (v .s) (v .t))
         where
@@ -322,7 +334,7 @@ module _ {feed : List Spot} {key : ℕ → ℕ → ℕ} {pins : List ℕ} {runs 
           least : key (v .s) (v .t) ≤ key (u .near) (u .far)
           least = omega (arith, v .is, way-least key (t .keyed .swap) (t .grown) (u .near) (u .far) (t .all (u .near) near) (t .all (u .far) far) (j .ends-differ u h))
 
-          found : Ends u (v .s) (v .t) ⊎ (Ends u (v .s) (v .t) → ⊥) → Held u runs
+          found : EndsAre u (v .s) (v .t) ⊎ (EndsAre u (v .s) (v .t) → ⊥) → EitherWay u runs
           found (inl d) = record { q = run (v .s) (v .t); is-in = held; ends = ends-flip {q = run (v .s) (v .t)} d }
           found (inr n) =
               let s = facts-join t .near-there (run (v .s) (v .t)) held in
@@ -331,6 +343,7 @@ module _ {feed : List Spot} {key : ℕ → ℕ → ℕ} {pins : List ℕ} {runs 
 
 -- ---- the runs of a feed
 module _ (feed : List Spot) (full : length feed ≡ mostPins) (ok : allWithin feed ≡ true) (f : ℕ) (left : List ℕ) (e : pinsOf feed ≡ f ∷ left) where
+  -- The runs of a feed are known so.
   facts : Facts feed (keyAt feed) (f ∷ left) (runsOf feed)
   facts =
       record {
@@ -349,15 +362,15 @@ module _ (feed : List Spot) (full : length feed ≡ mostPins) (ok : allWithin fe
       back : (q : Run) → Among q (runsOf feed) ⊎ Among q [] → Among q (runsOf feed)
       back q (inl k) = k
 
-      far : (r : ℕ) → r < length (runsOf feed) → Reached f (getD (runsOf feed) r (run 0 0) .far) (reverseAux (runsOf feed) [])
-      far r h = far-reached f (getD (runsOf feed) r (run 0 0) .near) (getD (runsOf feed) r (run 0 0) .far)
+      far : (r : ℕ) → r < length (runsOf feed) → IsReached f (runAt (runsOf feed) r .far) (reverseAux (runsOf feed) [])
+      far r h = far-reached f (runAt (runsOf feed) r .near) (runAt (runsOf feed) r .far)
           (has-run (in-turned (runsOf feed) (inl (entry-in (runsOf feed) r h))))
 
-      all : (a : ℕ) → Among a (f ∷ left) → Reached f a (reverseAux (runsOf feed) [])
-      all a (first q) = subst (λ (z : ℕ). Reached f z (reverseAux (runsOf feed) [])) (sym q) (from-start f (reverseAux (runsOf feed) []))
+      all : (a : ℕ) → Among a (f ∷ left) → IsReached f a (reverseAux (runsOf feed) [])
+      all a (first q) = subst (λ (z : ℕ). IsReached f z (reverseAux (runsOf feed) [])) (sym q) (from-start f (reverseAux (runsOf feed) []))
       all a (later m) =
           let z = runs-rooted feed full ok f left e .all-reached a m in
-          subst (λ (p : ℕ). Reached f p (reverseAux (runsOf feed) [])) (sym (z .2)) (far (z .0) (z .1))
+          subst (λ (p : ℕ). IsReached f p (reverseAux (runsOf feed) [])) (sym (z .2)) (far (z .0) (z .1))
 
 -- ---- the theorems
 -- A feed has no pins, or a first and some others.

@@ -17,15 +17,15 @@ use Rattle.feed.specs.declared.Spot.{Spot}
 use Rattle.grid.specs.Weight.{comesBefore}
 use Rattle.tree.specs.declared.Run.{Run}
 use Rattle.tree.specs.declared.Offer.{Offer}
-use Rattle.tree.specs.declared.Choice.{Choice}
-use Rattle.feed.specs.Feeds.{mostPins, present, placeOf, spotAt}
+use Rattle.tree.specs.declared.Next.{Next}
+use Rattle.feed.specs.Feeds.{mostPins, present, placeOf, spotAt, placeAt}
 use Rattle.tree.specs.Growth.{run, pairAt, pinsFrom, without, nextRun, grown, runsAmong, pinsOf, runsOf}
 use Rattle.tree.specs.Trees.{mostRuns}
-use Rattle.tree.specs.Offers.{noOffer, offerOf, firstOffer, betterOffer, nextOffer, firstOffers, choiceOf, takenRuns}
+use Rattle.tree.specs.Offers.{noOffer, offerOf, firstOffer, betterOffer, nextOffer, firstOffers, nextOf, takenRuns}
 use Rattle.tree.proofs.Membership.{Among, first, later, Distinct, also, without-in, in-without, length-without, distinct-without, pins-there, there-pins, pins-distinct, pins-few}
 use Rattle.tree.proofs.Earliest.{Keyed, Earliest, one-earliest, next-earliest}
 use Rattle.tree.proofs.Going.{after, nothing, something}
-use Rattle.tree.proofs.Choosing.{offerAt, first-at, first-many, next-at, next-many, Open, Chosen, choice-chosen}
+use Rattle.tree.proofs.Choosing.{offerAt, first-at, first-many, next-at, next-many, Open, Chosen, next-chosen}
 
 -- What the pins keep, when some are reached and some are left: a pin waits just where it is left, and keeps the earliest of its pairs
 -- with the reached pins.
@@ -78,8 +78,9 @@ record Turned (feed : List Spot) (key : ℕ → ℕ → ℕ) (k t : ℕ) (o r : 
   old : key (r .near) k ≤ key (o .near) k
   new : key (r .near) k ≤ key t k
 
+-- The earlier of the two offers is such an offer.
 turned : {feed : List Spot} {key : ℕ → ℕ → ℕ} → Keyed feed key → (k t : ℕ) (o : Offer) → k < mostPins → t < mostPins → o .near < mostPins → o .waits ≡ true
-    → o .pair ≡ pairAt feed (o .near) k → Turned feed key k t o (betterOffer o (offerOf t (placeOf (spotAt feed t)) k (placeOf (spotAt feed k))))
+    → o .pair ≡ pairAt feed (o .near) k → Turned feed key k t o (betterOffer o (offerOf t (placeAt feed t) k (placeAt feed k)))
 unfolding betterOffer offerOf pairAt
 turned {feed} {key} keyed k t o lk lt ln w p = go (decide (comesBefore (pairAt feed t k) (o .pair)))
   where
@@ -105,7 +106,7 @@ module _ {feed : List Spot} {key : ℕ → ℕ → ℕ} (keyed : Keyed feed key)
       → Linked feed key (t ∷ reached) (without t left) (after feed t offers)
   linked-next {reached} {left} {offers} t ht h =
       record {
-        many = next-many t (placeOf (spotAt feed t)) 0 feed offers (h .many);
+        many = next-many t (placeAt feed t) 0 feed offers (h .many);
         apart = λ a m n. apart a m (without-in t left n);
         low = λ a m. low a m;
         short = λ a m. h .short a (without-in t left m .0);
@@ -128,21 +129,21 @@ module _ {feed : List Spot} {key : ℕ → ℕ → ℕ} (keyed : Keyed feed key)
       low a (first e) = omega (arith, lt)
       low a (later m) = h .low a m
 
-      at : (k : ℕ) → k < length feed → offerAt (after feed t offers) k ≡ nextOffer t (placeOf (spotAt feed t)) k (spotAt feed k) (offerAt offers k)
+      at : (k : ℕ) → k < length feed → offerAt (after feed t offers) k ≡ nextOffer t (placeAt feed t) k (spotAt feed k) (offerAt offers k)
       at k l =
-          next-at t (placeOf (spotAt feed t)) 0 feed offers k (h .many) l
-          ∙ ap (λ (z : ℕ). nextOffer t (placeOf (spotAt feed t)) z (spotAt feed k) (offerAt offers k)) (omega arith)
+          next-at t (placeAt feed t) 0 feed offers k (h .many) l
+          ∙ ap (λ (z : ℕ). nextOffer t (placeAt feed t) z (spotAt feed k) (offerAt offers k)) (omega arith)
 
       was : (k : ℕ) → offerAt (after feed t offers) k .waits ≡ true → (offerAt offers k .waits ≡ true) × (k ≡ t → ⊥)
       was k w =
           let l = waits-short (after feed t offers) k w in
-          let e = next-many t (placeOf (spotAt feed t)) 0 feed offers (h .many) in
-          next-waits t (placeOf (spotAt feed t)) k (spotAt feed k) (offerAt offers k) (rw (at k (omega arith)) at w)
+          let e = next-many t (placeAt feed t) 0 feed offers (h .many) in
+          next-waits t (placeAt feed t) k (spotAt feed k) (offerAt offers k) (rw (at k (omega arith)) at w)
 
       will : (k : ℕ) → offerAt offers k .waits ≡ true → (k ≡ t → ⊥) → Turned feed key k t (offerAt offers k) (offerAt (after feed t offers) k)
       will k w ne =
           let l = h .short k (h .waiting k w) in
-          rw (at k l ∙ next-keeps t (placeOf (spotAt feed t)) k (spotAt feed k) (offerAt offers k) w ne)
+          rw (at k l ∙ next-keeps t (placeAt feed t) k (spotAt feed k) (offerAt offers k) w ne)
           (turned keyed k t (offerAt offers k) (omega arith) lt (h .low (offerAt offers k .near) (h .from k w)) w (h .pair k w))
 
       back : (k : ℕ) → offerAt offers k .waits ≡ true → {n : ℕ} → (n ≡ offerAt offers k .near) ⊎ (n ≡ t) → Among n (t ∷ reached)
@@ -164,8 +165,8 @@ module _ {feed : List Spot} {key : ℕ → ℕ → ℕ} (keyed : Keyed feed key)
         pair = h .pair k w;
       }
 
-  -- The choice is the earliest pair.
-  chosen-earliest : {reached left : List ℕ} {offers : List Offer} → Linked feed key reached left offers → (c : Choice)
+  -- The pin that is reached next has the earliest pair.
+  chosen-earliest : {reached left : List ℕ} {offers : List Offer} → Linked feed key reached left offers → (c : Next)
       → Chosen key (offerAt offers) (length offers) c → c .offer .waits ≡ true → Earliest key reached left (run (c .offer .near) (c .pin))
   chosen-earliest {reached} {left} {offers} h c z w =
       record {
@@ -183,16 +184,18 @@ module _ {feed : List Spot} {key : ℕ → ℕ → ℕ} (keyed : Keyed feed key)
           omega (arith, z .least b (omega (arith, h .many, h .short b hb)) u, h .least b u a ha)
 
   -- ---- all turns
+  -- A list of length 0 has no member.
   empty : {a : ℕ} (left : List ℕ) → length left ≡ 0 → Among a left → ⊥
   empty (b ∷ left) e m = omega arith
 
+  -- Where no pin is left, none waits.
   idle : {reached : List ℕ} (left : List ℕ) {offers : List Offer} → length left ≡ 0 → Linked feed key reached left offers
-      → choiceOf offers .offer .waits ≡ false
-  idle left {offers} e h = go (decide (choiceOf offers .offer .waits))
+      → nextOf offers .offer .waits ≡ false
+  idle left {offers} e h = go (decide (nextOf offers .offer .waits))
     where
-      go : (choiceOf offers .offer .waits ≡ true) ⊎ (choiceOf offers .offer .waits ≡ false) → choiceOf offers .offer .waits ≡ false
+      go : (nextOf offers .offer .waits ≡ true) ⊎ (nextOf offers .offer .waits ≡ false) → nextOf offers .offer .waits ≡ false
       go (inr f) = f
-      go (inl f) = absurd (empty left e (chosen-earliest h (choiceOf offers) (choice-chosen keyed offers (opens h)) f .to))
+      go (inl f) = absurd (empty left e (chosen-earliest h (nextOf offers) (next-chosen keyed offers (opens h)) f .to))
 
   -- From there on the runs taken are those of the growth.
   pub taken-grown : (turns most : ℕ) (reached left : List ℕ) (offers : List Offer) (a : ℕ) → Among a reached → length left ≡ turns → turns ≤ most
@@ -202,27 +205,28 @@ module _ {feed : List Spot} {key : ℕ → ℕ → ℕ} (keyed : Keyed feed key)
   taken-grown (suc turns) zero reached left offers a ha e l h = absurd (omega arith)
   taken-grown (suc turns) (suc most) reached [] offers a ha e l h = absurd (omega arith)
   taken-grown (suc turns) (suc most) reached (b ∷ left) offers a ha e l h =
-      let z = choice-chosen keyed offers (opens h) in
-      let w : choiceOf offers .offer .waits ≡ true =
+      let z = next-chosen keyed offers (opens h) in
+      let w : nextOf offers .offer .waits ≡ true =
       z .found b (omega (arith, h .many, h .short b (first refl))) (h .awaited b (first refl)) in
-      let c = chosen-earliest h (choiceOf offers) z w in
+      let c = chosen-earliest h (nextOf offers) z w in
       let low' : (k : ℕ) → Among k (b ∷ left) → k < mostPins = λ k m. omega (arith, h .short k m) in
-      let same' : run (choiceOf offers .offer .near) (choiceOf offers .pin) ≡ nextRun feed reached (b ∷ left) =
-      one-earliest keyed (h .low) low' (h .apart) (run (choiceOf offers .offer .near) (choiceOf offers .pin)) (nextRun feed reached (b ∷ left)) c
+      let same' : run (nextOf offers .offer .near) (nextOf offers .pin) ≡ nextRun feed reached (b ∷ left) =
+      one-earliest keyed (h .low) low' (h .apart) (run (nextOf offers .offer .near) (nextOf offers .pin)) (nextRun feed reached (b ∷ left)) c
       (next-earliest keyed reached (b ∷ left) (h .low) low' a b ha (first refl)) in
-      let far : choiceOf offers .pin ≡ nextRun feed reached (b ∷ left) .far = ap (λ (r : Run). r .far) same' in
-      let n = length-without (choiceOf offers .pin) (h .once) (c .to) in
+      let far : nextOf offers .pin ≡ nextRun feed reached (b ∷ left) .far = ap (λ (r : Run). r .far) same' in
+      let n = length-without (nextOf offers .pin) (h .once) (c .to) in
       something feed most offers w
       ∙ ap₂ _∷_ same'
-      (taken-grown turns most (choiceOf offers .pin ∷ reached) (without (choiceOf offers .pin) (b ∷ left)) (after feed (choiceOf offers .pin) offers)
-      (choiceOf offers .pin) (first refl) (omega arith) (omega arith) (linked-next (choiceOf offers .pin) (c .to) h)
+      (taken-grown turns most (nextOf offers .pin ∷ reached) (without (nextOf offers .pin) (b ∷ left)) (after feed (nextOf offers .pin) offers)
+      (nextOf offers .pin) (first refl) (omega arith) (omega arith) (linked-next (nextOf offers .pin) (c .to) h)
       ∙ ap (λ (t : ℕ). grown feed turns (t ∷ reached) (without t (b ∷ left))) far)
 
   -- ---- the start
   -- What the pins keep when the first is reached.
   abbrev opening : ℕ → List Offer
-  opening f = firstOffers f (placeOf (spotAt feed f)) 0 feed
+  opening f = firstOffers f (placeAt feed f) 0 feed
 
+  -- A pin that waits at first is there, and not the first,
   first-waits : (f : ℕ) (p : Place) (k : ℕ) (s : Spot) → firstOffer f p k s .waits ≡ true → (present s ≡ true) × (k ≡ f → ⊥)
   unfolding firstOffer
   first-waits f p k s w = go (decide (both (present s) (not (eqb k f))))
@@ -237,13 +241,14 @@ module _ {feed : List Spot} {key : ℕ → ℕ → ℕ} (keyed : Keyed feed key)
       )
       go (inr e) = absurd (opposite w (ap (λ (o : Offer). o .waits) (choose-no new noOffer e)))
 
+  -- and each such pin keeps the offer of the first.
   first-keeps : (f : ℕ) (p : Place) (k : ℕ) (s : Spot) → present s ≡ true → (k ≡ f → ⊥) → firstOffer f p k s ≡ offerOf f p k (placeOf s)
   unfolding firstOffer
   first-keeps f p k s e q = choose-yes (offerOf f p k (placeOf s)) noOffer (both-of e (ap not (ne-eqb k f q)))
 
   -- A first offer to pin k.
-  offered : (f k : ℕ) → Turned feed key k f (offerOf f (placeOf (spotAt feed f)) k (placeOf (spotAt feed k)))
-      (offerOf f (placeOf (spotAt feed f)) k (placeOf (spotAt feed k)))
+  offered : (f k : ℕ) → Turned feed key k f (offerOf f (placeAt feed f) k (placeAt feed k))
+      (offerOf f (placeAt feed f) k (placeAt feed k))
   unfolding offerOf pairAt
   offered f k = record { waits = refl; from = inr refl; pair = refl; old = omega arith; new = omega arith }
 
@@ -253,7 +258,7 @@ module _ {feed : List Spot} {key : ℕ → ℕ → ℕ} (keyed : Keyed feed key)
   unfolding offerOf
   linked-first f left e =
       record {
-        many = first-many f (placeOf (spotAt feed f)) 0 feed;
+        many = first-many f (placeAt feed f) 0 feed;
         apart = λ a m n. apart a m n;
         low = λ a m. low a m;
         short = λ a m. short a (later m);
@@ -289,16 +294,16 @@ module _ {feed : List Spot} {key : ℕ → ℕ → ℕ} (keyed : Keyed feed key)
       low : (a : ℕ) → Among a (f ∷ []) → a < mostPins
       low a (first q) = omega (arith, short f (first refl))
 
-      at : (k : ℕ) → k < length feed → offerAt (opening f) k ≡ firstOffer f (placeOf (spotAt feed f)) k (spotAt feed k)
+      at : (k : ℕ) → k < length feed → offerAt (opening f) k ≡ firstOffer f (placeAt feed f) k (spotAt feed k)
       at k l =
-          first-at f (placeOf (spotAt feed f)) 0 feed k l
-          ∙ ap (λ (z : ℕ). firstOffer f (placeOf (spotAt feed f)) z (spotAt feed k)) (omega arith)
+          first-at f (placeAt feed f) 0 feed k l
+          ∙ ap (λ (z : ℕ). firstOffer f (placeAt feed f) z (spotAt feed k)) (omega arith)
 
       was : (k : ℕ) → offerAt (opening f) k .waits ≡ true → (present (spotAt feed k) ≡ true) × (k ≡ f → ⊥)
       was k w =
           let l = waits-short (opening f) k w in
-          let n = first-many f (placeOf (spotAt feed f)) 0 feed in
-          first-waits f (placeOf (spotAt feed f)) k (spotAt feed k) (rw (at k (omega arith)) at w)
+          let n = first-many f (placeAt feed f) 0 feed in
+          first-waits f (placeAt feed f) k (spotAt feed k) (rw (at k (omega arith)) at w)
 
       waiting : (k : ℕ) → (present (spotAt feed k) ≡ true) × (k ≡ f → ⊥) → Among k left
       waiting k z = go (decLt k (length feed))
@@ -314,10 +319,10 @@ module _ {feed : List Spot} {key : ℕ → ℕ → ℕ} (keyed : Keyed feed key)
           go (no l) = absurd (opposite (z .0) (ap present (List·getD-eq-default feed _ (omega arith))))
 
       will : (k : ℕ) → present (spotAt feed k) ≡ true → (k ≡ f → ⊥)
-          → Turned feed key k f (offerOf f (placeOf (spotAt feed f)) k (placeOf (spotAt feed k))) (offerAt (opening f) k)
+          → Turned feed key k f (offerOf f (placeAt feed f) k (placeAt feed k)) (offerAt (opening f) k)
       will k p ne =
           let l = short k (later (waiting k (p, ne))) in
-          rw (at k l ∙ first-keeps f (placeOf (spotAt feed f)) k (spotAt feed k) p ne) (offered f k)
+          rw (at k l ∙ first-keeps f (placeAt feed f) k (spotAt feed k) p ne) (offered f k)
 
       from : {n : ℕ} → (n ≡ f) ⊎ (n ≡ f) → Among n (f ∷ [])
       from (inl q) = first q
@@ -327,7 +332,7 @@ module _ {feed : List Spot} {key : ℕ → ℕ → ℕ} (keyed : Keyed feed key)
       least k z a (first q) = rw q (z .new)
 
   -- The runs taken offer by offer from the first pin are the runs of the feed.
-  pub taken-runs : (f : ℕ) (left : List ℕ) → pinsOf feed ≡ f ∷ left → takenRuns feed mostRuns (firstOffers f (placeOf (spotAt feed f)) 0 feed) ≡ runsOf feed
+  pub taken-runs : (f : ℕ) (left : List ℕ) → pinsOf feed ≡ f ∷ left → takenRuns feed mostRuns (firstOffers f (placeAt feed f) 0 feed) ≡ runsOf feed
   unfolding runsOf pinsOf runsAmong
   taken-runs f left e =
       rw e

@@ -10,13 +10,13 @@ use Rattle.tree.specs.declared.Run.{Run}
 use Rattle.tree.proofs.Membership.{Among, first, later}
 
 -- a and b are the two ends of a run.
-abbrev pub Ends : Run → ℕ → ℕ → Type 0
-Ends r a b = ((a ≡ r .near) × (b ≡ r .far)) ⊎ ((a ≡ r .far) × (b ≡ r .near))
+abbrev pub EndsAre : Run → ℕ → ℕ → Type 0
+EndsAre r a b = ((a ≡ r .near) × (b ≡ r .far)) ⊎ ((a ≡ r .far) × (b ≡ r .near))
 
 -- A way from a to b along some runs, in either direction of each.
 pub data Way (runs : List Run) : ℕ → ℕ → Type 0 where
   stay : {a b : ℕ} → a ≡ b → Way runs a b
-  along : {a b : ℕ} (r : Run) (m : ℕ) → Among r runs → Ends r a m → Way runs m b → Way runs a b
+  along : {a b : ℕ} (r : Run) (m : ℕ) → Among r runs → EndsAre r a m → Way runs m b → Way runs a b
 
 -- A run stands among some; the rest are the others.
 pub data Out (r : Run) : List Run → List Run → Type 0 where
@@ -24,12 +24,12 @@ pub data Out (r : Run) : List Run → List Run → Type 0 where
   under : {q : Run} {l m : List Run} → Out r l m → Out r (q ∷ l) (q ∷ m)
 
 -- The ends of a run are its ends in either direction.
-pub ends-turn : {r : Run} {a b : ℕ} → Ends r a b → Ends r b a
+pub ends-turn : {r : Run} {a b : ℕ} → EndsAre r a b → EndsAre r b a
 ends-turn (inl e) = inr (e .1, e .0)
 ends-turn (inr e) = inl (e .1, e .0)
 
 -- Two pairs of ends of one run are in the same or in opposite directions.
-pub ends-two : {r : Run} {a b c d : ℕ} → Ends r a b → Ends r c d → ((a ≡ c) × (b ≡ d)) ⊎ ((a ≡ d) × (b ≡ c))
+pub ends-two : {r : Run} {a b c d : ℕ} → EndsAre r a b → EndsAre r c d → ((a ≡ c) × (b ≡ d)) ⊎ ((a ≡ d) × (b ≡ c))
 ends-two (inl e) (inl f) = inl (e .0 ∙ sym (f .0), e .1 ∙ sym (f .1))
 ends-two (inl e) (inr f) = inr (e .0 ∙ sym (f .1), e .1 ∙ sym (f .0))
 ends-two (inr e) (inl f) = inr (e .0 ∙ sym (f .1), e .1 ∙ sym (f .0))
@@ -45,7 +45,7 @@ way-then (stay e) v = way-as (sym e) refl v
 way-then (along r m h e w) v = along r m h e (way-then w v)
 
 -- one run is a way,
-pub way-one : {runs : List Run} {r : Run} {a b : ℕ} → Among r runs → Ends r a b → Way runs a b
+pub way-one : {runs : List Run} {r : Run} {a b : ℕ} → Among r runs → EndsAre r a b → Way runs a b
 way-one {r = r} {b = b} h e = along r b h e (stay refl)
 
 -- a way leads back,
@@ -98,14 +98,14 @@ take-out (later {b = q} h) = let z = take-out h in record { rest = q ∷ z .rest
 -- A way without the run, or two ways to its ends.
 pub data Parted (e : Run) (rest : List Run) (s t : ℕ) : Type 0 where
   spared : Way rest s t → Parted e rest s t
-  used : (x y : ℕ) → Ends e x y → Way rest s x → Way rest y t → Parted e rest s t
+  used : (x y : ℕ) → EndsAre e x y → Way rest s x → Way rest y t → Parted e rest s t
 
 -- Every way is one of the two.
 pub part : {e : Run} {l rest : List Run} {s t : ℕ} → Out e l rest → Way l s t → Parted e rest s t
 part o (stay q) = spared (stay q)
 part {e} {l} {rest} {s} {t} o (along r m h q w) = go (in-rest o h) (part o w)
   where
-    back : {x y : ℕ} → ((s ≡ x) × (m ≡ y)) ⊎ ((s ≡ y) × (m ≡ x)) → Ends e s m → Way rest y t → Parted e rest s t
+    back : {x y : ℕ} → ((s ≡ x) × (m ≡ y)) ⊎ ((s ≡ y) × (m ≡ x)) → EndsAre e s m → Way rest y t → Parted e rest s t
     back (inl z) f v = used s m f (stay refl) (way-as (sym (z .1)) refl v)
     back (inr z) f v = spared (way-as (sym (z .0)) refl v)
 
@@ -122,11 +122,12 @@ pub record Crossing (f : ℕ → Bool) (l : List Run) (s t : ℕ) : Type 0 where
   pub out : Out e l rest
   pub x : ℕ
   pub y : ℕ
-  pub ends : Ends e x y
+  pub ends : EndsAre e x y
   pub over : f x ≡ f y → ⊥
   pub near : Way rest s x
   pub far : Way rest y t
 
+-- Two tests agree or do not.
 same-or : (p q : Bool) → (p ≡ q) ⊎ (p ≡ q → ⊥)
 same-or true true = inl refl
 same-or false false = inl refl
@@ -140,6 +141,7 @@ same-or false true = inr (λ e. no e)
     no e = let z : _≡_ {A = ℕ} 0 1 = cc in omega arith
 
 module _ (f : ℕ → Bool) where
+  -- A crossing is one with a run more.
   lift : {q : Run} {l : List Run} {s t : ℕ} → Crossing f l s t → Crossing f (q ∷ l) s t
   lift {q} c =
       record {
@@ -156,7 +158,7 @@ module _ (f : ℕ → Bool) where
 
   -- The way goes over q from x to y, both on one side; it crosses before x.
   early : {q : Run} {l : List Run} {s t x y : ℕ} → ((s t : ℕ) → Way l s t → (f s ≡ f t → ⊥) → Crossing f l s t) → (f s ≡ f t → ⊥)
-      → Ends q x y → Crossing f l s x → Way l y t → Crossing f (q ∷ l) s t
+      → EndsAre q x y → Crossing f l s x → Way l y t → Crossing f (q ∷ l) s t
   early {q} {l} {s} {t} {x} {y} ih ne d c w = go (part (c .out) w)
     where
       by : Way (q ∷ c .rest) (c .y) t → Crossing f (q ∷ l) s t
@@ -183,7 +185,7 @@ module _ (f : ℕ → Bool) where
 
   -- It crosses after y.
   late : {q : Run} {l : List Run} {s t x y : ℕ} → ((s t : ℕ) → Way l s t → (f s ≡ f t → ⊥) → Crossing f l s t) → (f s ≡ f t → ⊥)
-      → Ends q x y → Way l s x → Crossing f l y t → Crossing f (q ∷ l) s t
+      → EndsAre q x y → Way l s x → Crossing f l y t → Crossing f (q ∷ l) s t
   late {q} {l} {s} {t} {x} {y} ih ne d w c = go (part (c .out) w)
     where
       by : Way (q ∷ c .rest) s (c .x) → Crossing f (q ∷ l) s t
@@ -208,6 +210,7 @@ module _ (f : ℕ → Bool) where
           turn (inl z) = by (way-more (λ r h. later h) (way-as refl (sym (z .0)) u))
           turn (inr z) = lift (ih s t (way-more (λ r h. rest-in (c .out) h) (way-then (way-as refl (sym (z .1)) u) (c .far))) ne)
 
+  -- Without runs there is no way to another group.
   nowhere : {s t : ℕ} → Way [] s t → (f s ≡ f t → ⊥) → ⊥
   nowhere (stay e) ne = ne (ap f e)
 

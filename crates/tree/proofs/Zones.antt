@@ -8,6 +8,7 @@ use native.Mathlib.Omega.{arith}
 use lib.Dec.{T, ltb}
 use borrow.Author.Tests.{ltb-true, ltb-false}
 use Rattle.grid.proofs.Flat.{gap, gap-swap, gap-up, gap-down, gap-through, Site, span}
+use Rattle.tree.specs.Bends.{oneIf, howMany}
 use Rattle.tree.proofs.Neighbours.{All, All.none, All.also, all-map, Pairwise}
 
 -- On which side of a number another lies.
@@ -49,6 +50,7 @@ aside less = true
 aside equal = false
 aside more = true
 
+-- Three tests that hold together hold each.
 parts : (a b c : Bool) → T (a && (b && c)) → T a × T b × T c
 parts true true true t = (tt, tt, tt)
 parts true true false t = absurd t
@@ -87,6 +89,7 @@ inZone z c p = within z (side-x c p) (side-y c p) (side-d c p)
 unfoldable pub skew : Site → Site → Bool
 skew c p = aside (side-x c p) && aside (side-y c p)
 
+-- A number that is not the other lies aside of it.
 aside-of : (c a : ℕ) → (c ≡ a → ⊥) → aside (side c a) ≡ true
 aside-of c a ne = go (side c a) (seen c a)
   where
@@ -101,6 +104,7 @@ unfolding skew
 skew-of c p nx ny = rw (aside-of (c .x) (p .x) nx, aside-of (c .y) (p .y) ny)
 
 -- ---- what a side says
+-- On the lesser side it is less,
 is-less : (g h : ℕ) → T (on false (side g h)) → h < g
 is-less g h t = go (side g h) (seen g h) t
   where
@@ -109,6 +113,7 @@ is-less g h t = go (side g h) (seen g h) t
     go equal (level e) u = absurd u
     go more (above l) u = absurd u
 
+-- on the other more;
 is-more : (g h : ℕ) → T (on true (side g h)) → g < h
 is-more g h t = go (side g h) (seen g h) t
   where
@@ -117,6 +122,7 @@ is-more g h t = go (side g h) (seen g h) t
     go equal (level e) u = absurd u
     go more (above l) u = l
 
+-- not on the other it is at most that number,
 not-more : (g h : ℕ) → T (not (on true (side g h))) → h ≤ g
 not-more g h t = go (side g h) (seen g h) t
   where
@@ -125,6 +131,7 @@ not-more g h t = go (side g h) (seen g h) t
     go equal (level e) u = omega arith
     go more (above l) u = absurd u
 
+-- not on the lesser at least.
 not-less : (g h : ℕ) → T (not (on false (side g h))) → g ≤ h
 not-less g h t = go (side g h) (seen g h) t
   where
@@ -133,6 +140,7 @@ not-less g h t = go (side g h) (seen g h) t
     go equal (level e) u = omega arith
     go more (above l) u = omega arith
 
+-- On either side there is a gap.
 is-apart : (b : Bool) (c a : ℕ) → T (on b (side c a)) → 0 < gap c a
 is-apart true c a t = let l = is-more c a t in omega (arith, gap-up c a (omega arith))
 is-apart false c a t = let l = is-less c a t in omega (arith, gap-down c a (omega arith))
@@ -142,10 +150,12 @@ shift-up : (c a b g h : ℕ) → g + c ≡ a → h + c ≡ b → gap a b ≡ gap
 unfolding gap
 shift-up c a b g h e f = omega arith
 
+-- And below it.
 shift-down : (c a b g h : ℕ) → g + a ≡ c → h + b ≡ c → gap a b ≡ gap g h
 unfolding gap
 shift-down c a b g h e f = omega arith
 
+-- So it is on either side.
 fold : (s : Bool) (c a b : ℕ) → T (on s (side c a)) → T (on s (side c b)) → gap a b ≡ gap (gap c a) (gap c b)
 fold true c a b t u =
     let l = is-more c a t in
@@ -157,15 +167,18 @@ fold false c a b t u =
     shift-down c a b (gap c a) (gap c b) (gap-down c a (omega arith)) (gap-down c b (omega arith))
 
 -- ---- no zone holds two: gaps (g, h) and (g', h') from the centre, d apart
+-- Two in a zone between the diagonals are too near to each other.
 between-clash : (g h g' h' d : ℕ) → h < g → h' < g' → d ≤ gap g g' + (h + h') → g + h ≤ d → g' + h' ≤ d → ⊥
 unfolding gap
 between-clash g h g' h' d a b e f k = omega arith
 
+-- Two in a zone between a diagonal and an axis are too near to each other.
 beside-clash : (g h g' h' d : ℕ) → h ≤ g → h' ≤ g' → 0 < h → 0 < h' → d ≤ gap g g' + gap h h' → g + h ≤ d → g' + h' ≤ d → ⊥
 unfolding gap
 beside-clash g h g' h' d a b p q e f k = omega arith
 
 module _ (c p q : Site) (hp : span c p ≤ span p q) (hq : span c q ≤ span p q) where
+  -- So it is for each of the twelve.
   zone-clash : (z : Zone) → T (inZone z c p) → T (inZone z c q) → ⊥
   unfolding inZone span
   zone-clash (flat b) t u =
@@ -200,31 +213,23 @@ module _ (c p q : Site) (hp : span c p ≤ span p q) (hq : span c q ≤ span p q
       (omega arith) (omega arith)
 
 -- ---- counting
--- 1 where a test holds, else 0.
-abbrev pub oneIf : Bool → ℕ
-oneIf true = 1
-oneIf false = 0
-
--- How many of some numbers pass a test.
-unfoldable pub tally : (ℕ → Bool) → List ℕ → ℕ
-tally f [] = 0
-tally f (a ∷ l) = oneIf (f a) + tally f l
-
-no-more : (f : ℕ → Bool) {l : List ℕ} → All (λ (b : ℕ). T (f b) → ⊥) l → tally f l ≡ 0
-unfolding tally
+-- None of some numbers that fail a test passes it.
+no-more : (f : ℕ → Bool) {l : List ℕ} → All (λ (b : ℕ). T (f b) → ⊥) l → howMany f l ≡ 0
+unfolding howMany
 no-more f none = refl
 no-more f (also {a = a} {l = l} h k) = go (f a) h (no-more f k)
   where
-    go : (t : Bool) → (T t → ⊥) → tally f l ≡ 0 → oneIf t + tally f l ≡ 0
+    go : (t : Bool) → (T t → ⊥) → howMany f l ≡ 0 → oneIf t + howMany f l ≡ 0
     go true u e = absurd (u tt)
     go false u e = omega arith
 
-one-of : (f : ℕ → Bool) (R : ℕ → ℕ → Type 0) → ((a b : ℕ) → R a b → T (f a) → T (f b) → ⊥) → {l : List ℕ} → Pairwise R l → tally f l ≤ 1
-unfolding tally
+-- Where no two pass it together, one does at most.
+one-of : (f : ℕ → Bool) (R : ℕ → ℕ → Type 0) → ((a b : ℕ) → R a b → T (f a) → T (f b) → ⊥) → {l : List ℕ} → Pairwise R l → howMany f l ≤ 1
+unfolding howMany
 one-of f R w Pairwise.none = omega arith
 one-of f R w (Pairwise.also {a = a} {l = l} h k) = go (f a) (λ t. no-more f (all-map (λ b r. w a b r t) h)) (one-of f R w k)
   where
-    go : (t : Bool) → (T t → tally f l ≡ 0) → tally f l ≤ 1 → oneIf t + tally f l ≤ 1
+    go : (t : Bool) → (T t → howMany f l ≡ 0) → howMany f l ≤ 1 → oneIf t + howMany f l ≤ 1
     go true u m = omega (arith, u tt)
     go false u m = omega arith
 
@@ -235,6 +240,7 @@ total f =
     + f (flatter true true) + f (flatter true false) + f (flatter false true) + f (flatter false false)
     + f (steeper true true) + f (steeper true false) + f (steeper false true) + f (steeper false false)
 
+-- Twelve times at most 1 is at most 12.
 total-most : (f : Zone → ℕ) → ((z : Zone) → f z ≤ 1) → total f ≤ 12
 unfolding total
 total-most f h =
@@ -286,8 +292,9 @@ in-two more more equal = refl
 in-two more more more = refl
 
 module _ (at : ℕ → Site) (c : Site) where
-  twice : (l : List ℕ) → 2 * tally (λ a. skew c (at a)) l ≡ total (λ z. tally (λ a. inZone z c (at a)) l)
-  unfolding tally total skew inZone
+  -- So twice those off the row and the column are those in the zones, zone by zone.
+  twice : (l : List ℕ) → 2 * howMany (λ a. skew c (at a)) l ≡ total (λ z. howMany (λ a. inZone z c (at a)) l)
+  unfolding howMany total skew inZone
   twice [] = refl
   twice (a ∷ l) =
       omega (arith, twice l, in-two (side (c .x) (at a .x)) (side (c .y) (at a .y)) (side (gap (c .x) (at a .x)) (gap (c .y) (at a .y))))
@@ -298,11 +305,11 @@ module _ (at : ℕ → Site) (c : Site) where
     pub second : span c (at b) ≤ span (at a) (at b)
 
   -- AT MOST SIX of sites spread so are off the row and the column.
-  pub six : {l : List ℕ} → Pairwise Spread l → tally (λ a. skew c (at a)) l ≤ 6
+  pub six : {l : List ℕ} → Pairwise Spread l → howMany (λ a. skew c (at a)) l ≤ 6
   six {l} h =
       omega (
         arith,
         twice l,
-        total-most (λ z. tally (λ a. inZone z c (at a)) l)
+        total-most (λ z. howMany (λ a. inZone z c (at a)) l)
             (λ z. one-of (λ a. inZone z c (at a)) Spread (λ a b r. zone-clash c (at a) (at b) (r .first) (r .second) z) h),
       )

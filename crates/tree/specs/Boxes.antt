@@ -1,15 +1,15 @@
 -- When the boxes of two runs share a point.
-use mathlib.Core.Bool.{Bool, false, not}
-use mathlib.Core.List.{List, [], _∷_}
+use mathlib.Core.Bool.{Bool, not}
+use mathlib.Core.List.{List}
 use Prim.Native.Nat.{ℕ}
 use lib.IntN.{ℤ}
 use lib.Signed.{ltZ}
 use lib.Dec.{eqb}
-use Rattle.refusal.specs.Tests.{both, either}
+use Rattle.refusal.specs.Tests.{both, either, anyOf, noTwo}
 use Rattle.grid.specs.declared.Place.{Place}
 use Rattle.feed.specs.declared.Spot.{Spot}
 use Rattle.tree.specs.declared.Run.{Run}
-use Rattle.feed.specs.Feeds.{placeOf, spotAt}
+use Rattle.feed.specs.Feeds.{placeAt}
 
 -- A number is less than both c and d.
 unfoldable pub belowBoth : ℤ → ℤ → ℤ → Bool
@@ -39,18 +39,12 @@ common r s = either (isEnd (r .near) s) (isEnd (r .far) s)
 unfoldable pub clash : List Spot → Run → Run → Bool
 clash feed r s =
     both (not (common r s))
-    (boxesShare
-    (placeOf (spotAt feed (r .near)))
-    (placeOf (spotAt feed (r .far)))
-    (placeOf (spotAt feed (s .near)))
-    (placeOf (spotAt feed (s .far))))
+    (boxesShare (placeAt feed (r .near)) (placeAt feed (r .far)) (placeAt feed (s .near)) (placeAt feed (s .far)))
 
 -- A run clashes with one of some others.
-unfoldable pub clashAny : List Spot → Run → List Run → Bool
-clashAny feed r [] = false
-clashAny feed r (s ∷ others) = either (clash feed r s) (clashAny feed r others)
+abbrev pub clashAny : List Spot → Run → List Run → Bool
+clashAny feed r others = anyOf (clash feed r) others
 
 -- The boxes of two of the runs, without a common pin, share a point.
-unfoldable pub boxesMeet : List Spot → List Run → Bool
-boxesMeet feed [] = false
-boxesMeet feed (r ∷ others) = either (clashAny feed r others) (boxesMeet feed others)
+abbrev pub boxesMeet : List Spot → List Run → Bool
+boxesMeet feed runs = not (noTwo (clash feed) runs)

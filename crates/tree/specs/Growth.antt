@@ -1,11 +1,11 @@
 -- The runs of a feed: always the earliest pair between a reached pin and one not reached.
-use mathlib.Core.Bool.{Bool, true, false}
+use mathlib.Core.Bool.{Bool, true, false, not}
 use mathlib.Core.List.{List, [], _∷_, _++_}
 use Prim.Native.Nat.{ℕ, zero, suc}
 use lib.Dec.{eqb}
 use lib.ListN.{length}
 use Rattle.refusal.specs.Tests.{choose}
-use Rattle.feed.specs.Feeds.{present, placeOf, spotAt}
+use Rattle.feed.specs.Feeds.{present, placeAt}
 use Rattle.feed.specs.declared.Spot.{Spot}
 use Rattle.grid.specs.declared.Pair.{Pair}
 use Rattle.grid.specs.Weight.{pairOf, comesBefore}
@@ -13,7 +13,7 @@ use Rattle.tree.specs.declared.Run.{Run}
 
 -- The pair of two pins of a feed.
 unfoldable pub pairAt : List Spot → ℕ → ℕ → Pair
-pairAt feed i j = pairOf i (placeOf (spotAt feed i)) j (placeOf (spotAt feed j))
+pairAt feed i j = pairOf i (placeAt feed i) j (placeAt feed j)
 
 -- A run from its near pin to its far pin.
 abbrev pub run : ℕ → ℕ → Run
@@ -36,7 +36,7 @@ pinsFrom i (s ∷ feed) = keptIf (present s) i (pinsFrom (suc i) feed)
 -- The pins without one of them.
 unfoldable pub without : ℕ → List ℕ → List ℕ
 without n [] = []
-without n (m ∷ l) = keptIf (choose (eqb m n) false true) m (without n l)
+without n (m ∷ l) = keptIf (not (eqb m n)) m (without n l)
 
 -- The runs from one near pin.
 unfoldable pub runsFrom : ℕ → List ℕ → List Run
@@ -53,7 +53,7 @@ unfoldable pub earliest : List Spot → Run → List Run → Run
 earliest feed r [] = r
 earliest feed r (s ∷ others) = earliest feed (choose (sooner feed s r) s r) others
 
--- The earliest of some runs.
+-- The earliest of some runs; 0 to 0 stands in where there are none.
 unfoldable pub earliestOf : List Spot → List Run → Run
 earliestOf feed [] = run 0 0
 earliestOf feed (r ∷ others) = earliest feed r others

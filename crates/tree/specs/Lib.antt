@@ -4,3 +4,4 @@ pub mod Boxes
 pub mod Trees
 pub mod Offers
 pub mod Bends
+pub mod Reached

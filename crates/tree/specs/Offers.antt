@@ -11,9 +11,9 @@ use Rattle.feed.specs.declared.Spot.{Spot}
 use Rattle.grid.specs.Weight.{pairOf, comesBefore}
 use Rattle.tree.specs.declared.Run.{Run}
 use Rattle.tree.specs.declared.Offer.{Offer}
-use Rattle.tree.specs.declared.Choice.{Choice}
+use Rattle.tree.specs.declared.Next.{Next}
 use Rattle.tree.specs.declared.Taken.{Taken}
-use Rattle.feed.specs.Feeds.{present, placeOf, spotAt}
+use Rattle.feed.specs.Feeds.{present, placeOf, placeAt}
 use Rattle.tree.specs.Growth.{run}
 use Rattle.tree.specs.Trees.{entries}
 
@@ -52,31 +52,31 @@ nextOffers near from i [] offers = []
 nextOffers near from i (s ∷ feed) [] = []
 nextOffers near from i (s ∷ feed) (o ∷ offers) = nextOffer near from i s o ∷ nextOffers near from (suc i) feed offers
 
--- The earlier of a choice and a pin with what it keeps.
-unfoldable pub betterChoice : Choice → ℕ → Offer → Choice
-betterChoice c pin o =
+-- The earlier of the pin that is reached next so far and a pin with what it keeps.
+unfoldable pub earlierNext : Next → ℕ → Offer → Next
+earlierNext n pin o =
     choose (o .waits)
-    (choose (c .offer .waits)
-    (choose (comesBefore (o .pair) (c .offer .pair)) (record { pin = pin; offer = o }) c)
+    (choose (n .offer .waits)
+    (choose (comesBefore (o .pair) (n .offer .pair)) (record { pin = pin; offer = o }) n)
     (record { pin = pin; offer = o }))
-    c
+    n
 
--- The earliest of a choice and the offers from pin number i on.
-unfoldable pub choiceFrom : Choice → ℕ → List Offer → Choice
-choiceFrom c i [] = c
-choiceFrom c i (o ∷ offers) = choiceFrom (betterChoice c i o) (suc i) offers
+-- The earliest of such a pin and those from pin number i on.
+unfoldable pub nextFrom : Next → ℕ → List Offer → Next
+nextFrom n i [] = n
+nextFrom n i (o ∷ offers) = nextFrom (earlierNext n i o) (suc i) offers
 
--- The earliest of all offers; none where no pin waits.
-unfoldable pub choiceOf : List Offer → Choice
-choiceOf offers = choiceFrom (record { pin = 0; offer = noOffer }) 0 offers
+-- The pin that is reached next, by the earliest of all offers; its offer does not wait where no pin does.
+unfoldable pub nextOf : List Offer → Next
+nextOf offers = nextFrom (record { pin = 0; offer = noOffer }) 0 offers
 
 -- The runs that are taken offer by offer, in so many turns at most.
 unfoldable pub takenRuns : List Spot → ℕ → List Offer → List Run
 takenRuns feed zero offers = []
 takenRuns feed (suc turns) offers =
-    let c : Choice = choiceOf offers in
-    choose (c .offer .waits)
-    (run (c .offer .near) (c .pin) ∷ takenRuns feed turns (nextOffers (c .pin) (placeOf (spotAt feed (c .pin))) 0 feed offers))
+    let n : Next = nextOf offers in
+    choose (n .offer .waits)
+    (run (n .offer .near) (n .pin) ∷ takenRuns feed turns (nextOffers (n .pin) (placeAt feed (n .pin)) 0 feed offers))
     []
 
 -- The lowest number of a pin that is there, from pin number i on; the number after the last where there is none.

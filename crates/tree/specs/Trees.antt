@@ -1,9 +1,11 @@
 -- The runs of a feed, or 17 or 18.
 use mathlib.Core.Bool.{Bool, true, false}
-use mathlib.Core.List.{List, [], _∷_, _++_}
-use Prim.Native.Nat.{ℕ, _-_}
-use lib.ListN.{length, replicate}
+use mathlib.Core.List.{List, [], _∷_}
+use Prim.Native.Nat.{ℕ}
+use lib.ListN.{length}
 use Rattle.refusal.specs.Tests.{choose}
+use Rattle.refusal.specs.Lists.{padded}
+use Rattle.refusal.specs.Refusals.{accepted, turn}
 use Rattle.refusal.specs.declared.Verdict.{Verdict}
 use Rattle.refusal.specs.declared.Verdict.the-variants.{Accepted, NoPins, BoxesMeet}
 use Rattle.feed.specs.declared.Spot.{Spot}
@@ -18,7 +20,7 @@ mostRuns = 31
 
 -- Some runs in their entries; entries after the last are 0, 0.
 unfoldable pub entries : List Run → List Run
-entries runs = runs ++ replicate (mostRuns - length runs) (run 0 0)
+entries runs = padded mostRuns (run 0 0) runs
 
 -- A verdict with some runs.
 unfoldable pub treeWith : Verdict → List Run → Tree
@@ -29,9 +31,14 @@ abbrev pub none : List ℕ → Bool
 none [] = true
 none (n ∷ pins) = false
 
--- 17: no pins to wire. 18: boxes of two runs without a common pin share a point. Else the runs.
+-- 17: no pins to wire. 18: boxes of two runs without a common pin share a point. Else what the later rows say.
+abbrev pub treeVerdict : List Spot → Verdict → Verdict
+treeVerdict feed later =
+    turn (none (pinsOf feed)) NoPins
+    (turn (boxesMeet feed (runsOf feed)) BoxesMeet
+    later)
+
+-- The runs of a feed, where it is not turned away.
 unfoldable pub treeOf : List Spot → Tree
 treeOf feed =
-    choose (none (pinsOf feed)) (treeWith NoPins [])
-    (choose (boxesMeet feed (runsOf feed)) (treeWith BoxesMeet [])
-    (treeWith Accepted (runsOf feed)))
+    choose (accepted (treeVerdict feed Accepted)) (treeWith Accepted (runsOf feed)) (treeWith (treeVerdict feed Accepted) [])

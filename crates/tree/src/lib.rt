@@ -6,15 +6,16 @@ use grid::Place;
 use grid::Weight;
 use refusal::Verdict;
 ghost use mathlib.Core.Path.{_≡_};
-ghost use mathlib.Core.Bool.{true};
+ghost use mathlib.Core.Bool.{true, not};
 ghost use mathlib.Core.List.{[]};
 ghost use Prim.Native.Nat.{_≤_};
 ghost use lib.ListN.{take, drop};
+ghost use Rattle.refusal.specs.Tests.{both};
 ghost use Rattle.grid.specs.Place.{inside};
-ghost use Rattle.feed.specs.Feeds.{placeOf, spotAt, allWithin};
-ghost use Rattle.tree.specs.Boxes.{belowBoth, under, overlap, boxesShare, isEnd, common, clash, clashAny, boxesMeet};
+ghost use Rattle.feed.specs.Feeds.{placeOf, placeAt, allWithin};
+ghost use Rattle.tree.specs.Boxes.{belowBoth, under, overlap, boxesShare, isEnd, common, clashAny, boxesMeet};
 ghost use Rattle.tree.specs.Trees.{mostRuns, treeWith, treeOf};
-ghost use Rattle.tree.specs.Offers.{noOffer, offerOf, firstOffer, betterOffer, nextOffer, firstOffers, nextOffers, betterChoice, choiceOf, takenRuns, firstFrom, takenOf};
+ghost use Rattle.tree.specs.Offers.{noOffer, offerOf, firstOffer, betterOffer, nextOffer, firstOffers, nextOffers, earlierNext, nextOf, takenRuns, firstFrom, takenOf};
 
 // A tree of PINS pins has one run fewer.
 pub const RUNS: usize = 31;
@@ -39,8 +40,8 @@ pub struct Offer {
     pub pair: Pair,
 }
 
-// A pin with what it keeps.
-pub struct Choice {
+// The pin that is reached next, with its offer.
+pub struct Next {
     pub pin: usize,
     pub offer: Offer,
 }
@@ -145,7 +146,7 @@ fn next_offer(near: usize, from: Place, pin: usize, spot: Spot, kept: Offer) -> 
 // What the pins keep when the first pin is reached.
 fn first_offers(feed: [Spot; PINS], first: usize) -> [Offer; PINS]
     requires { ⌜ allWithin feed ≡ true ⌝ }
-    ensures { λ r. ⌜ r ≡ firstOffers first (placeOf (spotAt feed first)) 0 feed ⌝ }
+    ensures { λ r. ⌜ r ≡ firstOffers first (placeAt feed first) 0 feed ⌝ }
 {
     let from = feed::place_at(feed, first);
     let none = no_offer();
@@ -162,7 +163,7 @@ fn first_offers(feed: [Spot; PINS], first: usize) -> [Offer; PINS]
 // What the pins keep when one more pin is reached: one weight for each pin that waits.
 fn next_offers(feed: [Spot; PINS], kept: [Offer; PINS], near: usize) -> [Offer; PINS]
     requires { ⌜ allWithin feed ≡ true ⌝ }
-    ensures { λ r. ⌜ r ≡ nextOffers near (placeOf (spotAt feed near)) 0 feed kept ⌝ }
+    ensures { λ r. ⌜ r ≡ nextOffers near (placeAt feed near) 0 feed kept ⌝ }
 {
     let from = feed::place_at(feed, near);
     let mut offers = kept;
@@ -176,41 +177,41 @@ fn next_offers(feed: [Spot; PINS], kept: [Offer; PINS], near: usize) -> [Offer; 
     offers
 }
 
-// The earlier of a choice and a pin with what it keeps.
-fn better_choice(choice: Choice, pin: usize, offer: Offer) -> Choice
-    ensures { λ r. ⌜ r ≡ betterChoice choice pin offer ⌝ }
+// The earlier of the pin that is reached next so far and a pin with what it keeps.
+fn earlier_next(next: Next, pin: usize, offer: Offer) -> Next
+    ensures { λ r. ⌜ r ≡ earlierNext next pin offer ⌝ }
 {
     if !offer.waits {
-        return choice;
+        return next;
     }
-    let kept = choice.offer;
+    let kept = next.offer;
     if !kept.waits {
-        return Choice { pin, offer };
+        return Next { pin, offer };
     }
     let first = offer.pair;
     let second = kept.pair;
     if grid::before(first, second) {
-        return Choice { pin, offer };
+        return Next { pin, offer };
     }
-    choice
+    next
 }
 
 // The pin with the earliest offer; one that does not wait where no pin does.
-fn earliest_offer(offers: [Offer; PINS]) -> Choice
-    ensures { λ r. ⌜ r ≡ choiceOf offers ⌝ }
+fn earliest_offer(offers: [Offer; PINS]) -> Next
+    ensures { λ r. ⌜ r ≡ nextOf offers ⌝ }
 {
     let none = no_offer();
-    let mut choice = Choice {
+    let mut next = Next {
         pin: 0,
         offer: none,
     };
     let mut pin = 0;
     while pin < PINS {
         let offer = offers[pin];
-        choice = better_choice(choice, pin, offer);
+        next = earlier_next(next, pin, offer);
         pin += 1;
     }
-    choice
+    next
 }
 
 // The runs that are taken from these offers on, always the earliest offer.
@@ -222,12 +223,12 @@ fn take_runs(feed: [Spot; PINS], opening: [Offer; PINS]) -> Taken
     let mut runs = [Run { near: 0, far: 0 }; RUNS];
     let mut count = 0;
     while count < RUNS {
-        let choice = earliest_offer(offers);
-        let offer = choice.offer;
+        let next = earliest_offer(offers);
+        let offer = next.offer;
         if !offer.waits {
             return Taken { count, runs };
         }
-        let far = choice.pin;
+        let far = next.pin;
         runs[count] = Run {
             near: offer.near,
             far,
@@ -293,17 +294,13 @@ fn have_common(a: Run, b: Run) -> bool
     is_end(a.far, b)
 }
 
-// Whether two runs without a common pin have boxes that share a point.
-fn do_clash(feed: [Spot; PINS], a: Run, b: Run) -> bool
-    ensures { λ r. ⌜ r ≡ clash feed a b ⌝ }
+// Whether a run from p to q and a run from s to t, without a common pin, have boxes that share a point.
+fn do_clash(a: Run, p: Place, q: Place, b: Run, s: Place, t: Place) -> bool
+    ensures { λ r. ⌜ r ≡ both (not (common a b)) (boxesShare p q s t) ⌝ }
 {
     if have_common(a, b) {
         return false;
     }
-    let p = feed::place_at(feed, a.near);
-    let q = feed::place_at(feed, a.far);
-    let s = feed::place_at(feed, b.near);
-    let t = feed::place_at(feed, b.far);
     boxes_share(p, q, s, t)
 }
 
@@ -312,10 +309,14 @@ fn clashes_any(feed: [Spot; PINS], runs: [Run; RUNS], count: usize, run: Run, st
     requires { ⌜ count ≤ mostRuns ⌝ }
     ensures { λ r. ⌜ r ≡ clashAny feed run (drop start (take count runs)) ⌝ }
 {
+    let p = feed::place_at(feed, run.near);
+    let q = feed::place_at(feed, run.far);
     let mut at = start;
     while at < count {
         let other = runs[at];
-        if do_clash(feed, run, other) {
+        let s = feed::place_at(feed, other.near);
+        let t = feed::place_at(feed, other.far);
+        if do_clash(run, p, q, other, s, t) {
             return true;
         }
         at += 1;

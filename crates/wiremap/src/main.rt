@@ -1,5 +1,5 @@
 // Wires the pin map on standard input, and prints the answer.
-use script::answers::ANSWER_BYTES;
+use text::ANSWER_BYTES;
 
 // Reads as much of a map as is enough, and prints what is answered.
 fn main() {

@@ -7,23 +7,24 @@ use Prim.Native.Nat.{ℕ, zero, suc, _-_, _/_, _%_, _≤_, _<_}
 use native.Mathlib.Omega.{arith}
 use lib.IntN.{ℤ, pos}
 use lib.Dec.{ltb}
-use lib.ListN.{length, getD, take, replicate, List·getD-eq-default}
-use lib.Seq.{take-at}
+use lib.ListN.{length, getD, take, List·getD-eq-default}
 use borrow.Author.Tests.{ltb-true, ltb-false, lt-ltb, le-ltb, not-true, not-false}
 use Rattle.refusal.specs.Tests.{both, choose}
+use Rattle.refusal.specs.Lists.{valuesFrom}
 use Rattle.refusal.specs.Refusals.{accepted, turn}
-use Rattle.refusal.specs.declared.Verdict.{Verdict}
 use Rattle.refusal.specs.declared.Verdict.the-variants.{Accepted, RoomTooSmall}
-use Rattle.refusal.proofs.Tests.{opposite}
+use Rattle.refusal.proofs.Tests.{opposite, choose-no}
+use Rattle.refusal.proofs.Lists.{padded-at, padded-first, values-long, value-at, values-shift, values-same}
 use Rattle.grid.specs.declared.Place.{Place}
 use Rattle.feed.specs.declared.Spot.{Spot}
 use Rattle.grid.specs.Place.{onBoard, inside}
 use Rattle.tree.specs.declared.Run.{Run}
 use Rattle.tree.specs.declared.Tree.{Tree}
-use Rattle.feed.specs.Feeds.{mostPins, placeOf, spotAt, allWithin, allApart}
+use Rattle.feed.specs.Feeds.{mostPins, placeAt, allWithin, allApart}
 use Rattle.tree.specs.Growth.{run, pinsOf, runsOf}
 use Rattle.tree.specs.Boxes.{boxesMeet}
 use Rattle.tree.specs.Trees.{mostRuns, entries, treeWith, none, treeOf}
+use Rattle.tree.specs.Reached.{runAt, reachedPin, reachedNear, reachedPlace, reachedFrom}
 use Rattle.feed.proofs.Rules.{inside-at}
 use Rattle.tree.proofs.Answer.{Answer, no-pins, boxes-meet, the-runs, answer, runs-few}
 use Rattle.tree.proofs.Result.{take-entries as entries-take}
@@ -32,27 +33,20 @@ use Rattle.copper.specs.declared.Leg.{Leg}
 use Rattle.copper.specs.Shapes.{shapeOf, legsOf}
 use Rattle.copper_laws.proofs.Tallies.{leastOf}
 use Rattle.least.specs.declared.Least.{Least}
-use Rattle.least.specs.Asking.{base, placeAt, nearAt, markOf, leastOfTree, Grown}
+use Rattle.least.specs.Asking.{base, pinPlace, markOf, leastOfTree, Grown, nearPin}
+use Rattle.least.specs.declared.Reached.{Reached}
 use Rattle.least.proofs.Whole.{tree-cost}
 use Rattle.least.proofs.Alike.{Alike, found-alike}
-use Rattle.wiring.specs.declared.Shaped.{Shaped}
-use Rattle.wiring.specs.declared.Reached.{Reached}
+use Rattle.wiring.specs.declared.RunEntry.{RunEntry}
 use Rattle.wiring.specs.declared.Strip.{Strip}
-use Rattle.wiring.specs.declared.Laid.{Laid}
 use Rattle.wiring.specs.Choices.{nearEnd, farEnd, bestChoice, legsOfChoice, lengthOfChoice, weighedOf}
-use Rattle.wiring.specs.Answer.{shaped, noRun, shapedRuns, runEntries, legEntries, laidWith, turnedAway, answerWith, wiringVerdict, wiringWith, wiringFavouring}
-use Rattle.wiring.specs.Reaching.{runAt, reachedPin, reachedNear, reachedPlace, reachedFrom, valuesFrom, xsOf, ysOf, reachedOf, nearsOf, upperIn, shapedIn, entriesIn, legsOfEntry, legsOfEntries, strip, shapesBy}
-use Rattle.wiring.proofs.Filling.{values-long, value-at}
+use Rattle.wiring.specs.Answer.{runEntry, noRun, shapedRuns, runEntries, legEntries, turnedAway, answerWith, wiringVerdict, wiringWith, wiringFavouring}
+use Rattle.wiring.specs.Reaching.{xsOf, ysOf, reachedOf, nearsOf, upperIn, shapedIn, entriesIn, legsOfEntry, legsOfEntries, strip, shapesBy}
 use Rattle.wiring.proofs.Laying.{grown}
 use Rattle.wiring.proofs.Best.{length-found, shapes-found}
 use Rattle.wiring.proofs.Weighed.{weighed-told}
 
 -- ---- how a feed is refused
--- A verdict that is not accepted turns away.
-turned : (v : Verdict) (l : Laid) → accepted v ≡ false → choose (accepted v) l (turnedAway v) ≡ turnedAway v
-unfolding choose
-turned v l e = rw e
-
 -- The tree refuses: so does the wiring.
 pub tree-refuses : (favoured : Bool) (feed : List Spot) (room : ℕ) (t : Tree) → t ≡ treeOf feed → accepted (t .verdict) ≡ false
     → turnedAway (t .verdict) ≡ wiringFavouring favoured feed room
@@ -84,22 +78,10 @@ tree-accepts feed t e y = go (answer feed)
         record { first = f; left = left; pins = p; clear = b; count = unfold treeWith in rw (e, q); runs = unfold treeWith in rw (e, q) }
 
 -- ---- entries after the last are blank
--- Any entry of a list of blanks is blank,
-blank-at : {A : Type 0} (k i : ℕ) (d : A) → getD (replicate k d) i d ≡ d
-blank-at zero i d = refl
-blank-at (suc k) zero d = refl
-blank-at (suc k) (suc i) d = blank-at k i d
-
--- so that blanks after the last entry change no entry.
-padded-at : {A : Type 0} (l : List A) (k i : ℕ) (d : A) → getD (l ++ replicate k d) i d ≡ getD l i d
-padded-at [] k i d = blank-at k i d
-padded-at (x ∷ l) k zero d = refl
-padded-at (x ∷ l) k (suc i) d = padded-at l k i d
-
 -- The runs of the tree by number are those of its entries ..
 entries-at : (runs : List Run) (r : ℕ) → runAt (entries runs) r ≡ runAt runs r
 unfolding entries
-entries-at runs r = padded-at runs (mostRuns - length runs) r (run 0 0)
+entries-at runs r = padded-at mostRuns (run 0 0) runs r
 
 -- .. and so are the pins that they reach.
 pin-entries : (runs : List Run) (i : ℕ) → reachedPin (entries runs) i ≡ reachedPin runs i
@@ -113,21 +95,9 @@ unfolding inside onBoard both
 middle-inside = refl
 
 -- ---- the shapes, run by run
--- Values from the next number on are those of the numbers after.
-values-shift : {A : Type 0} (f : ℕ → A) (i k : ℕ) → valuesFrom f (suc i) k ≡ valuesFrom (λ j. f (suc j)) i k
-unfolding valuesFrom
-values-shift f i zero = refl
-values-shift f i (suc k) = ap (λ (l : List _). f (suc i) ∷ l) (values-shift f (suc i) k)
-
--- Functions that are the same give the same values.
-values-same : {A : Type 0} (f g : ℕ → A) (i k : ℕ) → ((j : ℕ) → f j ≡ g j) → valuesFrom f i k ≡ valuesFrom g i k
-unfolding valuesFrom
-values-same f g i zero h = refl
-values-same f g i (suc k) h = ap₂ (λ (x : _) (l : List _). x ∷ l) (h i) (values-same f g (suc i) k h)
-
 -- A run with the shape that its bend gives it.
-abbrev bentAs : List Spot → (ℕ → Bool) → List Run → ℕ → Shaped
-bentAs feed upper runs r = shaped (runAt runs r .near) (runAt runs r .far) (shapeOf (upper r) (nearEnd feed (runAt runs r)) (farEnd feed (runAt runs r)))
+abbrev bentAs : List Spot → (ℕ → Bool) → List Run → ℕ → RunEntry
+bentAs feed upper runs r = runEntry (runAt runs r .near) (runAt runs r .far) (shapeOf (upper r) (nearEnd feed (runAt runs r)) (farEnd feed (runAt runs r)))
 
 -- One after the other these are the runs with their shapes.
 shaped-values : (feed : List Spot) (upper : ℕ → Bool) (runs : List Run) → valuesFrom (bentAs feed upper runs) 0 (length runs) ≡ shapedRuns runs (shapesBy feed upper runs)
@@ -135,10 +105,10 @@ unfolding shapedRuns shapesBy
 shaped-values feed upper [] = unfold valuesFrom in refl
 shaped-values feed upper (r ∷ runs) =
     front (bentAs feed upper (r ∷ runs)) (length runs)
-    ∙ ap (λ (l : List Shaped). bentAs feed upper (r ∷ runs) 0 ∷ l)
+    ∙ ap (λ (l : List RunEntry). bentAs feed upper (r ∷ runs) 0 ∷ l)
     (values-shift (bentAs feed upper (r ∷ runs)) 0 (length runs) ∙ shaped-values feed (λ q. upper (suc q)) runs)
   where
-    front : (f : ℕ → Shaped) (k : ℕ) → valuesFrom f 0 (suc k) ≡ f 0 ∷ valuesFrom f 1 k
+    front : (f : ℕ → RunEntry) (k : ℕ) → valuesFrom f 0 (suc k) ≡ f 0 ∷ valuesFrom f 1 k
     front f k = unfold valuesFrom in refl
 
 -- So the run entries that a mask gives are those of the shapes that it tells.
@@ -160,9 +130,9 @@ shaped-long feed upper [] = refl
 shaped-long feed upper (r ∷ runs) = ap suc (shaped-long feed (λ q. upper (suc q)) runs)
 
 -- The first run entries are those before the blanks.
-take-entries : (l : List Shaped) (n : ℕ) → length l ≡ n → take n (runEntries l) ≡ l
+take-entries : (l : List RunEntry) (n : ℕ) → length l ≡ n → take n (runEntries l) ≡ l
 unfolding runEntries
-take-entries l n e = take-at l (replicate (mostRuns - length l) noRun) n e
+take-entries l n e = padded-first mostRuns noRun l e
 
 -- The legs of the run entries are those of the choice.
 legs-shaped : (feed : List Spot) (runs : List Run) (shapes : List Shape) → legsOfEntries feed (shapedRuns runs shapes) ≡ legsOfChoice feed runs shapes
@@ -171,7 +141,8 @@ legs-shaped feed [] shapes = refl
 legs-shaped feed (r ∷ runs) [] = refl
 legs-shaped feed (r ∷ runs) (s ∷ shapes) = ap (λ (l : List Leg). legsOf s (nearEnd feed r) (farEnd feed r) ++ l) (legs-shaped feed runs shapes)
 
-module _ (feed : List Spot) (full : length feed ≡ mostPins) (ok : allWithin feed ≡ true) (free : allApart feed ≡ true) (t : Tree) (w : Wired feed t) where
+module _ (feed : List Spot) (full : length feed ≡ mostPins) (ok : allWithin feed ≡ true) (free : allApart feed ≡ true) (favoured : Bool)
+    (t : Tree) (w : Wired feed t) where
   abbrev runs : List Run
   runs = runsOf feed
 
@@ -180,7 +151,7 @@ module _ (feed : List Spot) (full : length feed ≡ mostPins) (ok : allWithin fe
 
   -- There are at most 31 runs.
   pub few : n ≤ mostRuns
-  few = runs-few feed full ok (w .first) (w .left) (w .pins)
+  few = runs-few feed full
 
   abbrev xs : List ℤ
   xs = xsOf feed (entries runs)
@@ -188,22 +159,23 @@ module _ (feed : List Spot) (full : length feed ≡ mostPins) (ok : allWithin fe
   abbrev ys : List ℤ
   ys = ysOf feed (entries runs)
 
-  abbrev nears : List ℕ
-  nears = nearsOf (entries runs) n
+  -- The tree as it is reached.
+  abbrev reached : Reached
+  reached = record { xs = xs; ys = ys; near = nearsOf (entries runs) n; count = n; favoured = favoured }
 
   -- Pins that are reached stand at the same places by the entries ..
   place-same : (i : ℕ) → reachedPlace feed (entries runs) i ≡ reachedPlace feed runs i
-  place-same i = ap (λ (p : ℕ). placeOf (spotAt feed p)) (pin-entries runs i)
+  place-same i = ap (placeAt feed) (pin-entries runs i)
 
   -- .. and by the lists of x and y ..
-  place-is : (i : ℕ) → i < mostPins → placeAt xs ys i ≡ reachedPlace feed runs i
+  place-is : (i : ℕ) → i < mostPins → pinPlace reached i ≡ reachedPlace feed runs i
   unfolding xsOf ysOf
   place-is i l =
       ap₂ (λ (a b : ℤ). record { x = a; y = b }) (value-at (λ j. reachedPlace feed (entries runs) j .x) mostPins i (pos 0) l ∙ ap (λ (p : Place). p .x) (place-same i))
       (value-at (λ j. reachedPlace feed (entries runs) j .y) mostPins i (pos 0) l ∙ ap (λ (p : Place). p .y) (place-same i))
 
   -- .. and near pins are reached as the same numbers.
-  near-is : (r : ℕ) → r < mostRuns → nearAt nears r ≡ reachedNear runs r
+  near-is : (r : ℕ) → r < mostRuns → nearPin reached r ≡ reachedNear runs r
   unfolding nearsOf reachedNear
   near-is r l =
       value-at (λ q. reachedFrom 0 (take n (entries runs)) (runAt (entries runs) q .near)) mostRuns r 0 l
@@ -213,15 +185,15 @@ module _ (feed : List Spot) (full : length feed ≡ mostPins) (ok : allWithin fe
   before = grown feed full ok (w .first) (w .left) (w .pins)
 
   -- The tree can be asked.
-  pub tree-grown : Grown xs ys nears n
+  pub tree-grown : Grown reached
   tree-grown =
       record {
         few = few;
-        grown = λ r l. rw (near-is r (omega (arith, few))) (before r l);
+        near-first = λ r l. rw (near-is r (omega (arith, few))) (before r l);
         on-board = λ i. go i (ltb i mostPins) refl;
       }
     where
-      go : (i : ℕ) (b : Bool) → ltb i mostPins ≡ b → inside (placeAt xs ys i) ≡ true
+      go : (i : ℕ) (b : Bool) → ltb i mostPins ≡ b → inside (pinPlace reached i) ≡ true
       go i true e = rw (place-is i (ltb-true i mostPins e)) (inside-at feed ok (reachedPin runs i))
       go i false e =
           let l : mostPins ≤ i = ltb-false i mostPins e in
@@ -236,21 +208,21 @@ module _ (feed : List Spot) (full : length feed ≡ mostPins) (ok : allWithin fe
           long-y i l = unfold ysOf in omega (arith, values-long (λ j. reachedPlace feed (entries runs) j .y) 0 mostPins)
 
   -- The tree by its lists is told as the tree by its runs.
-  alike : Alike (placeAt xs ys) (reachedPlace feed runs) (nearAt nears) (reachedNear runs) n
+  alike : Alike (pinPlace reached) (reachedPlace feed runs) (nearPin reached) (reachedNear runs) n
   alike =
       record {
         nears = λ r l. near-is r (omega (arith, few));
-        near-ends = λ r l. ap (placeAt xs ys) (near-is r (omega (arith, few))) ∙ place-is (reachedNear runs r) (omega (arith, few, before r l));
+        near-ends = λ r l. ap (pinPlace reached) (near-is r (omega (arith, few))) ∙ place-is (reachedNear runs r) (omega (arith, few, before r l));
         far-ends = λ r l. place-is (suc r) (omega (arith, few));
       }
 
-  module _ (favoured : Bool) (f : Least) (ef : f ≡ leastOfTree (placeAt xs ys) (nearAt nears) favoured n) where
+  module _ (f : Least) (ef : f ≡ leastOfTree (pinPlace reached) (nearPin reached) favoured n) where
     abbrev choice : List Shape
     choice = bestChoice favoured feed runs
 
     -- What is found for the one is found for the other:
     found-is : f ≡ leastOfTree (reachedPlace feed runs) (reachedNear runs) favoured n
-    found-is = ef ∙ found-alike (placeAt xs ys) (reachedPlace feed runs) (nearAt nears) (reachedNear runs) n alike favoured
+    found-is = ef ∙ found-alike (pinPlace reached) (reachedPlace feed runs) (nearPin reached) (reachedNear runs) n alike favoured
 
     -- the cost is the least of all choices of shapes,
     cost-is : f .cost ≡ leastOf (reachedPlace feed runs) (reachedNear runs) base (markOf favoured) n
@@ -272,7 +244,7 @@ module _ (feed : List Spot) (full : length feed ≡ mostPins) (ok : allWithin fe
     unfolding leastOfTree
     weighed-is = ap (λ (z : Least). z .weighed) found-is ∙ weighed-told feed full ok (w .first) (w .left) (w .pins)
 
-    module _ (E : List Shaped) (eE : E ≡ entriesIn feed favoured (f .cost % base) (entries runs) n) (S : Strip) (eS : S ≡ strip (legsOfEntries feed (take n E))) where
+    module _ (E : List RunEntry) (eE : E ≡ entriesIn feed favoured (f .cost % base) (entries runs) n) (S : Strip) (eS : S ≡ strip (legsOfEntries feed (take n E))) where
       -- The run entries are those of the best choice ..
       entries-is : E ≡ runEntries (shapedRuns runs choice)
       entries-is = eE ∙ entries-shaped feed favoured (f .cost % base) runs ∙ ap (λ (c : List Shape). runEntries (shapedRuns runs c)) shapes-is
@@ -284,7 +256,7 @@ module _ (feed : List Spot) (full : length feed ≡ mostPins) (ok : allWithin fe
       -- .. and so are the legs ..
       strip-is : S ≡ strip (legsOfChoice feed runs choice)
       strip-is =
-          eS ∙ ap (λ (l : List Shaped). strip (legsOfEntries feed l)) (ap (take n) entries-is ∙ take-entries (shapedRuns runs choice) n count-is)
+          eS ∙ ap (λ (l : List RunEntry). strip (legsOfEntries feed l)) (ap (take n) entries-is ∙ take-entries (shapedRuns runs choice) n count-is)
           ∙ ap strip (legs-shaped feed runs choice)
 
       -- .. their number ..
@@ -302,7 +274,7 @@ module _ (feed : List Spot) (full : length feed ≡ mostPins) (ok : allWithin fe
       some = rw (w .pins)
 
       -- so that the room alone decides.
-      verdict-is : (room : ℕ) → wiringVerdict feed runs choice room ≡ turn (ltb room (S .count)) RoomTooSmall Accepted
+      verdict-is : (room : ℕ) → wiringVerdict feed choice room ≡ turn (ltb room (S .count)) RoomTooSmall Accepted
       unfolding wiringVerdict turn choose
       verdict-is room = rw (some, w .clear, many-is)
 
@@ -310,19 +282,19 @@ module _ (feed : List Spot) (full : length feed ≡ mostPins) (ok : allWithin fe
       pub room-refused : (room : ℕ) → room < S .count → turnedAway RoomTooSmall ≡ wiringFavouring favoured feed room
       unfolding wiringFavouring wiringWith
       room-refused room l =
-          let v : wiringVerdict feed runs choice room ≡ RoomTooSmall = verdict-is room ∙ (unfold turn choose in rw (lt-ltb room (S .count) l)) in
-          rw v (sym (turned RoomTooSmall (answerWith feed runs choice) (unfold accepted in refl)))
+          let v : wiringVerdict feed choice room ≡ RoomTooSmall = verdict-is room ∙ (unfold turn choose in rw (lt-ltb room (S .count) l)) in
+          rw v (sym (choose-no (answerWith feed choice) (turnedAway RoomTooSmall) (unfold accepted in refl)))
 
       -- The answer.
       pub answer-is : (room : ℕ) → S .count ≤ room
           → record {
-            wiring = record { verdict = Accepted; length = f .cost / base; count = n; runs = E; legs = S .count; weighed = f .weighed };
-            legs = S .legs;
+            wiring = record { verdict = Accepted; length = f .cost / base; runs = n; entries = E; legs = S .count; weighed = f .weighed };
+            list = S .legs;
           } ≡ wiringFavouring favoured feed room
       unfolding wiringFavouring wiringWith
       answer-is room l =
-          let v : wiringVerdict feed runs choice room ≡ Accepted = verdict-is room ∙ (unfold turn choose in rw (le-ltb room (S .count) l)) in
-          rw v (unfold accepted choose answerWith laidWith in rw (length-is, weighed-is, entries-is, many-is, legs-is, count-is))
+          let v : wiringVerdict feed choice room ≡ Accepted = verdict-is room ∙ (unfold turn choose in rw (le-ltb room (S .count) l)) in
+          rw v (unfold accepted choose answerWith in rw (length-is, weighed-is, entries-is, many-is, legs-is, count-is))
 
 -- ---- the same of the tree as the code has it
 module _ (feed : List Spot) (full : length feed ≡ mostPins) (ok : allWithin feed ≡ true) (free : allApart feed ≡ true) (favoured : Bool) (room : ℕ)
@@ -332,43 +304,47 @@ module _ (feed : List Spot) (full : length feed ≡ mostPins) (ok : allWithin fe
   wire-refused y = tree-refuses favoured feed room t et (sym eb ∙ not-true b y)
 
   module _ (y : not b ≡ false) where
+    -- What an accepted tree says.
     w : Wired feed t
     w = tree-accepts feed t et (sym eb ∙ not-false b y)
 
     -- It accepts: there are at most 31 runs,
     pub count-few : t .count ≤ mostRuns
-    count-few = omega (arith, few feed full ok free t w, w .count)
+    count-few = omega (arith, few feed full ok free favoured t w, w .count)
 
-    module _ (places : Reached) (ep : places ≡ reachedOf feed (t .runs)) (nears : List ℕ) (en : nears ≡ nearsOf (t .runs) (t .count)) where
+    module _ (T : Reached) (eT : T ≡ reachedOf feed (t .runs) (t .count) favoured) where
       -- and the tree can be asked.
-      pub wire-grown : Grown (places .xs) (places .ys) nears (t .count)
+      pub wire-grown : Grown T
       unfolding reachedOf
-      wire-grown = rw (ep, en, w .count, w .runs) (tree-grown feed full ok free t w)
+      wire-grown = rw (eT, w .count, w .runs) (tree-grown feed full ok free favoured t w)
 
-      module _ (f : Least) (ef : f ≡ leastOfTree (placeAt (places .xs) (places .ys)) (nearAt nears) favoured (t .count))
-          (E : List Shaped) (eE : E ≡ entriesIn feed favoured (f .cost % base) (t .runs) (t .count))
+      module _ (f : Least) (ef : f ≡ leastOfTree (pinPlace T) (nearPin T) (T .favoured) (T .count))
+          (E : List RunEntry) (eE : E ≡ entriesIn feed favoured (f .cost % base) (t .runs) (t .count))
           (S : Strip) (eS : S ≡ strip (legsOfEntries feed (take (t .count) E))) where
-        -- What is found, the run entries and the legs, by the tree of the definition.
-        found-as : f
-            ≡ leastOfTree (placeAt (xsOf feed (entries (runsOf feed))) (ysOf feed (entries (runsOf feed))))
-            (nearAt (nearsOf (entries (runsOf feed)) (length (runsOf feed)))) favoured (length (runsOf feed))
-        unfolding reachedOf
-        found-as = rw (ep, en, w .count, w .runs) at ef
+        abbrev told : Reached
+        told = reached feed full ok free favoured t w
 
+        -- What is found, the run entries and the legs, by the tree of the definition.
+        found-as : f ≡ leastOfTree (pinPlace told) (nearPin told) favoured (length (runsOf feed))
+        unfolding reachedOf
+        found-as = rw (eT, w .count, w .runs) at ef
+
+        -- The run entries, by the tree of the definition,
         entries-as : E ≡ entriesIn feed favoured (f .cost % base) (entries (runsOf feed)) (length (runsOf feed))
         entries-as = rw (w .count, w .runs) at eE
 
+        -- and the legs.
         strip-as : S ≡ strip (legsOfEntries feed (take (length (runsOf feed)) E))
         strip-as = rw (w .count) at eS
 
         -- Too little room is refused ..
         pub wire-room : room < S .count → turnedAway RoomTooSmall ≡ wiringFavouring favoured feed room
-        wire-room l = room-refused feed full ok free t w favoured f found-as E entries-as S strip-as room l
+        wire-room l = room-refused feed full ok free favoured t w f found-as E entries-as S strip-as room l
 
         -- .. and otherwise this is the answer.
         pub wire-answer : S .count ≤ room
             → record {
-              wiring = record { verdict = Accepted; length = f .cost / base; count = t .count; runs = E; legs = S .count; weighed = f .weighed };
-              legs = S .legs;
+              wiring = record { verdict = Accepted; length = f .cost / base; runs = t .count; entries = E; legs = S .count; weighed = f .weighed };
+              list = S .legs;
             } ≡ wiringFavouring favoured feed room
-        wire-answer l = rw (w .count) (answer-is feed full ok free t w favoured f found-as E entries-as S strip-as room l)
+        wire-answer l = rw (w .count) (answer-is feed full ok free favoured t w f found-as E entries-as S strip-as room l)

@@ -2,7 +2,7 @@
 -- looking through all of them. From pins that stand on the board, no two of them too near, and boxes that do not meet.
 use mathlib.Core.Path.{_≡_, refl, sym, ap, ap₂, _∙_}
 use mathlib.Core.Bool.{Bool, true, false, not}
-use mathlib.Core.List.{List, [], _∷_, _++_, append-assoc, append-nil}
+use mathlib.Core.List.{List, [], _∷_, _++_}
 use mathlib.Core.Logic.{_⊎_, inl, inr, ⊎-elim}
 use Prim.Native.Nat.{ℕ, zero, suc, _+_, _*_, _/_, _%_, _≤_, _<_}
 use native.Mathlib.Nat.{add-mul-div-right, add-mul-mod-self-right, div-eq-of-lt, mod-eq-of-lt}
@@ -17,57 +17,43 @@ use Rattle.feed.specs.Feeds.{mostPins, allWithin, allApart}
 use Rattle.tree.specs.Growth.{pinsOf, runsOf}
 use Rattle.tree.specs.Boxes.{boxesMeet}
 use Rattle.tree.specs.Trees.{mostRuns}
+use Rattle.tree.specs.Reached.{runAt, reachedNear, reachedPlace}
 use Rattle.tree.proofs.Membership.{Among}
 use Rattle.copper.specs.declared.Shape.{Shape}
 use Rattle.copper.specs.declared.Leg.{Leg}
 use Rattle.copper.specs.Shapes.{shapeOf, legsOf}
-use Rattle.copper.specs.Length.{lengthOf, legsOfRuns}
+use Rattle.copper.specs.Length.{lengthOf}
+use Rattle.copper.specs.Least.{isBent}
 use Rattle.copper_laws.proofs.Sums.{sumBelow, sum-same}
 use Rattle.copper_laws.proofs.Least.{May}
-use Rattle.copper_laws.proofs.Tallies.{bentAt, leastOf}
-use Rattle.copper_laws.proofs.Wired.{first-shortest}
+use Rattle.copper_laws.proofs.Tallies.{leastOf}
+use Rattle.copper_laws.proofs.Wired.{legsOfRuns, first-shortest, joinBelow, join-first, runs-joined}
+use Rattle.copper_laws.proofs.Planted.{places-held}
 use Rattle.least.specs.Asking.{base, markOf}
 use Rattle.wiring.specs.Choices.{nearEnd, farEnd, choicesOf, legsOfChoice, lengthOfChoice, bestChoice}
-use Rattle.wiring.specs.Reaching.{runAt, reachedNear, reachedPlace, upperIn, shapesBy}
+use Rattle.wiring.specs.Reaching.{upperIn, shapesBy}
 use Rattle.wiring.proofs.Ordered.{choice-told, told-choice, choice-long, choices-rising, choice-may, bends-told, first-found}
 use Rattle.wiring.proofs.Masks.{bends, maskFrom, maskBy, mask-sum, mask-choice, mask-less, mask-read}
-use Rattle.wiring.proofs.Laying.{places-held, near-place, far-place, laid}
+use Rattle.wiring.proofs.Laying.{near-place, far-place, laid}
 
--- Lists joined, n of them.
-unfoldable joinBelow : ℕ → (ℕ → List Leg) → List Leg
-joinBelow zero g = []
-joinBelow (suc n) g = joinBelow n g ++ g n
-
--- They are joined from the front as from the back,
-join-front : (n : ℕ) (g : ℕ → List Leg) → joinBelow (suc n) g ≡ g 0 ++ joinBelow n (λ r. g (suc r))
-unfolding joinBelow
-join-front zero g = sym (append-nil (g 0))
-join-front (suc n) g = ap (λ (l : List Leg). l ++ g (suc n)) (join-front n g) ∙ append-assoc (g 0) (joinBelow n (λ r. g (suc r))) (g (suc n))
-
--- and equal ones give equal lists.
-join-same : (n : ℕ) (g h : ℕ → List Leg) → ((r : ℕ) → r < n → g r ≡ h r) → joinBelow n g ≡ joinBelow n h
+-- Equal legs of each run, joined, are the same.
+join-same : (n : ℕ) (g h : ℕ → List Leg) → ((r : ℕ) → r < n → g r ≡ h r) → joinBelow g n ≡ joinBelow h n
 unfolding joinBelow
 join-same zero g h e = refl
 join-same (suc n) g h e = ap₂ (λ (a b : List Leg). a ++ b) (join-same n g h (λ r l. e r (omega arith))) (e n (omega arith))
 
 -- The legs of run r.
 abbrev legsAt : List Spot → List Run → (ℕ → Bool) → ℕ → List Leg
-legsAt feed runs upper r = legsOf (shapeOf (upper r) (nearEnd feed (runAt runs r)) (farEnd feed (runAt runs r))) (nearEnd feed (runAt runs r)) (farEnd feed (runAt runs r))
+legsAt feed runs upper r =
+    legsOf (shapeOf (upper r) (nearEnd feed (runAt runs r)) (farEnd feed (runAt runs r))) (nearEnd feed (runAt runs r)) (farEnd feed (runAt runs r))
 
--- The legs of a choice, run by run,
-legs-join : (feed : List Spot) (runs : List Run) (upper : ℕ → Bool) → legsOfChoice feed runs (shapesBy feed upper runs) ≡ joinBelow (length runs) (legsAt feed runs upper)
+-- The legs of a choice, run by run.
+legs-join : (feed : List Spot) (runs : List Run) (upper : ℕ → Bool) → legsOfChoice feed runs (shapesBy feed upper runs) ≡ joinBelow (legsAt feed runs upper) (length runs)
 unfolding legsOfChoice shapesBy
 legs-join feed [] upper = unfold joinBelow in refl
 legs-join feed (r ∷ runs) upper =
     ap (λ (l : List Leg). legsOf (shapeOf (upper 0) (nearEnd feed r) (farEnd feed r)) (nearEnd feed r) (farEnd feed r) ++ l) (legs-join feed runs (λ q. upper (suc q)))
-    ∙ sym (join-front (length runs) (legsAt feed (r ∷ runs) upper))
-
--- and those of the runs by when their pins are reached.
-runs-join : (at : ℕ → Place) (near : ℕ → ℕ) (upper : ℕ → Bool) (n : ℕ)
-    → legsOfRuns at near upper n ≡ joinBelow n (λ r. legsOf (shapeOf (upper r) (at (near r)) (at (suc r))) (at (near r)) (at (suc r)))
-unfolding legsOfRuns joinBelow
-runs-join at near upper zero = refl
-runs-join at near upper (suc n) = ap (λ (l : List Leg). l ++ legsOf (shapeOf (upper n) (at (near n)) (at (suc n))) (at (near n)) (at (suc n))) (runs-join at near upper n)
+    ∙ sym (join-first (legsAt feed (r ∷ runs) upper) (length runs))
 
 -- Shapes that bend alike are the same.
 shapes-same : (feed : List Spot) (runs : List Run) (u v : ℕ → Bool) → ((r : ℕ) → r < length runs → u r ≡ v r) → shapesBy feed u runs ≡ shapesBy feed v runs
@@ -105,7 +91,7 @@ module _ (feed : List Spot) (full : length feed ≡ mostPins) (ok : allWithin fe
       legs-join feed runs upper
       ∙ join-same n (legsAt feed runs upper) (λ r. legsOf (shapeOf (upper r) (at (near r)) (at (suc r))) (at (near r)) (at (suc r)))
       (λ r l. ap₂ (λ (a b : Place). legsOf (shapeOf (upper r) a b) a b) (sym (near-place feed full ok f left e r l)) (sym (far-place feed full ok f left e r)))
-      ∙ sym (runs-join at near upper n)
+      ∙ sym (runs-joined at near upper n)
 
   -- So is its length.
   length-told : (upper : ℕ → Bool) → lengthOfChoice feed runs (shapesBy feed upper runs) ≡ lengthOf (legsOfRuns at near upper n)
@@ -126,21 +112,23 @@ module _ (feed : List Spot) (full : length feed ≡ mostPins) (ok : allWithin fe
 
   -- Bends that may be, by the ends of the runs and by when their pins are reached.
   may-reached : (upper : ℕ → Bool) → ((r : ℕ) → r < n → isStraight (nearEnd feed (runAt runs r)) (farEnd feed (runAt runs r)) ≡ true → upper r ≡ false)
-      → (r : ℕ) → r < n → May (bentAt at near r) (upper r)
+      → (r : ℕ) → r < n → May (isBent at near r) (upper r)
+  unfolding isBent
   may-reached upper h r l q =
       h r l
       (ap₂ isStraight (sym (near-place feed full ok f left e r l)) (sym (far-place feed full ok f left e r))
       ∙ not-false (isStraight (at (near r)) (at (suc r))) q)
 
   -- And back.
-  may-ends : (upper : ℕ → Bool) → ((r : ℕ) → r < n → May (bentAt at near r) (upper r))
+  may-ends : (upper : ℕ → Bool) → ((r : ℕ) → r < n → May (isBent at near r) (upper r))
       → (r : ℕ) → r < n → isStraight (nearEnd feed (runAt runs r)) (farEnd feed (runAt runs r)) ≡ true → upper r ≡ false
+  unfolding isBent
   may-ends upper h r l q =
       h r l (ap not (ap₂ isStraight (near-place feed full ok f left e r l) (far-place feed full ok f left e r) ∙ q))
 
-  module _ (s : ℕ → Bool) (may : (r : ℕ) → r < n → May (bentAt at near r) (s r))
+  module _ (s : ℕ → Bool) (may : (r : ℕ) → r < n → May (isBent at near r) (s r))
       (is : cost ≡ sumBelow n (λ r. markOf favoured r (s r)) + lengthOf (legsOfRuns at near s n) * base)
-      (ahead : (t : ℕ → Bool) → ((r : ℕ) → r < n → May (bentAt at near r) (t r))
+      (ahead : (t : ℕ → Bool) → ((r : ℕ) → r < n → May (isBent at near r) (t r))
       → (lengthOf (legsOfRuns at near s n) < lengthOf (legsOfRuns at near t n))
       ⊎ ((lengthOf (legsOfRuns at near s n) ≡ lengthOf (legsOfRuns at near t n))
       × (sumBelow n (λ r. markOf favoured r (s r)) ≤ sumBelow n (λ r. markOf favoured r (t r))))) where

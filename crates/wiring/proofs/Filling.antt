@@ -1,5 +1,4 @@
--- Lists that loops fill: values one after the other, entries before blanks, legs run by run; and what the small functions answer.
--- Assumes nothing.
+-- Lists that loops fill: entries before blanks, legs run by run; and what the small functions answer. Assumes nothing.
 use mathlib.Core.Path.{_≡_, refl, sym, ap, ap₂, _∙_}
 use mathlib.Core.Bool.{Bool, true, false, not}
 use mathlib.Core.List.{List, [], _∷_, _++_, append-assoc, append-nil}
@@ -7,109 +6,60 @@ use Prim.Native.Nat.{ℕ, zero, suc, _+_, _-_, _/_, _%_, _≤_, _<_}
 use native.Mathlib.Numerals.{add-one}
 use native.Mathlib.Omega.{arith}
 use lib.Dec.{eqb}
-use lib.ListN.{length, getD, set, take, drop, replicate, length-append, drop-of-length-le}
-use lib.Seq.{set-at, append-snoc, drop-cons, take-suc, getD-take, length-take-le}
+use lib.ListN.{length, getD, set, take, drop, replicate, length-append}
+use lib.Seq.{append-snoc}
 use borrow.Author.Tests.{eq-eqb, ne-eqb}
 use Rattle.refusal.specs.Tests.{choose}
+use Rattle.refusal.specs.Lists.{valuesFrom}
+use Rattle.refusal.proofs.Lists.{front-of, none-left, first-more, padded-more, values-long, value-more}
 use Rattle.grid.specs.declared.Place.{Place}
 use Rattle.feed.specs.declared.Spot.{Spot}
 use Rattle.tree.specs.declared.Run.{Run}
-use Rattle.feed.specs.Feeds.{placeOf, spotAt}
+use Rattle.feed.specs.Feeds.{placeAt}
 use Rattle.least.specs.Asking.{markAt}
 use Rattle.tree.specs.Growth.{run}
-use Rattle.tree.proofs.Loops.{filled, filled-turn, filled-end}
 use Rattle.tree.specs.Trees.{mostRuns}
+use Rattle.tree.specs.Reached.{runAt, reachedPin, reachedFrom}
 use Rattle.copper.specs.declared.Shape.{Shape}
 use Rattle.copper.specs.declared.Shape.the-variants.{Straight, Lower, Upper}
 use Rattle.copper.specs.declared.Leg.{Leg}
 use Rattle.copper.specs.Shapes.{firstLeg, secondLeg, legCount, legsOf}
-use Rattle.wiring.specs.declared.Shaped.{Shaped}
+use Rattle.wiring.specs.declared.RunEntry.{RunEntry}
 use Rattle.wiring.specs.Answer.{noRun, mostLegs, noLeg, runEntries, legEntries}
-use Rattle.wiring.specs.Reaching.{runAt, reachedPin, reachedFrom, valuesFrom, upperIn, shapedIn, entriesIn, legsOfEntry, legsOfEntries, strip}
-
--- ---- values one after the other
-module _ {A : Type 0} (f : ℕ → A) where
-  -- There are as many as are asked for,
-  pub values-long : (i k : ℕ) → length (valuesFrom f i k) ≡ k
-  unfolding valuesFrom
-  values-long i zero = refl
-  values-long i (suc k) = ap suc (values-long (suc i) k)
-
-  -- each one where its number says;
-  values-at : (i k j : ℕ) (d : A) → j < k → getD (valuesFrom f i k) j d ≡ f (i + j)
-  unfolding valuesFrom
-  values-at i zero j d l = absurd (omega arith)
-  values-at i (suc k) zero d l = ap f (let z : i ≡ i + 0 = omega arith in z)
-  values-at i (suc k) (suc j) d l = values-at (suc i) k j d (omega arith) ∙ ap f (let z : suc i + j ≡ i + suc j = omega arith in z)
-
-  -- from 0 on, value j is entry j,
-  pub value-at : (k j : ℕ) (d : A) → j < k → getD (valuesFrom f 0 k) j d ≡ f j
-  value-at k j d l = values-at 0 k j d l ∙ ap f (let z : 0 + j ≡ j = omega arith in z)
-
-  -- and one more comes last,
-  values-more : (i k : ℕ) → valuesFrom f i (suc k) ≡ valuesFrom f i k ++ (f (i + k) ∷ [])
-  unfolding valuesFrom
-  values-more i zero = ap (λ (j : ℕ). f j ∷ []) (let z : i ≡ i + 0 = omega arith in z)
-  values-more i (suc k) =
-      ap (λ (l : List A). f i ∷ l)
-      (values-more (suc i) k ∙ ap (λ (j : ℕ). valuesFrom f (suc i) k ++ (f j ∷ [])) (let z : suc i + k ≡ i + suc k = omega arith in z))
-
-  -- from 0 on too.
-  pub value-more : (k : ℕ) → valuesFrom f 0 (k + 1) ≡ valuesFrom f 0 k ++ (f k ∷ [])
-  value-more k = ap (valuesFrom f 0) (add-one k) ∙ values-more 0 k ∙ ap (λ (j : ℕ). valuesFrom f 0 k ++ (f j ∷ [])) (let z : 0 + k ≡ k = omega arith in z)
-
-  -- A list that is filled from the front with the values.
-  module _ (m : ℕ) (l : List A) (d : A) (i : ℕ) (o : List A) (so-far : o ≡ filled (valuesFrom f 0 m) l i) (long : length l ≡ m) where
-    -- One value more ..
-    pub values-turn : (v : A) → i < m → v ≡ f i → set o i v ≡ filled (valuesFrom f 0 m) l (i + 1)
-    values-turn v h e =
-        rw (so-far, e, ← value-at m i d h) (filled-turn (valuesFrom f 0 m) l i d (omega (arith, values-long 0 m)) (omega arith))
-
-    -- .. and all of them.
-    pub values-all : m ≤ i → o ≡ valuesFrom f 0 m
-    values-all h = so-far ∙ filled-end (valuesFrom f 0 m) l i (omega (arith, values-long 0 m)) (omega arith)
+use Rattle.wiring.specs.Reaching.{upperIn, shapedIn, entriesIn, legsOfEntry, legsOfEntries, strip}
 
 -- ---- entries before blanks
--- An entry put after the last takes the place of a blank,
-pad-more : {A : Type 0} (m : ℕ) (d : A) (l : List A) (x : A) → length l < m
-    → set (l ++ replicate (m - length l) d) (length l) x ≡ (l ++ (x ∷ [])) ++ replicate (m - length (l ++ (x ∷ []))) d
-pad-more m d l x h =
-    let e : m - length l ≡ suc (m - suc (length l)) = omega arith in
-    let n : length (l ++ (x ∷ [])) ≡ suc (length l) = length-append l (x ∷ []) ∙ omega arith in
-    rw (e, n)
-    (set-at l d (replicate (m - suc (length l)) d) x (length l) refl ∙ sym (append-snoc l x (replicate (m - suc (length l)) d)))
-
--- among run entries ..
-pub entry-more : (l : List Shaped) (x : Shaped) → length l < mostRuns → set (runEntries l) (length l) x ≡ runEntries (l ++ (x ∷ []))
+-- An entry put after the last takes the place of a blank, among run entries ..
+pub entry-more : (l : List RunEntry) (x : RunEntry) → length l < mostRuns → set (runEntries l) (length l) x ≡ runEntries (l ++ (x ∷ []))
 unfolding runEntries
-entry-more l x h = pad-more mostRuns noRun l x h
+entry-more l x h = padded-more mostRuns noRun l x h
 
 -- .. and among legs.
 leg-more : (l : List Leg) (x : Leg) → length l < mostLegs → set (legEntries l) (length l) x ≡ legEntries (l ++ (x ∷ []))
 unfolding legEntries
-leg-more l x h = pad-more mostLegs noLeg l x h
+leg-more l x h = padded-more mostLegs noLeg l x h
 
 -- The run entries that a mask gives, one after the other.
 module _ (feed : List Spot) (favoured : Bool) (mask : ℕ) (runs : List Run) where
   -- None yet,
-  pub entries-none : {s : Shaped} → s ≡ noRun → replicate mostRuns s ≡ runEntries (valuesFrom (shapedIn feed favoured mask runs) 0 0)
+  pub entries-none : {s : RunEntry} → s ≡ noRun → replicate mostRuns s ≡ runEntries (valuesFrom (shapedIn feed favoured mask runs) 0 0)
   unfolding runEntries valuesFrom
   entries-none e = ap (replicate mostRuns) e
 
   -- one more,
-  pub entries-turn : (entries : List Shaped) (i : ℕ) (x : Shaped) → i < mostRuns → entries ≡ runEntries (valuesFrom (shapedIn feed favoured mask runs) 0 i)
+  pub entries-turn : (entries : List RunEntry) (i : ℕ) (x : RunEntry) → i < mostRuns → entries ≡ runEntries (valuesFrom (shapedIn feed favoured mask runs) 0 i)
       → x ≡ shapedIn feed favoured mask runs i → set entries i x ≡ runEntries (valuesFrom (shapedIn feed favoured mask runs) 0 (i + 1))
   entries-turn entries i x h e g =
-      let f : ℕ → Shaped = shapedIn feed favoured mask runs in
-      let l : List Shaped = valuesFrom f 0 i in
+      let f : ℕ → RunEntry = shapedIn feed favoured mask runs in
+      let l : List RunEntry = valuesFrom f 0 i in
       let n : length l ≡ i = values-long f 0 i in
-      ap₂ (λ (a : List Shaped) (y : Shaped). set a i y) e g
+      ap₂ (λ (a : List RunEntry) (y : RunEntry). set a i y) e g
       ∙ ap (λ (k : ℕ). set (runEntries l) k (f i)) (sym n)
       ∙ entry-more l (f i) (let z : length l < mostRuns = omega arith in z)
       ∙ ap runEntries (sym (value-more f i))
 
   -- and all.
-  pub entries-all : (entries : List Shaped) (i count : ℕ) → count ≤ i → i ≤ count → entries ≡ runEntries (valuesFrom (shapedIn feed favoured mask runs) 0 i)
+  pub entries-all : (entries : List RunEntry) (i count : ℕ) → count ≤ i → i ≤ count → entries ≡ runEntries (valuesFrom (shapedIn feed favoured mask runs) 0 i)
       → entries ≡ entriesIn feed favoured mask runs count
   unfolding entriesIn
   entries-all entries i count h k g = let e : i ≡ count = omega arith in rw (← e) g
@@ -138,27 +88,21 @@ unfolding upperIn
 upper-unmarked favoured mask r e = rw e
 
 -- The search for the run that reaches a pin, from run i on.
-rest : {A : Type 0} (l : List A) (k i : ℕ) (d : A) → k ≤ length l → i < k → drop i (take k l) ≡ getD l i d ∷ drop (i + 1) (take k l)
-rest l k i d h j =
-    let n : length (take k l) ≡ k = length-take-le k l h in
-    let b : i < length (take k l) = omega arith in
-    rw (add-one, drop-cons (take k l) i d, getD-take k l i d)
-
 module _ (runs : List Run) (count pin i : ℕ) (long : length runs ≡ mostRuns) (few : count ≤ mostRuns) where
   -- It is found at run i,
   pub search-hit : i < count → runAt runs i .far ≡ pin → i + 1 ≡ reachedFrom i (drop i (take count runs)) pin
   unfolding reachedFrom choose
-  search-hit h e = rw (rest runs count i (run 0 0) (omega arith) h, eq-eqb (runAt runs i .far) pin e) (add-one i)
+  search-hit h e = rw (front-of (run 0 0) runs count i (omega arith) h, eq-eqb (runAt runs i .far) pin e) (add-one i)
 
   -- or among those after it,
   pub search-miss : i < count → (runAt runs i .far ≡ pin → ⊥) → reachedFrom i (drop i (take count runs)) pin ≡ reachedFrom (i + 1) (drop (i + 1) (take count runs)) pin
   unfolding reachedFrom choose
-  search-miss h e = rw (rest runs count i (run 0 0) (omega arith) h, ne-eqb (runAt runs i .far) pin e, add-one)
+  search-miss h e = rw (front-of (run 0 0) runs count i (omega arith) h, ne-eqb (runAt runs i .far) pin e, add-one)
 
   -- or nowhere.
   pub search-end : count ≤ i → 0 ≡ reachedFrom i (drop i (take count runs)) pin
   unfolding reachedFrom
-  search-end h = rw (drop-of-length-le (take count runs) (let z : length (take count runs) ≤ i = omega (arith, length-take-le count runs (omega arith)) in z))
+  search-end h = rw (none-left runs count i h)
 
 -- A straight run puts one leg after those that are there.
 one-more : (old : List Leg) (shape : Shape) (near far : Place) (n : ℕ) → n ≡ legCount shape → (n ≡ 2 → ⊥) → length old < mostLegs
@@ -194,9 +138,9 @@ legs-many Lower near far = refl
 legs-many Upper near far = refl
 
 -- and so has its run entry;
-entry-many : (feed : List Spot) (s : Shaped) → length (legsOfEntry feed s) ≡ legCount (s .shape)
+entry-many : (feed : List Spot) (s : RunEntry) → length (legsOfEntry feed s) ≡ legCount (s .shape)
 unfolding legsOfEntry
-entry-many feed s = legs-many (s .shape) (placeOf (spotAt feed (s .near))) (placeOf (spotAt feed (s .far)))
+entry-many feed s = legs-many (s .shape) (placeAt feed (s .near)) (placeAt feed (s .far))
 
 -- a shape counts at most two,
 legs-few : (shape : Shape) → legCount shape ≤ 2
@@ -209,7 +153,7 @@ pub leg-small : (shape : Shape) {n : ℕ} → n ≡ legCount shape → n ≤ 2
 leg-small shape e = omega (arith, legs-few shape)
 
 -- The legs of one run entry more come last.
-legs-join : (feed : List Spot) (l : List Shaped) (x : Shaped) → legsOfEntries feed (l ++ (x ∷ [])) ≡ legsOfEntries feed l ++ legsOfEntry feed x
+legs-join : (feed : List Spot) (l : List RunEntry) (x : RunEntry) → legsOfEntries feed (l ++ (x ∷ [])) ≡ legsOfEntries feed l ++ legsOfEntry feed x
 unfolding legsOfEntries
 legs-join feed [] x = append-nil (legsOfEntry feed x)
 legs-join feed (y ∷ l) x =
@@ -222,19 +166,19 @@ unfolding legEntries
 blanks e = ap (replicate mostLegs) e
 
 -- The legs of the first i entries are put.
-pub record Put (feed : List Spot) (entries : List Shaped) (legs : List Leg) (filled i : ℕ) : Type 0 where
+pub record Put (feed : List Spot) (entries : List RunEntry) (legs : List Leg) (filled i : ℕ) : Type 0 where
   pub many : filled ≡ length (legsOfEntries feed (take i entries))
   pub few : filled ≤ i + i
   pub are : legs ≡ legEntries (legsOfEntries feed (take i entries))
 
-module _ (feed : List Spot) (entries : List Shaped) (long : length entries ≡ mostRuns) where
+module _ (feed : List Spot) (entries : List RunEntry) (long : length entries ≡ mostRuns) where
   -- None yet.
   pub put-none : (legs : List Leg) → legs ≡ legEntries [] → Put feed entries legs 0 0
   unfolding legsOfEntries
   put-none legs e = record { many = refl; few = omega arith; are = e }
 
   module _ (legs : List Leg) (filled i n : ℕ) (within : i < mostRuns) (p : Put feed entries legs filled i) (near far : Place) (a : Leg) where
-    abbrev x : Shaped
+    abbrev x : RunEntry
     x = getD entries i noRun
 
     abbrev old : List Leg
@@ -243,7 +187,7 @@ module _ (feed : List Spot) (entries : List Shaped) (long : length entries ≡ m
     -- The legs of one run entry more.
     put-turn : (more : List Leg) → n ≡ legCount (x .shape) → more ≡ legEntries (old ++ legsOfEntry feed x) → Put feed entries more (filled + n) (i + 1)
     put-turn more c e =
-        let t : take (i + 1) entries ≡ take i entries ++ (x ∷ []) = ap (λ (k : ℕ). take k entries) (add-one i) ∙ take-suc entries i noRun (omega arith) in
+        let t : take (i + 1) entries ≡ take i entries ++ (x ∷ []) = sym (first-more noRun entries i (omega arith)) in
         let j : legsOfEntries feed (take (i + 1) entries) ≡ old ++ legsOfEntry feed x = ap (legsOfEntries feed) t ∙ legs-join feed (take i entries) x in
         let m : length (legsOfEntry feed x) ≡ n = entry-many feed x ∙ sym c in
         record {
@@ -253,7 +197,7 @@ module _ (feed : List Spot) (entries : List Shaped) (long : length entries ≡ m
         }
 
     -- A straight run adds one leg ..
-    pub put-one : near ≡ placeOf (spotAt feed (x .near)) → far ≡ placeOf (spotAt feed (x .far)) → n ≡ legCount (x .shape) → a ≡ firstLeg (x .shape) near far
+    pub put-one : near ≡ placeAt feed (x .near) → far ≡ placeAt feed (x .far) → n ≡ legCount (x .shape) → a ≡ firstLeg (x .shape) near far
         → (n ≡ 2 → ⊥) → Put feed entries (set legs filled a) (filled + n) (i + 1)
     unfolding legsOfEntry
     put-one en ef c ea h =
@@ -261,7 +205,7 @@ module _ (feed : List Spot) (entries : List Shaped) (long : length entries ≡ m
         (rw (p .are, p .many, ea, ← en, ← ef) (one-more old (x .shape) near far n c h (omega (arith, p .many, p .few))))
 
     -- .. and a bent run two.
-    pub put-two : (b : Leg) → near ≡ placeOf (spotAt feed (x .near)) → far ≡ placeOf (spotAt feed (x .far)) → n ≡ legCount (x .shape)
+    pub put-two : (b : Leg) → near ≡ placeAt feed (x .near) → far ≡ placeAt feed (x .far) → n ≡ legCount (x .shape)
         → a ≡ firstLeg (x .shape) near far → b ≡ secondLeg (x .shape) near far → n ≡ 2
         → Put feed entries (set (set legs filled a) (filled + 1) b) (filled + n) (i + 1)
     unfolding legsOfEntry

@@ -1,34 +1,33 @@
 -- The runs of a feed, by when their pins are reached, are laid as the length asks. From pins that stand on the board, no two of them too near,
 -- and a search that found no boxes that meet.
-use mathlib.Core.Path.{_≡_, refl, sym, ap, _∙_, subst, fun-ext}
-use mathlib.Core.Bool.{Bool, true, false}
+use mathlib.Core.Path.{_≡_, refl, sym, ap, _∙_}
+use mathlib.Core.Bool.{true, false}
 use mathlib.Core.List.{List, _∷_}
 use mathlib.Core.Logic.{_⊎_, inl, inr}
-use Prim.Native.Nat.{ℕ, zero, suc, _+_, _≤_, _<_}
+use Prim.Native.Nat.{ℕ, suc, _+_, _≤_, _<_}
 use native.Mathlib.Omega.{arith}
 use lib.IntN.{ℤ}
-use lib.Dec.{eqb}
 use lib.ListN.{length, getD}
-use borrow.Author.Tests.{eq-eqb, eqb-true, eqb-false, lt-ltb}
+use borrow.Author.Tests.{eq-eqb, eqb-true, lt-ltb}
 use Rattle.refusal.proofs.Tests.{opposite, both-of, both-left, both-right}
 use Rattle.grid.specs.declared.Place.{Place}
 use Rattle.feed.specs.declared.Spot.{Spot}
 use Rattle.feed.specs.declared.Spot.the-variants.{Absent, At}
 use Rattle.grid.specs.Place.{leastGap, difference, sameNumber, closer, tooNear, samePlace}
 use Rattle.grid.proofs.Signed.{I32, difference-off}
-use Rattle.grid.proofs.Flat.{Site, site, Held, order}
+use Rattle.grid.proofs.Flat.{Site, site, PlaceI32, order}
 use Rattle.tree.specs.declared.Run.{Run}
-use Rattle.feed.specs.Feeds.{mostPins, present, placeOf, spotAt, spotsTooNear, allWithin, allApart}
+use Rattle.feed.specs.Feeds.{mostPins, present, placeOf, spotAt, placeAt, spotsTooNear, allWithin, allApart}
 use Rattle.feed.proofs.Rules.{apart-pair}
 use Rattle.tree.specs.Growth.{pinsOf, runsOf}
 use Rattle.tree.specs.Boxes.{boxesMeet}
+use Rattle.tree.specs.Reached.{runAt, reachedNear, reachedPlace}
 use Rattle.tree.proofs.Membership.{Among, pins-there}
-use Rattle.tree.proofs.Listing.{Rooted, nearAt, farAt, pins-low, runs-rooted}
+use Rattle.tree.proofs.Listing.{Rooted, pins-low, runs-rooted}
+use Rattle.tree.proofs.Positions.{near-before, near-pin, far-pin}
 use Rattle.tree.proofs.Numbering.{stands}
-use Rattle.copper_laws.proofs.Laid.{Laid}
-use Rattle.copper_laws.proofs.Planted.{pinAt, planted}
-use Rattle.wiring.specs.Reaching.{reachedPin, reachedNear, reachedPlace}
-use Rattle.wiring.proofs.Positions.{near-before, near-pin, far-pin, first-pin}
+use Rattle.copper_laws.proofs.Laid.{Spaced}
+use Rattle.copper_laws.proofs.Planted.{planted}
 
 -- Two numbers that are the same differ by less than the least gap.
 same-closer : (a b : ℤ) → sameNumber a b ≡ true → closer a b ≡ true
@@ -54,7 +53,7 @@ turned a b p q e =
     eq-eqb (difference b a) 0 (let z : difference b a ≡ 0 = omega (arith, eqb-true (difference a b) 0 e, difference-off a b p q, difference-off b a q p) in z)
 
 -- .. and so are places.
-place-turned : (a b : Place) → Held a → Held b → samePlace a b ≡ true → samePlace b a ≡ true
+place-turned : (a b : Place) → PlaceI32 a → PlaceI32 b → samePlace a b ≡ true → samePlace b a ≡ true
 unfolding samePlace
 place-turned a b p q e =
     both-of (turned (a .x) (b .x) (p .x) (q .x) (both-left (sameNumber (a .x) (b .x)) (sameNumber (a .y) (b .y)) e))
@@ -76,20 +75,17 @@ module _ (feed : List Spot) (full : length feed ≡ mostPins) (ok : allWithin fe
   abbrev sites : ℕ → Site
   sites i = site (at i)
 
+  -- The runs start at the lowest pin.
   root : Rooted f left runs
   root = runs-rooted feed full ok f left e
 
-  -- Each place fits the numbers that hold it.
-  pub places-held : (i : ℕ) → Held (at i)
-  places-held i = stands feed ok (reachedPin runs i) .held
-
   -- Where the near pin of a run stands ..
-  pub near-place : (r : ℕ) → r < n → at (near r) ≡ placeOf (spotAt feed (nearAt runs r))
-  near-place r l = ap (λ (p : ℕ). placeOf (spotAt feed p)) (near-pin f left runs root r l)
+  pub near-place : (r : ℕ) → r < n → at (near r) ≡ placeAt feed (runAt runs r .near)
+  near-place r l = ap (placeAt feed) (near-pin f left runs root r l)
 
   -- .. and where its far pin does.
-  pub far-place : (r : ℕ) → at (suc r) ≡ placeOf (spotAt feed (farAt runs r))
-  far-place r = ap (λ (p : ℕ). placeOf (spotAt feed p)) (far-pin f left runs root r)
+  pub far-place : (r : ℕ) → at (suc r) ≡ placeAt feed (runAt runs r .far)
+  far-place r = ap (placeAt feed) (far-pin f left runs root r)
 
   -- Near pins are reached first.
   pub grown : (r : ℕ) → r < n → near r ≤ r
@@ -105,12 +101,12 @@ module _ (feed : List Spot) (full : length feed ≡ mostPins) (ok : allWithin fe
         ap (λ (p : ℕ). present (getD feed p Absent)) (z .1 ∙ q) ∙ z .3
 
     -- No two pins stand at one place.
-    apart : (a b : ℕ) → a < b → b < mostPins → Among a (f ∷ left) → Among b (f ∷ left) → samePlace (placeOf (spotAt feed a)) (placeOf (spotAt feed b)) ≡ true → ⊥
+    apart : (a b : ℕ) → a < b → b < mostPins → Among a (f ∷ left) → Among b (f ∷ left) → samePlace (placeAt feed a) (placeAt feed b) ≡ true → ⊥
     apart a b l k m o h =
         opposite (same-spots (spotAt feed a) (spotAt feed b) (there a m) (there b o) h) (apart-pair feed a b free l)
 
     -- Pins at one place are one pin.
-    distinct : (a b : ℕ) → Among a (f ∷ left) → Among b (f ∷ left) → samePlace (placeOf (spotAt feed a)) (placeOf (spotAt feed b)) ≡ true → a ≡ b
+    distinct : (a b : ℕ) → Among a (f ∷ left) → Among b (f ∷ left) → samePlace (placeAt feed a) (placeAt feed b) ≡ true → a ≡ b
     distinct a b m o h = go (order a b) (order b a)
       where
         go : (a ≤ b) ⊎ (b < a) → (b ≤ a) ⊎ (a < b) → a ≡ b
@@ -119,35 +115,9 @@ module _ (feed : List Spot) (full : length feed ≡ mostPins) (ok : allWithin fe
         go (inr p) q =
             absurd
             (apart b a p (pins-low feed full ok f left e a m) o m
-            (place-turned (placeOf (spotAt feed a)) (placeOf (spotAt feed b)) (stands feed ok a .held) (stands feed ok b .held) h))
+            (place-turned (placeAt feed a) (placeAt feed b) (stands feed ok a .held) (stands feed ok b .held) h))
 
     module _ (clear : boxesMeet feed runs ≡ false) where
-      -- The pins are numbered in the same way as where the runs are planted, but for a first pin from which no run leads on.
-      pin-same : 0 < n → (i : ℕ) → reachedPin runs i ≡ pinAt feed full ok f left e i
-      unfolding pinAt
-      pin-same o zero = first-pin f left runs root o
-      pin-same o (suc r) = far-pin f left runs root r
-
-      -- Where there are runs, they are laid as the length asks ..
-      laid-some : 0 < n → Laid sites near n
-      laid-some o =
-          subst (λ (at' : ℕ → Site). Laid at' near n) (fun-ext (λ i. ap (λ (p : ℕ). site (placeOf (spotAt feed p))) (sym (pin-same o i))))
-          (planted feed full ok f left e near grown (λ r l. sym (pin-same o (near r)) ∙ near-pin f left runs root r l) distinct clear)
-
-      -- .. and where there is none, nothing is asked.
-      laid-none : n ≡ 0 → Laid sites near n
-      laid-none z =
-          record {
-            grown = grown;
-            full = λ r l h. omega arith;
-            separate = λ r q l m ne a b c p h k. omega arith;
-            distant = λ r q i j k l m a b ne. absurd (omega arith);
-          }
-
-      -- The runs are laid so.
-      pub laid : Laid sites near n
-      laid = go (eqb n 0) refl
-        where
-          go : (t : Bool) → eqb n 0 ≡ t → Laid sites near n
-          go true y = laid-none (eqb-true n 0 y)
-          go false y = let ne : n ≡ 0 → ⊥ = eqb-false n 0 y in laid-some (omega (arith, ne))
+      -- The runs are laid as the length asks.
+      pub laid : Spaced sites near n
+      laid = planted feed full ok f left e distinct clear

@@ -1,7 +1,6 @@
 -- What is proved of wiring beside the functions' contracts.
 pub mod Masks
 pub mod Ordered
-pub mod Positions
 pub mod Laying
 pub mod Best
 pub mod Weighed

@@ -15,6 +15,7 @@ use Rattle.grid.specs.Place.{isStraight}
 use Rattle.tree.specs.declared.Run.{Run}
 use Rattle.tree.specs.Bends.{bent}
 use Rattle.tree.specs.Trees.{mostRuns}
+use Rattle.tree.specs.Reached.{runAt}
 use Rattle.tree.proofs.Membership.{Among, first, later, in-front, in-back, in-either}
 use Rattle.tree.proofs.Spanning.{none-among}
 use Rattle.copper.specs.declared.Shape.{Shape}
@@ -22,7 +23,7 @@ use Rattle.copper.specs.declared.Shape.the-variants.{Straight, Lower, Upper}
 use Rattle.copper.specs.Shapes.{shapeOf}
 use Rattle.least.specs.Asking.{differs, markAt, markOf}
 use Rattle.wiring.specs.Choices.{nearEnd, farEnd, bentShapes, shapesOf, withShape, withShapes, choicesOf, lengthOfChoice, shortest, shortestOf}
-use Rattle.wiring.specs.Reaching.{runAt, shapesBy}
+use Rattle.wiring.specs.Reaching.{shapesBy}
 use Rattle.wiring.proofs.Masks.{isUpper, bends, maskFrom, mark-next, mask-most}
 
 -- One of the choices with a shape in front.

@@ -16,7 +16,7 @@ use Rattle.tree.specs.Trees.{none}
 use Rattle.copper.specs.declared.Leg.{Leg}
 use Rattle.wiring.specs.declared.Laid.{Laid}
 use Rattle.wiring.specs.Choices.{bestChoice, legsOfChoice}
-use Rattle.wiring.specs.Answer.{laidWith, answerWith, turnedAway, wiringVerdict, wiringWith, wiringFavouring, wiringOf}
+use Rattle.wiring.specs.Answer.{answerWith, turnedAway, wiringVerdict, wiringWith, wiringFavouring, wiringOf}
 
 -- The legs that wiring a feed needs.
 abbrev pub legsNeeded : List Spot → List Leg
@@ -38,5 +38,5 @@ laid-behind rows d l = behind (λ (m : Laid). m .wiring .verdict) turnedAway (λ
 
 -- The wiring of a feed is answered by the first of its rows that applies.
 pub wiring-verdict : (feed : List Spot) (room : ℕ) → wiringOf feed room .wiring .verdict ≡ firstOf (feedRows feed room) Accepted
-unfolding wiringOf wiringFavouring wiringWith wiringVerdict answerWith laidWith firstOf distinct unlike both accepted
-wiring-verdict feed room = laid-behind (feedRows feed room) refl (answerWith feed (runsOf feed) (bestChoice false feed (runsOf feed)))
+unfolding wiringOf wiringFavouring wiringWith wiringVerdict answerWith firstOf distinct unlike both accepted
+wiring-verdict feed room = laid-behind (feedRows feed room) refl (answerWith feed (bestChoice false feed (runsOf feed)))

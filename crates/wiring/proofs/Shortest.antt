@@ -7,10 +7,10 @@ use mathlib.Core.Logic.{_⊎_, inl, inr}
 use Prim.Native.Nat.{ℕ, _-_, _*_, _≤_, _<_}
 use native.Mathlib.Omega.{arith}
 use lib.Dec.{ltb}
-use lib.ListN.{length, take, replicate}
-use lib.Seq.{take-at}
+use lib.ListN.{length, take}
 use borrow.Author.Tests.{ltb-true, ltb-false}
 use Rattle.refusal.specs.Tests.{choose}
+use Rattle.refusal.proofs.Lists.{padded-first}
 use Rattle.refusal.specs.Refusals.{accepted}
 use Rattle.refusal.specs.declared.Verdict.{Verdict}
 use Rattle.feed.specs.declared.Spot.{Spot}
@@ -24,7 +24,7 @@ use Rattle.copper.specs.declared.Leg.{Leg}
 use Rattle.copper.specs.Length.{stepsOfAll, different, lengthOf}
 use Rattle.wiring.specs.declared.Laid.{Laid}
 use Rattle.wiring.specs.Choices.{choicesOf, legsOfChoice, lengthOfChoice, shortest, shortestOf, bestChoice}
-use Rattle.wiring.specs.Answer.{mostLegs, noLeg, legEntries, laidWith, turnedAway, answerWith, wiringVerdict, wiringWith, wiringFavouring}
+use Rattle.wiring.specs.Answer.{mostLegs, noLeg, legEntries, turnedAway, answerWith, wiringVerdict, wiringWith, wiringFavouring}
 use Rattle.wiring.specs.Reaching.{shapesBy}
 use Rattle.wiring.proofs.Ordered.{told-choice}
 use Rattle.wiring.proofs.Weighed.{weighed-most}
@@ -114,7 +114,7 @@ module _ (feed : List Spot) (runs : List Run) where
 -- The legs before those that are not filled.
 take-legs : (legs : List Leg) → take (length legs) (legEntries legs) ≡ legs
 unfolding legEntries
-take-legs legs = take-at legs (replicate (mostLegs - length legs) noLeg) (length legs) refl
+take-legs legs = padded-first mostLegs noLeg legs refl
 
 -- What holds of an answer and of a refused wiring holds of both.
 either-way : (P : Laid → Type 0) (t : Bool) (l m : Laid) → P l → P m → P (choose t l m)
@@ -124,20 +124,19 @@ either-way P false l m p q = q
 
 -- THE REPORTED LENGTH IS THAT OF THE LEGS of the answer.
 pub length-of-legs : (favoured : Bool) (feed : List Spot) (room : ℕ)
-    → wiringFavouring favoured feed room .wiring .length ≡ lengthOf (take (wiringFavouring favoured feed room .wiring .legs) (wiringFavouring favoured feed room .legs))
+    → wiringFavouring favoured feed room .wiring .length ≡ lengthOf (take (wiringFavouring favoured feed room .wiring .legs) (wiringFavouring favoured feed room .list))
 unfolding wiringFavouring wiringWith
 length-of-legs favoured feed room =
-    let runs = runsOf feed in
-    let shapes = bestChoice favoured feed runs in
-    let v = wiringVerdict feed runs shapes room in
-    either-way (λ (l : Laid). l .wiring .length ≡ lengthOf (take (l .wiring .legs) (l .legs))) (accepted v)
-    (answerWith feed runs shapes) (turnedAway v) (of-answer feed runs shapes) (of-none v)
+    let shapes = bestChoice favoured feed (runsOf feed) in
+    let v = wiringVerdict feed shapes room in
+    either-way (λ (l : Laid). l .wiring .length ≡ lengthOf (take (l .wiring .legs) (l .list))) (accepted v)
+    (answerWith feed shapes) (turnedAway v) (of-answer shapes) (of-none v)
   where
-    of-answer : (feed : List Spot) (runs : List Run) (shapes : List Shape)
-        → answerWith feed runs shapes .wiring .length ≡ lengthOf (take (answerWith feed runs shapes .wiring .legs) (answerWith feed runs shapes .legs))
-    of-answer feed runs shapes = unfold answerWith laidWith lengthOfChoice in ap lengthOf (sym (take-legs (legsOfChoice feed runs shapes)))
+    of-answer : (shapes : List Shape)
+        → answerWith feed shapes .wiring .length ≡ lengthOf (take (answerWith feed shapes .wiring .legs) (answerWith feed shapes .list))
+    of-answer shapes = unfold answerWith lengthOfChoice in ap lengthOf (sym (take-legs (legsOfChoice feed (runsOf feed) shapes)))
 
-    of-none : (v : Verdict) → turnedAway v .wiring .length ≡ lengthOf (take (turnedAway v .wiring .legs) (turnedAway v .legs))
+    of-none : (v : Verdict) → turnedAway v .wiring .length ≡ lengthOf (take (turnedAway v .wiring .legs) (turnedAway v .list))
     of-none v = unfold turnedAway lengthOf different stepsOfAll in refl
 
 -- CHOICES WEIGHED NEVER EXCEED 64 TIMES the number of pins.
@@ -145,14 +144,13 @@ pub weighed-few : (favoured : Bool) (feed : List Spot) (room : ℕ) → length f
     → wiringFavouring favoured feed room .wiring .weighed ≤ 64 * length (pinsOf feed)
 unfolding wiringFavouring wiringWith
 weighed-few favoured feed room full ok =
-    let runs = runsOf feed in
-    let shapes = bestChoice favoured feed runs in
-    let v = wiringVerdict feed runs shapes room in
+    let shapes = bestChoice favoured feed (runsOf feed) in
+    let v = wiringVerdict feed shapes room in
     either-way (λ (l : Laid). l .wiring .weighed ≤ 64 * length (pinsOf feed)) (accepted v)
-    (answerWith feed runs shapes) (turnedAway v) (of-answer shapes) (of-none v)
+    (answerWith feed shapes) (turnedAway v) (of-answer shapes) (of-none v)
   where
-    of-answer : (shapes : List Shape) → answerWith feed (runsOf feed) shapes .wiring .weighed ≤ 64 * length (pinsOf feed)
-    of-answer shapes = unfold answerWith laidWith in weighed-most feed full ok
+    of-answer : (shapes : List Shape) → answerWith feed shapes .wiring .weighed ≤ 64 * length (pinsOf feed)
+    of-answer shapes = unfold answerWith in weighed-most feed full ok
 
     of-none : (v : Verdict) → turnedAway v .wiring .weighed ≤ 64 * length (pinsOf feed)
     of-none v = unfold turnedAway in omega arith

@@ -1,13 +1,14 @@
 -- The shapes of the runs: every choice of them in order, and the first of the shortest; the choices that are weighed.
 use mathlib.Core.Bool.{Bool}
-use mathlib.Core.List.{List, [], _∷_, _++_}
-use Prim.Native.Nat.{ℕ, _+_, _*_, _^_}
+use mathlib.Core.List.{List, [], _∷_, _++_, map}
+use Prim.Native.Nat.{ℕ, _*_, _^_}
 use lib.Dec.{eqb, ltb}
 use Rattle.refusal.specs.Tests.{choose}
+use Rattle.refusal.specs.Sums.{sum}
 use Rattle.grid.specs.declared.Place.{Place}
 use Rattle.feed.specs.declared.Spot.{Spot}
 use Rattle.tree.specs.declared.Run.{Run}
-use Rattle.feed.specs.Feeds.{placeOf, spotAt}
+use Rattle.feed.specs.Feeds.{placeAt}
 use Rattle.tree.specs.Bends.{bent, bentFrom, bentInto}
 use Rattle.copper.specs.declared.Shape.{Shape}
 use Rattle.copper.specs.declared.Shape.the-variants.{Straight, Lower, Upper}
@@ -17,11 +18,11 @@ use Rattle.copper.specs.Length.{lengthOf}
 
 -- Where a run begins.
 abbrev pub nearEnd : List Spot → Run → Place
-nearEnd feed r = placeOf (spotAt feed (r .near))
+nearEnd feed r = placeAt feed (r .near)
 
 -- Where a run ends.
 abbrev pub farEnd : List Spot → Run → Place
-farEnd feed r = placeOf (spotAt feed (r .far))
+farEnd feed r = placeAt feed (r .far)
 
 -- The two shapes of a bent run, the favoured first: false favours lower, true upper.
 unfoldable pub bentShapes : Bool → List Shape
@@ -77,5 +78,4 @@ weighedAt feed runs pin = 2 ^ bentFrom feed runs pin * choose (eqb (bentInto fee
 
 -- Choices weighed is a sum over pins.
 unfoldable pub weighedOf : List Spot → List Run → List ℕ → ℕ
-weighedOf feed runs [] = 0
-weighedOf feed runs (pin ∷ pins) = weighedAt feed runs pin + weighedOf feed runs pins
+weighedOf feed runs pins = sum (map (weighedAt feed runs) pins)

@@ -4,6 +4,7 @@ use copper::Shape;
 use feed::PINS;
 use feed::Spot;
 use grid::Place;
+use least::Reached;
 use refusal::Verdict;
 use tree::RUNS;
 use tree::Run;
@@ -13,39 +14,34 @@ ghost use Prim.Native.Nat.{_+_, _≤_, _<_};
 ghost use lib.ListN.{take};
 ghost use Rattle.feed.specs.Feeds.{mostPins, allWithin, allApart};
 ghost use Rattle.tree.specs.Trees.{mostRuns};
+ghost use Rattle.tree.specs.Reached.{reachedPin, reachedPlace, reachedFrom};
 ghost use Rattle.wiring.specs.Answer.{noRun, noLeg, turnedAway, wiringFavouring, wiringOf};
-ghost use Rattle.wiring.specs.Reaching.{reachedPin, reachedPlace, reachedFrom, reachedOf, nearsOf, upperIn, shapedIn, entriesIn, legsOfEntries, strip};
+ghost use Rattle.wiring.specs.Reaching.{reachedOf, nearsOf, upperIn, shapedIn, entriesIn, legsOfEntries, strip};
 
 // The most legs that a board has: 31 runs of two legs each.
 pub const LEGS: usize = 62;
 
 // A run entry of the answer: near, far, shape.
-pub struct Shaped {
+pub struct RunEntry {
     pub near: usize,
     pub far: usize,
     pub shape: Shape,
 }
 
-// The answer of a wiring.
+// The answer of a wiring: its verdict, the length, the number of runs, the run entries, the number of legs, and the choices weighed.
 pub struct Wiring {
     pub verdict: Verdict,
     pub length: u64,
-    pub count: usize,
-    pub runs: [Shaped; RUNS],
+    pub runs: usize,
+    pub entries: [RunEntry; RUNS],
     pub legs: usize,
     pub weighed: u64,
 }
 
-// The answer with the legs by value.
+// The answer with the list of its legs by value.
 pub struct Laid {
     pub wiring: Wiring,
-    pub legs: [Leg; LEGS],
-}
-
-// Where the pins stand, as they are reached: their x, and their y.
-pub struct Reached {
-    pub xs: [i32; PINS],
-    pub ys: [i32; PINS],
+    pub list: [Leg; LEGS],
 }
 
 // Legs with their number.
@@ -55,10 +51,10 @@ pub struct Strip {
 }
 
 // A run entry after the last.
-fn no_run() -> Shaped
+fn no_run() -> RunEntry
     ensures { λ r. ⌜ r ≡ noRun ⌝ }
 {
-    Shaped {
+    RunEntry {
         near: 0,
         far: 0,
         shape: Shape::Straight,
@@ -69,7 +65,7 @@ fn no_run() -> Shaped
 fn no_leg() -> Leg
     ensures { λ r. ⌜ r ≡ noLeg ⌝ }
 {
-    let middle = Place { x: 0, y: 0 };
+    let middle = grid::middle();
     Leg {
         from: middle,
         to: middle,
@@ -96,24 +92,6 @@ fn reached_place(feed: [Spot; PINS], runs: [Run; RUNS], i: usize) -> Place
 {
     let pin = reached_pin(runs, i);
     feed::place_at(feed, pin)
-}
-
-// Where the pins stand, as they are reached.
-fn reached_of(feed: [Spot; PINS], runs: [Run; RUNS]) -> Reached
-    ensures { λ r. ⌜ r ≡ reachedOf feed runs ⌝ }
-{
-    let mut xs = [0; PINS];
-    let mut ys = [0; PINS];
-    let mut i = 0;
-    while i < PINS {
-        let place = reached_place(feed, runs, i);
-        let x = place.x;
-        let y = place.y;
-        xs[i] = x;
-        ys[i] = y;
-        i += 1;
-    }
-    Reached { xs, ys }
 }
 
 // The number as which a pin is reached by the first runs; 0 where none of them reaches it.
@@ -147,6 +125,32 @@ fn nears_of(runs: [Run; RUNS], count: usize) -> [usize; RUNS]
     nears
 }
 
+// The tree as it is reached, with the shape that is favoured.
+fn reached_of(feed: [Spot; PINS], runs: [Run; RUNS], count: usize, favoured: bool) -> Reached
+    requires { ⌜ count ≤ mostRuns ⌝ }
+    ensures { λ r. ⌜ r ≡ reachedOf feed runs count favoured ⌝ }
+{
+    let mut xs = [0; PINS];
+    let mut ys = [0; PINS];
+    let mut i = 0;
+    while i < PINS {
+        let place = reached_place(feed, runs, i);
+        let x = place.x;
+        let y = place.y;
+        xs[i] = x;
+        ys[i] = y;
+        i += 1;
+    }
+    let near = nears_of(runs, count);
+    Reached {
+        xs,
+        ys,
+        near,
+        count,
+        favoured,
+    }
+}
+
 // How a mask bends a run if it does.
 fn upper_in(favoured: bool, mask: u64, run: usize) -> bool
     requires { ⌜ run < mostRuns ⌝ }
@@ -157,7 +161,13 @@ fn upper_in(favoured: bool, mask: u64, run: usize) -> bool
 }
 
 // A run with the shape that a mask gives it.
-fn shaped_in(feed: [Spot; PINS], favoured: bool, mask: u64, runs: [Run; RUNS], at: usize) -> Shaped
+fn shaped_in(
+    feed: [Spot; PINS],
+    favoured: bool,
+    mask: u64,
+    runs: [Run; RUNS],
+    at: usize,
+) -> RunEntry
     requires { ⌜ at < mostRuns ⌝ }
     ensures { λ r. ⌜ r ≡ shapedIn feed favoured mask runs at ⌝ }
 {
@@ -166,7 +176,7 @@ fn shaped_in(feed: [Spot; PINS], favoured: bool, mask: u64, runs: [Run; RUNS], a
     let far = feed::place_at(feed, run.far);
     let upper = upper_in(favoured, mask, at);
     let shape = copper::shape_of(upper, near, far);
-    Shaped {
+    RunEntry {
         near: run.near,
         far: run.far,
         shape,
@@ -180,7 +190,7 @@ fn entries_in(
     mask: u64,
     runs: [Run; RUNS],
     count: usize,
-) -> [Shaped; RUNS]
+) -> [RunEntry; RUNS]
     requires { ⌜ count ≤ mostRuns ⌝ }
     ensures { λ r. ⌜ r ≡ entriesIn feed favoured mask runs count ⌝ }
 {
@@ -195,7 +205,7 @@ fn entries_in(
 }
 
 // The legs of the first run entries, with their number.
-fn legs_of(feed: [Spot; PINS], entries: [Shaped; RUNS], count: usize) -> Strip
+fn legs_of(feed: [Spot; PINS], entries: [RunEntry; RUNS], count: usize) -> Strip
     requires { ⌜ count ≤ mostRuns ⌝ }
     ensures { λ r. ⌜ r ≡ strip (legsOfEntries feed (take count entries)) ⌝ }
 {
@@ -228,17 +238,17 @@ pub fn refused(verdict: Verdict) -> Laid
 {
     let blank = no_run();
     let none = no_leg();
-    let runs = [blank; RUNS];
-    let legs = [none; LEGS];
+    let entries = [blank; RUNS];
+    let list = [none; LEGS];
     let wiring = Wiring {
         verdict,
         length: 0,
-        count: 0,
-        runs,
+        runs: 0,
+        entries,
         legs: 0,
         weighed: 0,
     };
-    Laid { wiring, legs }
+    Laid { wiring, list }
 }
 
 // The wiring of a feed, where one shape is favoured: false for lower, true for upper.
@@ -253,27 +263,24 @@ fn wire_favouring(feed: [Spot; PINS], room: usize, favoured: bool) -> Laid
     }
     let count = tree.count;
     let runs = tree.runs;
-    let reached = reached_of(feed, runs);
-    let xs = reached.xs;
-    let ys = reached.ys;
-    let near = nears_of(runs, count);
-    let found = least::least_cost(&xs, &ys, &near, favoured, count);
+    let reached = reached_of(feed, runs, count, favoured);
+    let found = least::least_cost(reached);
     let mask = found.cost % least::BASE;
     let entries = entries_in(feed, favoured, mask, runs, count);
     let strip = legs_of(feed, entries, count);
     if room < strip.count {
         return refused(Verdict::RoomTooSmall);
     }
-    let legs = strip.legs;
+    let list = strip.legs;
     let wiring = Wiring {
         verdict: Verdict::Accepted,
         length: found.cost / least::BASE,
-        count,
-        runs: entries,
+        runs: count,
+        entries,
         legs: strip.count,
         weighed: found.weighed,
     };
-    Laid { wiring, legs }
+    Laid { wiring, list }
 }
 
 // The wiring of a feed whose pins stand on the board, no two of them too near, with room for so many legs.

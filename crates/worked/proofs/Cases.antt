@@ -1,46 +1,45 @@
 -- Further cases, each computed: a move to the place where the pin already stands, and desks broken in each way of document 01's list. Assumes nothing.
 use mathlib.Core.Path.{_≡_, refl}
 use mathlib.Core.Bool.{true}
-use mathlib.Core.List.{List, [], _∷_, _++_, map}
+use mathlib.Core.List.{List, [], _∷_, map}
 use Prim.Native.Nat.{ℕ}
 use lib.IntN.{ℤ, pos}
-use lib.ListN.{replicate, take}
-use Rattle.refusal.specs.Tests.{both, either, choose}
+use lib.ListN.{replicate}
+use Rattle.refusal.specs.Tests.{both, either, choose, anyOf, eachOf, noTwo}
+use Rattle.refusal.specs.Lists.{padded}
 use Rattle.refusal.specs.Refusals.{accepted, turn}
 use Rattle.refusal.specs.declared.Verdict.{Verdict}
 use Rattle.refusal.specs.declared.Verdict.the-variants.{Accepted, PlaceTaken, DeskBroken}
-use Rattle.grid.specs.declared.Place.{Place}
-use Rattle.grid.specs.Place.{onBoard, inside, difference, closer, tooNear, sameNumber, samePlace}
+use Rattle.grid.specs.Place.{place, onBoard, inside, difference, closer, tooNear, sameNumber, samePlace}
 use Rattle.drawing.specs.declared.Pin.{Pin}
-use Rattle.feed.specs.Feeds.{mostPins, spotsTooNear, tooNearAny, crowded, within, settled, allWithin, allApart, tooNearOther}
+use Rattle.feed.specs.Feeds.{mostPins, spotsTooNear, crowded, within, tooNearOther}
 use Rattle.drawing.specs.Pins.{absent, there, holding, isThere, sameHeld, samePin, samePins, lawful, spotOf, feedOf}
 use Rattle.drawing.specs.Edits.{movedPin, made, unmade, standsAt, fits, placeable, movable, makeable, takeable, heldBy, placed}
-use Rattle.pinmap.specs.Map.{noPins, readFrom, wrongLength, readMap}
+use Rattle.pinmap.specs.Map.{readFrom, wrongLength, readMap}
 use Rattle.journal.specs.declared.Record.{Record}
-use Rattle.journal.specs.Journal.{mostSeats, recorded, own, kept, filled, seated, inTurn}
+use Rattle.journal.specs.Journal.{mostSeats, recorded, own, kept, filled, inTurn}
 use Rattle.seats.specs.declared.Seat.{Seat}
 use Rattle.desk.specs.declared.Desk.{Desk}
 use Rattle.desk.specs.Calls.{opening, placing, moving, undoing}
-use Rattle.desk.specs.Refusals.{sameJob, jobAmong, turnedOpening, turnedPlacing, turnedMoving, turnedUndoing, verdictOf}
-use Rattle.desk.specs.Desk.{closedSeat, jobOf, jobsApart, soundOpen, soundClosed, soundSeat, soundTo, sound, edited, effect, answerOf, step, emptyDesk}
+use Rattle.desk.specs.Refusals.{sameJob, turnedOpening, turnedPlacing, turnedMoving, turnedUndoing, verdictOf}
+use Rattle.desk.specs.Desk.{closedSeat, jobOf, soundOpen, soundClosed, soundSeat, soundTo, sound, edited, effect, answerOf, step, emptyDesk}
 use Rattle.history.specs.History.{answers}
 
--- A place,
-abbrev pub at : ℤ → ℤ → Place
-at a b = record { x = a; y = b }
-
--- and a pin that stands there.
+-- A pin that stands at x and y.
 abbrev pub pinAt : ℤ → ℤ → Pin
-pinAt a b = there (holding (at a b))
+pinAt a b = there (holding (place a b))
 
 -- A drawing of these pins and no others.
 abbrev pub drawn : List Pin → List Pin
-drawn l = take mostPins (l ++ replicate mostPins absent)
+drawn l = padded mostPins absent l
 
 -- Pin 0 is placed at (1,1), and a move to (1,1) is 9.
-pub own-place-refused : answers emptyDesk (opening 0 7 [] ∷ placing 0 0 (at (pos 1) (pos 1)) ∷ moving 0 0 (at (pos 1) (pos 1)) ∷ [])
+pub own-place-refused : answers emptyDesk (opening 0 7 [] ∷ placing 0 0 (place (pos 1) (pos 1)) ∷ moving 0 0 (place (pos 1) (pos 1)) ∷ [])
     ≡ Accepted ∷ Accepted ∷ PlaceTaken ∷ []
-unfolding answers both either choose accepted turn onBoard inside difference closer tooNear sameNumber samePlace isThere sameHeld samePin samePins spotsTooNear tooNearAny tooNearOther crowded within settled allWithin allApart spotOf feedOf lawful movedPin made unmade standsAt fits placeable movable makeable takeable heldBy noPins readFrom wrongLength readMap own kept filled seated inTurn sameJob jobAmong turnedOpening turnedPlacing turnedMoving verdictOf jobOf jobsApart soundOpen soundClosed soundSeat soundTo sound edited effect answerOf step emptyDesk
+unfolding answers both either choose accepted turn onBoard inside difference closer tooNear sameNumber samePlace isThere sameHeld samePin samePins spotsTooNear
+    tooNearOther crowded within spotOf feedOf lawful movedPin made unmade standsAt fits placeable movable makeable takeable heldBy readFrom wrongLength readMap
+    own kept filled inTurn sameJob turnedOpening turnedPlacing turnedMoving verdictOf jobOf soundOpen soundClosed soundSeat soundTo sound edited effect answerOf
+    step emptyDesk anyOf eachOf noTwo
 own-place-refused = refl
 
 -- A seat open for a job, with these pins and so many standing edits.
@@ -49,19 +48,19 @@ opened job l n = record { opened = true; job = job; pins = drawn l; standing = n
 
 -- A desk with these first seats, the others closed, and these records.
 abbrev pub deskOf : List Seat → List Record → ℕ → Desk
-deskOf l m n = record { seats = take mostSeats (l ++ replicate mostSeats closedSeat); journal = filled m; used = n }
+deskOf l m n = record { seats = padded mostSeats closedSeat l; journal = filled m; used = n }
 
--- Pin 0 stands at (1,1), and a placing of pin 1 at (2,2) is taken back.
+-- A pin at (1,1).
 abbrev pub here : Pin
 here = pinAt (pos 1) (pos 1)
 
--- The record of the one that stands,
+-- The record of its placing as pin 0, which stands,
 abbrev pub stands : Record
-stands = recorded 0 (placed 0 (at (pos 1) (pos 1)))
+stands = recorded 0 (placed 0 (place (pos 1) (pos 1)))
 
--- and that of the one taken back.
+-- and that of a placing of pin 1 at (2,2), which is taken back.
 abbrev pub takenBack : Record
-takenBack = recorded 0 (placed 1 (at (pos 2) (pos 2)))
+takenBack = recorded 0 (placed 1 (place (pos 2) (pos 2)))
 
 -- The desk with these two records, open at seat 0 for job 7.
 abbrev pub whole : Desk
@@ -74,13 +73,13 @@ abbrev pub broken : List Desk
 broken =
     deskOf (opened 0 (here ∷ []) 1 ∷ []) (stands ∷ takenBack ∷ []) 2
     ∷ deskOf (opened 7 (here ∷ []) 1 ∷ opened 7 [] 0 ∷ []) (stands ∷ takenBack ∷ []) 2
-    ∷ deskOf (opened 7 (here ∷ []) 1 ∷ []) (stands ∷ takenBack ∷ recorded 1 (placed 0 (at (pos 1) (pos 1))) ∷ []) 3
+    ∷ deskOf (opened 7 (here ∷ []) 1 ∷ []) (stands ∷ takenBack ∷ recorded 1 (placed 0 (place (pos 1) (pos 1))) ∷ []) 3
     ∷ deskOf (opened 7 (here ∷ pinAt (pos 20001) (pos 0) ∷ []) 0 ∷ []) [] 0
     ∷ deskOf (opened 7 (here ∷ here ∷ []) 0 ∷ []) [] 0
-    ∷ deskOf (opened 7 (here ∷ []) 1 ∷ []) (recorded 0 (placed 0 (at (pos 5) (pos 5))) ∷ takenBack ∷ []) 2
-    ∷ deskOf (opened 7 (here ∷ []) 1 ∷ []) (stands ∷ recorded 0 (placed 1 (at (pos 1) (pos 1))) ∷ []) 2
+    ∷ deskOf (opened 7 (here ∷ []) 1 ∷ []) (recorded 0 (placed 0 (place (pos 5) (pos 5))) ∷ takenBack ∷ []) 2
+    ∷ deskOf (opened 7 (here ∷ []) 1 ∷ []) (stands ∷ recorded 0 (placed 1 (place (pos 1) (pos 1))) ∷ []) 2
     ∷ deskOf (opened 7 (here ∷ []) 1 ∷ []) (stands ∷ takenBack ∷ []) 257
-    ∷ deskOf (opened 7 (here ∷ []) 1 ∷ []) (stands ∷ takenBack ∷ recorded 8 (placed 0 (at (pos 1) (pos 1))) ∷ []) 3
+    ∷ deskOf (opened 7 (here ∷ []) 1 ∷ []) (stands ∷ takenBack ∷ recorded 8 (placed 0 (place (pos 1) (pos 1))) ∷ []) 3
     ∷ deskOf (opened 7 (here ∷ []) 3 ∷ []) (stands ∷ takenBack ∷ []) 2
     ∷ []
 
@@ -90,5 +89,7 @@ undo d = answerOf d (undoing 0)
 
 -- Undo is accepted on the sound desk, and 28 on every broken one.
 pub broken-refused : (undo whole ≡ Accepted) × (map undo broken ≡ replicate 10 DeskBroken)
-unfolding both either choose turn onBoard inside difference closer tooNear sameNumber samePlace isThere sameHeld samePin samePins spotsTooNear tooNearAny tooNearOther crowded within settled allWithin allApart spotOf feedOf lawful movedPin made unmade standsAt fits placeable movable makeable takeable own kept filled seated inTurn sameJob jobAmong turnedUndoing verdictOf jobOf jobsApart soundOpen soundClosed soundSeat soundTo sound answerOf
+unfolding both either choose turn onBoard inside difference closer tooNear sameNumber samePlace isThere sameHeld samePin samePins spotsTooNear tooNearOther
+    crowded within spotOf feedOf lawful movedPin made unmade standsAt fits placeable movable makeable takeable own kept filled inTurn sameJob turnedUndoing
+    verdictOf jobOf soundOpen soundClosed soundSeat soundTo sound answerOf anyOf eachOf noTwo
 broken-refused = (refl, refl)

@@ -5,39 +5,39 @@ use mathlib.Core.List.{List, [], _∷_, _++_, map}
 use Prim.Native.Nat.{ℕ}
 use lib.IntN.{pos, negsuc}
 use lib.ListN.{replicate}
-use Rattle.refusal.specs.Tests.{both, either, choose}
+use Rattle.refusal.specs.Tests.{both, either, choose, anyOf, eachOf, noTwo}
 use Rattle.refusal.specs.Refusals.{accepted, turn}
 use Rattle.refusal.specs.declared.Verdict.{Verdict}
 use Rattle.refusal.specs.declared.Verdict.the-variants.{Accepted, NothingStands, NothingTakenBack}
+use Rattle.grid.specs.declared.Place.{Place}
+use Rattle.grid.specs.Boards.{boards}
 use Rattle.grid.specs.Number.{firstByte, secondByte, thirdByte, fourthByte}
-use Rattle.grid.specs.Place.{onBoard, inside, difference, closer, tooNear, sameNumber, samePlace}
+use Rattle.grid.specs.Place.{place, onBoard, inside, difference, closer, tooNear, sameNumber, samePlace}
 use Rattle.drawing.specs.declared.Pin.{Pin}
-use Rattle.feed.specs.Feeds.{spotsTooNear, tooNearAny, crowded, within, settled, allWithin, allApart, tooNearOther}
+use Rattle.feed.specs.Feeds.{spotsTooNear, crowded, within, tooNearOther}
 use Rattle.drawing.specs.Pins.{isThere, sameHeld, samePin, samePins, lawful, spotOf, feedOf}
 use Rattle.drawing.specs.Edits.{movedPin, made, unmade, standsAt, fits, placeable, movable, makeable, takeable, heldBy}
 use Rattle.pinmap.specs.Record.{recordBytes, pinBytes}
-use Rattle.pinmap.specs.Map.{noPins, readFrom, wrongLength, readMap, mapFrom, mapOf, written}
-use Rattle.journal.specs.Journal.{own, kept, filled, seated, inTurn}
+use Rattle.pinmap.specs.Map.{readFrom, wrongLength, readMap, mapFrom, mapOf, written}
+use Rattle.journal.specs.Journal.{own, kept, filled, inTurn}
 use Rattle.desk.specs.Calls.{Call, opening, placing, moving, undoing, redoing}
-use Rattle.desk.specs.Refusals.{sameJob, jobAmong, turnedOpening, turnedClosing, turnedPlacing, turnedMoving, turnedRemoving, turnedUndoing, turnedRedoing, turnedWriting, verdictOf}
-use Rattle.desk.specs.Desk.{seatOf, jobOf, jobsApart, soundOpen, soundClosed, soundSeat, soundTo, sound, edited, effect, answerOf, step, emptyDesk, writtenOf, bufferOf}
+use Rattle.desk.specs.Refusals.{sameJob, turnedOpening, turnedClosing, turnedPlacing, turnedMoving, turnedRemoving, turnedUndoing, turnedRedoing, turnedWriting, verdictOf}
+use Rattle.desk.specs.Desk.{seatOf, jobOf, soundOpen, soundClosed, soundSeat, soundTo, sound, edited, effect, answerOf, step, emptyDesk, writtenOf, bufferOf}
 use Rattle.wiring.specs.declared.Wiring.{Wiring}
-use Rattle.wiring.specs.Answer.{mostLegs}
-use Rattle.bare.specs.Bare.{bareOf}
-use Rattle.bare.proofs.Worked as boards
+use Rattle.bare.proofs.Worked as bare
 use Rattle.history.specs.History.{after, answers}
-use Rattle.worked.proofs.Cases.{at, pinAt, drawn}
+use Rattle.worked.proofs.Cases.{pinAt, drawn}
 
 -- A case: boards with their answers; calls from the empty desk with what they are answered and the pins that they leave at seats 0 and 1;
 -- or calls, a buffer lent for writing seat 0 then, how many bytes are written, and what the buffer holds afterwards.
 pub data Case : Type 0 where
-  wired : List boards.Board → List Wiring → Case
+  wired : List (List Place) → List Wiring → Case
   session : List Call → List Verdict → List Pin → List Pin → Case
   writes : List Call → List ℕ → ℕ → List ℕ → Case
 
 -- What a case says.
 unfoldable pub Holds : Case → Type 0
-Holds (wired l w) = map (λ (b : boards.Board). bareOf (b .xs) (b .ys) mostLegs .wiring) l ≡ w
+Holds (wired l w) = map bare.wiringOfBoard l ≡ w
 Holds (session calls verdicts first second) =
     (answers emptyDesk calls ≡ verdicts) × (seatOf (after emptyDesk calls) 0 .pins ≡ first) × (seatOf (after emptyDesk calls) 1 .pins ≡ second)
 Holds (writes calls buffer bytes later) =
@@ -52,20 +52,20 @@ AllHold (c ∷ table) = Holds c × AllHold table
 
 -- D1, up to the first undo: both seats opened empty, a pin placed at each, seat 0 undone.
 abbrev D1 : List Call
-D1 = opening 0 7 [] ∷ opening 1 9 [] ∷ placing 0 0 (at (pos 1) (pos 1)) ∷ placing 1 0 (at (pos 2) (pos 2)) ∷ undoing 0 ∷ []
+D1 = opening 0 7 [] ∷ opening 1 9 [] ∷ placing 0 0 (place (pos 1) (pos 1)) ∷ placing 1 0 (place (pos 2) (pos 2)) ∷ undoing 0 ∷ []
 
 -- D2: pin 0 placed and moved, the move undone, pin 1 placed; the redo is 11.
 abbrev D2 : List Call
-D2 = opening 0 7 [] ∷ placing 0 0 (at (pos 1) (pos 1)) ∷ moving 0 0 (at (pos 4) (pos 4)) ∷ undoing 0 ∷ placing 0 1 (at (pos 2) (pos 2)) ∷ redoing 0 ∷ []
+D2 = opening 0 7 [] ∷ placing 0 0 (place (pos 1) (pos 1)) ∷ moving 0 0 (place (pos 4) (pos 4)) ∷ undoing 0 ∷ placing 0 1 (place (pos 2) (pos 2)) ∷ redoing 0 ∷ []
 
 -- D3: job 7, pin 0 at (1,-1). Written into 14 bytes that hold 9, the last two stay.
 abbrev D3 : List Call
-D3 = opening 0 7 [] ∷ placing 0 0 (at (pos 1) (negsuc 0)) ∷ []
+D3 = opening 0 7 [] ∷ placing 0 0 (place (pos 1) (negsuc 0)) ∷ []
 
 -- The table: the boards, D1 up to its first undo and to its end, D2, D3.
 abbrev pub table : List Case
 table =
-    wired boards.boards boards.answers
+    wired boards bare.answers
     ∷ session D1 (Accepted ∷ Accepted ∷ Accepted ∷ Accepted ∷ Accepted ∷ []) (drawn []) (drawn (pinAt (pos 2) (pos 2) ∷ []))
     ∷ session (D1 ++ (undoing 0 ∷ redoing 0 ∷ [])) (Accepted ∷ Accepted ∷ Accepted ∷ Accepted ∷ Accepted ∷ NothingStands ∷ Accepted ∷ [])
     (drawn (pinAt (pos 1) (pos 1) ∷ [])) (drawn (pinAt (pos 2) (pos 2) ∷ []))
@@ -75,5 +75,9 @@ table =
 
 -- W1 TO W8 AND D1 TO D3 HOLD.
 pub worked : AllHold table
-unfolding Holds AllHold after answers both either choose accepted turn onBoard inside difference closer tooNear sameNumber samePlace isThere sameHeld samePin samePins spotsTooNear tooNearAny tooNearOther crowded within settled allWithin allApart spotOf feedOf lawful movedPin made unmade standsAt fits placeable movable makeable takeable heldBy noPins readFrom wrongLength readMap own kept filled seated inTurn sameJob jobAmong turnedOpening turnedClosing turnedPlacing turnedMoving turnedRemoving turnedUndoing turnedRedoing verdictOf jobOf jobsApart soundOpen soundClosed soundSeat soundTo sound edited effect answerOf step emptyDesk mapFrom mapOf recordBytes pinBytes firstByte secondByte thirdByte fourthByte turnedWriting written writtenOf bufferOf
-worked = (boards.worked, ((refl, refl, refl), ((refl, refl, refl), ((refl, refl, refl), ((refl, refl, refl), tt)))))
+unfolding Holds AllHold after answers both either choose accepted turn onBoard inside difference closer tooNear sameNumber samePlace isThere sameHeld samePin
+    samePins spotsTooNear tooNearOther crowded within spotOf feedOf lawful movedPin made unmade standsAt fits placeable movable makeable takeable heldBy
+    readFrom wrongLength readMap own kept filled inTurn sameJob turnedOpening turnedClosing turnedPlacing turnedMoving turnedRemoving turnedUndoing
+    turnedRedoing verdictOf jobOf soundOpen soundClosed soundSeat soundTo sound edited effect answerOf step emptyDesk mapFrom mapOf recordBytes pinBytes
+    firstByte secondByte thirdByte fourthByte turnedWriting written writtenOf bufferOf anyOf eachOf noTwo
+worked = (bare.worked, ((refl, refl, refl), ((refl, refl, refl), ((refl, refl, refl), ((refl, refl, refl), tt)))))

@@ -1,4 +1,4 @@
--- `answer::answer_line` meets its contract: each order by the call that it asks for. Assumes nothing.
+-- `answer::answer_line` meets its contract: whatever a line says, by the call that it asks for. Assumes nothing.
 use mathlib.Core.Path.{refl}
 use Prim.Native.Nat.{ℕ}
 use native.Mathlib.Omega.{arith}
@@ -6,11 +6,12 @@ use lib.IntN.{ℤ, pos}
 use lib.ListN.{length-replicate}
 use borrow.Author.Needs.{needs}
 use Rattle.desk.specs.Calls.{closing, placing, moving, removing, undoing, redoing}
-use Rattle.script.specs.Numbers.{mostPairs, mostNumbers}
-use Rattle.script.specs.Answers.{notACallLine}
+use Rattle.text.specs.Numbers.{mostPairs, mostNumbers}
+use Rattle.script.specs.Answers.{mostLineBytes, notACallLine}
+use Rattle.shown.proofs.Lines.{held}
 use Rattle.answer.specs.Answered.{followed, printed}
-use Rattle.answer.proofs.Ordered.{open-count, write-room, bare-counts}
-use Rattle.answer.proofs.Telling.{held, called}
+use Rattle.answer.proofs.Counts.{open-count, write-room, bare-counts}
+use Rattle.answer.proofs.Telling.{called}
 use Rattle.answer.proofs.Answering.{answers, map-lent, across-lent, up-lent}
 use Rattle.answer.proofs.answer_line.Statement.{statement}
 use Rattle.answer.proofs.answer_line.Tie as tie
@@ -31,17 +32,17 @@ enum-told-2 c = search needs
 print-not-a-call-requires : tie.Need-print-not-a-call-requires
 print-not-a-call-requires c κs = search needs
 
-enum-known-order : tie.Need-enum-known-order
-enum-known-order c = search needs
+enum-known-said : tie.Need-enum-known-said
+enum-known-said c = search needs
 
 open-requires : tie.Need-open-requires
 open-requires c κs =
     let o = c .before .before .before in
     let r = o .before .before in
-    omega (arith, open-count (begun r .args .line .now) (r .read-line .ensures .0) (o .order .given .1))
+    omega (arith, open-count (begun r .args .line .now) (r .read-line .ensures .0) (o .said .given .1))
 
-enum-known-order-2 : tie.Need-enum-known-order-2
-enum-known-order-2 c = search needs
+enum-known-said-2 : tie.Need-enum-known-said-2
+enum-known-said-2 c = search needs
 
 close-requires : tie.Need-close-requires
 close-requires c κs = search needs
@@ -49,8 +50,8 @@ close-requires c κs = search needs
 told-requires : tie.Need-told-requires
 told-requires c κs = search needs
 
-enum-known-order-3 : tie.Need-enum-known-order-3
-enum-known-order-3 c = search needs
+enum-known-said-3 : tie.Need-enum-known-said-3
+enum-known-said-3 c = search needs
 
 place-requires : tie.Need-place-requires
 place-requires c κs = search needs
@@ -58,8 +59,8 @@ place-requires c κs = search needs
 told-requires-2 : tie.Need-told-requires-2
 told-requires-2 c κs = search needs
 
-enum-known-order-4 : tie.Need-enum-known-order-4
-enum-known-order-4 c = search needs
+enum-known-said-4 : tie.Need-enum-known-said-4
+enum-known-said-4 c = search needs
 
 shift-requires : tie.Need-shift-requires
 shift-requires c κs = search needs
@@ -67,8 +68,8 @@ shift-requires c κs = search needs
 told-requires-3 : tie.Need-told-requires-3
 told-requires-3 c κs = search needs
 
-enum-known-order-5 : tie.Need-enum-known-order-5
-enum-known-order-5 c = search needs
+enum-known-said-5 : tie.Need-enum-known-said-5
+enum-known-said-5 c = search needs
 
 remove-requires : tie.Need-remove-requires
 remove-requires c κs = search needs
@@ -76,8 +77,8 @@ remove-requires c κs = search needs
 told-requires-4 : tie.Need-told-requires-4
 told-requires-4 c κs = search needs
 
-enum-known-order-6 : tie.Need-enum-known-order-6
-enum-known-order-6 c = search needs
+enum-known-said-6 : tie.Need-enum-known-said-6
+enum-known-said-6 c = search needs
 
 undo-requires : tie.Need-undo-requires
 undo-requires c κs = search needs
@@ -85,8 +86,8 @@ undo-requires c κs = search needs
 told-requires-5 : tie.Need-told-requires-5
 told-requires-5 c κs = search needs
 
-enum-known-order-7 : tie.Need-enum-known-order-7
-enum-known-order-7 c = search needs
+enum-known-said-7 : tie.Need-enum-known-said-7
+enum-known-said-7 c = search needs
 
 redo-requires : tie.Need-redo-requires
 redo-requires c κs = search needs
@@ -94,32 +95,32 @@ redo-requires c κs = search needs
 told-requires-6 : tie.Need-told-requires-6
 told-requires-6 c κs = search needs
 
-enum-known-order-8 : tie.Need-enum-known-order-8
-enum-known-order-8 c = search needs
+enum-known-said-8 : tie.Need-enum-known-said-8
+enum-known-said-8 c = search needs
 
 write-requires : tie.Need-write-requires
 write-requires c κs =
     let o = c .before .before in
     let r = o .before .before in
-    omega (arith, write-room (begun r .args .line .now) (r .read-line .ensures .0) (o .order8 .given .1))
+    omega (arith, write-room (begun r .args .line .now) (r .read-line .ensures .0) (o .said8 .given .1))
 
-enum-known-order-9 : tie.Need-enum-known-order-9
-enum-known-order-9 c = search needs
+enum-known-said-9 : tie.Need-enum-known-said-9
+enum-known-said-9 c = search needs
 
 wire-requires : tie.Need-wire-requires
 wire-requires c κs = search needs
 
-enum-known-order-10 : tie.Need-enum-known-order-10
-enum-known-order-10 c = search needs
+enum-known-said-10 : tie.Need-enum-known-said-10
+enum-known-said-10 c = search needs
 
 wire-bare-requires : tie.Need-wire-bare-requires
 wire-bare-requires c κs =
     let o = c .before .before .before .before in
     let r = o .before .before in
-    omega (arith, bare-counts (begun r .args .line .now) (r .read-line .ensures .0) (o .order10 .given .1))
+    omega (arith, bare-counts (begun r .args .line .now) (r .read-line .ensures .0) (o .said10 .given .1))
 
-enum-known-order-11 : tie.Need-enum-known-order-11
-enum-known-order-11 c = search needs
+enum-known-said-11 : tie.Need-enum-known-said-11
+enum-known-said-11 c = search needs
 
 show-pins-requires : tie.Need-show-pins-requires
 show-pins-requires c κs = search needs
@@ -130,7 +131,7 @@ returns c =
     let r = c .before .before in
     let s = begun r in
     answers (s .args .desk) (s .args .number) (s .args .line .now) (s .args .out .now) (r .read-line .ensures .0) (c .enum-told .given .1)
-    (refl, record { bytes = refl; within = omega arith; buffer = refl })
+    (refl, ((refl, omega arith), refl))
 
 returns-2 : tie.Need-returns-2
 unfolding followed printed
@@ -139,7 +140,7 @@ returns-2 c =
     let r = o .before .before in
     let s = begun r in
     answers (s .args .desk) (s .args .number) (s .args .line .now) (s .args .out .now) (r .read-line .ensures .0) (o .enum-told2 .given .1)
-    (refl, held (notACallLine (s .args .number)) (s .args .out .now) 200 (omega arith) (c .print-not-a-call .ensures))
+    (refl, held (s .args .out .now) mostLineBytes {p = notACallLine (s .args .number)} (omega arith) refl (c .print-not-a-call .ensures))
 
 returns-3 : tie.Need-returns-3
 unfolding followed printed
@@ -147,8 +148,8 @@ returns-3 c =
     let o = c .before .before .before .before in
     let r = o .before .before in
     let s = begun r in
-    let m = map-lent (s .args .line .now) (r .read-line .ensures .0) _ (o .order .given .1) (r .read-line .ensures .1 .0) (length-replicate {A = ℕ} mostPairs 0) in
-    answers (s .args .desk) (s .args .number) (s .args .line .now) (s .args .out .now) (r .read-line .ensures .0) (o .order .given .1)
+    let m = map-lent (s .args .line .now) (r .read-line .ensures .0) _ (o .said .given .1) (r .read-line .ensures .1 .0) (length-replicate {A = ℕ} mostPairs 0) in
+    answers (s .args .desk) (s .args .number) (s .args .line .now) (s .args .out .now) (r .read-line .ensures .0) (o .said .given .1)
     (rw m at (c .open .ensures))
 
 returns-4 : tie.Need-returns-4
@@ -157,8 +158,8 @@ returns-4 c =
     let o = c .before .before .before .before in
     let r = o .before .before in
     let s = begun r in
-    answers (s .args .desk) (s .args .number) (s .args .line .now) (s .args .out .now) (r .read-line .ensures .0) (o .order2 .given .1)
-    (called (s .args .desk) (s .args .out .now) (closing (o .order2 .given .0 .0)) (c .before .before .close .ensures) (c .told .ensures))
+    answers (s .args .desk) (s .args .number) (s .args .line .now) (s .args .out .now) (r .read-line .ensures .0) (o .said2 .given .1)
+    (called (s .args .desk) (s .args .out .now) (closing (o .said2 .given .0 .0)) (c .before .before .close .ensures) (c .told .ensures))
 
 returns-5 : tie.Need-returns-5
 unfolding followed printed
@@ -166,8 +167,8 @@ returns-5 c =
     let o = c .before .before .before .before in
     let r = o .before .before in
     let s = begun r in
-    let g = o .order3 .given .0 in
-    answers (s .args .desk) (s .args .number) (s .args .line .now) (s .args .out .now) (r .read-line .ensures .0) (o .order3 .given .1)
+    let g = o .said3 .given .0 in
+    answers (s .args .desk) (s .args .number) (s .args .line .now) (s .args .out .now) (r .read-line .ensures .0) (o .said3 .given .1)
     (called (s .args .desk) (s .args .out .now) (placing (g .0) (g .1 .0) (g .1 .1 .0)) (c .before .before .place .ensures) (c .told2 .ensures))
 
 returns-6 : tie.Need-returns-6
@@ -176,8 +177,8 @@ returns-6 c =
     let o = c .before .before .before .before in
     let r = o .before .before in
     let s = begun r in
-    let g = o .order4 .given .0 in
-    answers (s .args .desk) (s .args .number) (s .args .line .now) (s .args .out .now) (r .read-line .ensures .0) (o .order4 .given .1)
+    let g = o .said4 .given .0 in
+    answers (s .args .desk) (s .args .number) (s .args .line .now) (s .args .out .now) (r .read-line .ensures .0) (o .said4 .given .1)
     (called (s .args .desk) (s .args .out .now) (moving (g .0) (g .1 .0) (g .1 .1 .0)) (c .before .before .shift .ensures) (c .told3 .ensures))
 
 returns-7 : tie.Need-returns-7
@@ -186,8 +187,8 @@ returns-7 c =
     let o = c .before .before .before .before in
     let r = o .before .before in
     let s = begun r in
-    let g = o .order5 .given .0 in
-    answers (s .args .desk) (s .args .number) (s .args .line .now) (s .args .out .now) (r .read-line .ensures .0) (o .order5 .given .1)
+    let g = o .said5 .given .0 in
+    answers (s .args .desk) (s .args .number) (s .args .line .now) (s .args .out .now) (r .read-line .ensures .0) (o .said5 .given .1)
     (called (s .args .desk) (s .args .out .now) (removing (g .0) (g .1 .0)) (c .before .before .remove .ensures) (c .told4 .ensures))
 
 returns-8 : tie.Need-returns-8
@@ -196,8 +197,8 @@ returns-8 c =
     let o = c .before .before .before .before in
     let r = o .before .before in
     let s = begun r in
-    answers (s .args .desk) (s .args .number) (s .args .line .now) (s .args .out .now) (r .read-line .ensures .0) (o .order6 .given .1)
-    (called (s .args .desk) (s .args .out .now) (undoing (o .order6 .given .0 .0)) (c .before .before .undo .ensures) (c .told5 .ensures))
+    answers (s .args .desk) (s .args .number) (s .args .line .now) (s .args .out .now) (r .read-line .ensures .0) (o .said6 .given .1)
+    (called (s .args .desk) (s .args .out .now) (undoing (o .said6 .given .0 .0)) (c .before .before .undo .ensures) (c .told5 .ensures))
 
 returns-9 : tie.Need-returns-9
 unfolding followed printed
@@ -205,8 +206,8 @@ returns-9 c =
     let o = c .before .before .before .before in
     let r = o .before .before in
     let s = begun r in
-    answers (s .args .desk) (s .args .number) (s .args .line .now) (s .args .out .now) (r .read-line .ensures .0) (o .order7 .given .1)
-    (called (s .args .desk) (s .args .out .now) (redoing (o .order7 .given .0 .0)) (c .before .before .redo .ensures) (c .told6 .ensures))
+    answers (s .args .desk) (s .args .number) (s .args .line .now) (s .args .out .now) (r .read-line .ensures .0) (o .said7 .given .1)
+    (called (s .args .desk) (s .args .out .now) (redoing (o .said7 .given .0 .0)) (c .before .before .redo .ensures) (c .told6 .ensures))
 
 returns-10 : tie.Need-returns-10
 unfolding followed printed
@@ -214,7 +215,7 @@ returns-10 c =
     let o = c .before .before .before in
     let r = o .before .before in
     let s = begun r in
-    answers (s .args .desk) (s .args .number) (s .args .line .now) (s .args .out .now) (r .read-line .ensures .0) (o .order8 .given .1)
+    answers (s .args .desk) (s .args .number) (s .args .line .now) (s .args .out .now) (r .read-line .ensures .0) (o .said8 .given .1)
     (c .write .ensures)
 
 returns-11 : tie.Need-returns-11
@@ -223,7 +224,7 @@ returns-11 c =
     let o = c .before .before .before in
     let r = o .before .before in
     let s = begun r in
-    answers (s .args .desk) (s .args .number) (s .args .line .now) (s .args .out .now) (r .read-line .ensures .0) (o .order9 .given .1)
+    answers (s .args .desk) (s .args .number) (s .args .line .now) (s .args .out .now) (r .read-line .ensures .0) (o .said9 .given .1)
     (c .wire .ensures)
 
 returns-12 : tie.Need-returns-12
@@ -233,9 +234,9 @@ returns-12 c =
     let r = o .before .before in
     let s = begun r in
     let l = r .read-line .ensures .1 .1 in
-    let x = across-lent (s .args .line .now) (r .read-line .ensures .0) _ (o .order10 .given .1) (l .0) (length-replicate {A = ℤ} mostNumbers (pos 0)) in
-    let y = up-lent (s .args .line .now) (r .read-line .ensures .0) _ (o .order10 .given .1) (l .1) (length-replicate {A = ℤ} mostNumbers (pos 0)) in
-    answers (s .args .desk) (s .args .number) (s .args .line .now) (s .args .out .now) (r .read-line .ensures .0) (o .order10 .given .1)
+    let x = across-lent (s .args .line .now) (r .read-line .ensures .0) _ (o .said10 .given .1) (l .0) (length-replicate {A = ℤ} mostNumbers (pos 0)) in
+    let y = up-lent (s .args .line .now) (r .read-line .ensures .0) _ (o .said10 .given .1) (l .1) (length-replicate {A = ℤ} mostNumbers (pos 0)) in
+    answers (s .args .desk) (s .args .number) (s .args .line .now) (s .args .out .now) (r .read-line .ensures .0) (o .said10 .given .1)
     (refl, rw y at (rw x at (c .wire-bare .ensures)))
 
 returns-13 : tie.Need-returns-13
@@ -244,7 +245,7 @@ returns-13 c =
     let o = c .before .before .before in
     let r = o .before .before in
     let s = begun r in
-    answers (s .args .desk) (s .args .number) (s .args .line .now) (s .args .out .now) (r .read-line .ensures .0) (o .order11 .given .1)
+    answers (s .args .desk) (s .args .number) (s .args .line .now) (s .args .out .now) (r .read-line .ensures .0) (o .said11 .given .1)
     (refl, c .show-pins .ensures)
 
 pub answer-line-spec : {M : Type 1} → statement M
@@ -255,33 +256,33 @@ answer-line-spec =
     enum-told
     enum-told-2
     print-not-a-call-requires
-    enum-known-order
+    enum-known-said
     open-requires
-    enum-known-order-2
+    enum-known-said-2
     close-requires
     told-requires
-    enum-known-order-3
+    enum-known-said-3
     place-requires
     told-requires-2
-    enum-known-order-4
+    enum-known-said-4
     shift-requires
     told-requires-3
-    enum-known-order-5
+    enum-known-said-5
     remove-requires
     told-requires-4
-    enum-known-order-6
+    enum-known-said-6
     undo-requires
     told-requires-5
-    enum-known-order-7
+    enum-known-said-7
     redo-requires
     told-requires-6
-    enum-known-order-8
+    enum-known-said-8
     write-requires
-    enum-known-order-9
+    enum-known-said-9
     wire-requires
-    enum-known-order-10
+    enum-known-said-10
     wire-bare-requires
-    enum-known-order-11
+    enum-known-said-11
     show-pins-requires
     returns
     returns-2

@@ -4,20 +4,20 @@ use native.Mathlib.Omega.{arith}
 use mathlib.Core.Path.{_≡_}
 use Prim.Native.Nat.{_≤_, _-_}
 use lib.ListN.{length}
-use Rattle.tree.proofs.Loops.{filled, filled-none}
-use Rattle.bare.specs.Bare.{feedOfLists}
-use Rattle.bare.proofs.Feeds.{feed-turn, feed-full}
+use Rattle.bare.proofs.Feeds.{feedUpTo, feed-none, feed-turn, feed-full}
 use Rattle.bare.proofs.feed_of_lists.Statement.{statement}
 use Rattle.bare.proofs.feed_of_lists.Tie as tie
 
+-- The feed is filled so far,
 abbrev Inv-loop : tie.InvT-loop
-Inv-loop xs ys feed₀ pin₀ feed pin = (pin ≤ length xs) × (feed ≡ filled (feedOfLists xs ys) feed₀ pin)
+Inv-loop xs ys feed₀ pin₀ feed pin = (pin ≤ length xs) × (feed ≡ feedUpTo xs ys pin)
 
+-- and so many pins are left.
 abbrev μ-loop : tie.MeasureT-loop
 μ-loop xs ys feed₀ pin₀ feed pin = length xs - pin
 
 loop-holds : tie.Need-loop-holds Inv-loop μ-loop
-loop-holds c = (search needs, filled-none _ _)
+loop-holds c = (search needs, feed-none _ _)
 
 listed-pin-requires : tie.Need-listed-pin-requires Inv-loop μ-loop
 listed-pin-requires c κs = search needs
@@ -39,8 +39,8 @@ loop-again c =
     let h = c .before .before in
     let a = h .before .args in (
       search needs,
-      feed-turn (a .xs .now) (a .ys .now) (omega arith) (omega arith) _ (h .loop .feed) (h .loop .pin) (omega arith) (h .loop .inv .1) (omega arith)
-          _ (c .listed-pin .ensures),
+      feed-turn (a .xs .now) (a .ys .now) (omega arith) (omega arith) (h .loop .feed) (h .loop .pin) (h .loop .inv .1) (omega arith) _
+          (c .listed-pin .ensures),
     )
 
 returns : tie.Need-returns Inv-loop μ-loop

@@ -14,16 +14,18 @@ use Rattle.bare.proofs.Verdicts.{lengths-right, lengths-wrong, no-pins,
 use Rattle.bare.proofs.wire_bare.Statement.{statement}
 use Rattle.bare.proofs.wire_bare.Tie as tie
 
--- What the tests found, in terms of the lists.
+-- What the tests found, in terms of the lists: their lengths are right,
 right : (c : tie.Else1) → wrongLengths (c .before .before .args .xs .now) (c .before .before .args .ys .now) ≡ false
 right c = sym (c .before .wrong-lengths .ensures) ∙ c .if1 .left
 
+-- whether all their places are on the board,
 within : (c : tie.After-are-within)
-    → allWithin (feedOfLists (c .before .before .before .before .before .args .xs .now) (c .before .before .before .before .before .args .ys .now)) ≡ c .are-within .result
+    → let a = c .before .before .before .before .before .args in allWithin (feedOfLists (a .xs .now) (a .ys .now)) ≡ c .are-within .result
 within c = sym (c .are-within .ensures ∙ ap allWithin (c .before .feed-of-lists .ensures))
 
+-- and whether no two of them are too near.
 near : (c : tie.After-are-apart)
-    → allApart (feedOfLists (c .before .before .before .before .before .before .before .args .xs .now) (c .before .before .before .before .before .before .before .args .ys .now)) ≡ c .are-apart .result
+    → let a = c .before .before .before .before .before .before .before .args in allApart (feedOfLists (a .xs .now) (a .ys .now)) ≡ c .are-apart .result
 near c = sym (c .are-apart .ensures ∙ ap allApart (c .before .before .before .feed-of-lists .ensures))
 
 wrong-lengths-requires : tie.Need-wrong-lengths-requires

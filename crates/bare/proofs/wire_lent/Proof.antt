@@ -67,76 +67,95 @@ use Rattle.bare.proofs.wire_lent as f
 use Rattle.bare.proofs.wire_lent.Statement as stated
 use Rattle.bare.proofs.wire_lent.Code as code
 
+-- what is left of the arguments: of the lists of x and y nothing, of the list of legs its last legs
 abbrev stayed : Stays (f.ended .signature .params) (f.ended .kept)
 stayed =
     (stay-dropped (shrSliceOf (0 ∷ []) tt (plain (λ _. i32))) yes, (stay-dropped (shrSliceOf (1 ∷ []) tt (plain (λ _. i32))) yes, (gave-slice (2 ∷ []) tt (plain (λ _. T.the-row)), tt)))
 
 module _ {M : Type 1} (𝓤 : URA M) (H : Heap 𝓤) (A : Atoms 𝓤) (mem : Memory → SProp 𝓤) (run : Routine → Fun 𝓤) where
-  -- the contracts of the functions called
+  -- the contracts of the functions called: of `wire_bare`
   abbrev Wire : Contract 𝓤
   Wire = tripleOf 𝓤 H A wire.signature (wire.spec 𝓤 H A mem run)
 
+  -- of `fill`
   abbrev Fill : Contract 𝓤
   Fill = tripleOf 𝓤 H A fill.signature (fill.spec 𝓤 H A mem run)
 
+  -- and of `wiring_of`
   abbrev Part : Contract 𝓤
   Part = tripleOf 𝓤 H A part.signature (part.spec 𝓤 H A mem run)
 
+  -- what `wiring_of` says of its result
   parted : (d : Laid) (r : Wiring) → ent 𝓤 (ensured 𝓤 H A part.ended (part.clauses 𝓤 H A mem run) tt (d, tt) tt r) (fact 𝓤 (r ≡ d .wiring))
   parted d r = exE 𝓤 _ (λ ws. snd∗ 𝓤 (sem 𝓤 H A (lasts part.ended tt (d, tt) ws)) (fact 𝓤 (r ≡ d .wiring)))
 
 module _ {M : Type 1} (𝓤 : URA M) (H : Heap 𝓤) (A : Atoms 𝓤) (W : Given 𝓤 H A) (mem : Memory → SProp 𝓤) (run : Routine → Fun 𝓤) (κ κ′ κ″ : Lft) (q q′ q″ : Share) (x y : RefT (List ℤ)) (z : RefT (List Leg))
     (room-x : Room i32 (length (x .now))) (room-y : Room i32 (length (y .now))) (room : Room T.the-row (length (z .now))) where
-  -- the lists of x and y, the list that was lent, and the answer
+  -- the list that was lent
   abbrev lent : List Leg
   lent = z .now
 
+  -- its length
   abbrev n : ℕ
   n = length lent
 
+  -- the answer with its legs
   abbrev answer : Laid
   answer = bareOf (x .now) (y .now) n
 
+  -- the list of x in memory
   abbrev sx : Val
   sx = sliceVal (x .ptr) (length (x .now))
 
+  -- that of y
   abbrev sy : Val
   sy = sliceVal (y .ptr) (length (y .now))
 
+  -- and the lent list
   abbrev sz : Val
   sz = sliceVal (z .ptr) n
 
+  -- the list of x is had
   abbrev X : Fml
   X = ShrSlice (named 0) κ i32 .own x (sx ∷ [])
 
+  -- that of y
   abbrev Y : Fml
   Y = ShrSlice (named 1) κ′ i32 .own y (sy ∷ [])
 
+  -- and the lent list
   abbrev Z : Fml
   Z = MutSlice (named 2) κ″ T.the-row .own z (sz ∷ [])
 
+  -- the type of the arguments
   abbrev Arg : Type 0
   Arg = RefT (List ℤ) × (RefT (List ℤ) × (RefT (List Leg) × Unit {0}))
 
+  -- the arguments
   abbrev a : Arg
   a = (x, (y, (z, tt)))
 
+  -- and they in memory
   abbrev at : List Val × (List Val × (List Val × Unit {0}))
   at = (sx ∷ [], (sy ∷ [], (sz ∷ [], tt)))
 
+  -- the lifetimes of the three lists
   abbrev κs : Lfts 3
   κs = (κ, (κ′, (κ″, tt)))
 
+  -- what the return has to show
   abbrev Post : Val → SProp 𝓤
   Post = walkOf 𝓤 H A f.ended stayed (f.clauses 𝓤 H A mem run) .post ((κs, (q, (q′, (q″, tt))), tt, a, at), tt)
 
-  -- the tokens that `wire_bare` takes, and the one that `fill` takes
+  -- the tokens that `wire_bare` takes
   abbrev Two : Item 𝓤
   Two = ‵ (flft κ q) ⊛ ‵ (flft κ′ q′) ⊛ ‵ ftrue
 
+  -- the token that `fill` takes
   abbrev One : Item 𝓤
   One = ‵ (flft κ″ q″) ⊛ ‵ ftrue
 
+  -- it is shown where the answer and the last legs are those of the contract
   exits : (r : Wiring) (w : Val) (zs : List Leg) → (r ≡ answer .wiring) × (zs ≡ filledWith answer lent) → length zs ≡ n
       → ent 𝓤 (⋆ 𝓤 H A (Two ∷ One ∷ ‵ (finally T.the-row (z .name) zs) ∷ ‵ (R.the-row .own r (w ∷ [])) ∷ [])) (Post w)
   exits r w zs e l =
@@ -146,12 +165,16 @@ module _ {M : Type 1} (𝓤 : URA M) (H : Heap 𝓤) (A : Atoms 𝓤) (W : Given
       nothing ! $ move ! (1 ∷ 0 ∷ []) $ fjoin ! $ nothing ! $ fjoin ! $ nothing ! $ fjoin ! $ done !
 
   -- ---- `wire_bare`
+
+  -- its arguments in memory
   abbrev passed : Vals wire.signature (κ, (κ′, tt))
   passed = (sx ∷ [], (sy ∷ [], (vint w64 n ∷ [], tt)))
 
+  -- what it is called with
   abbrev to-wire : Wire 𝓤 H A mem run .Ghost
   to-wire = (((κ, (κ′, tt)), (q, (q′, tt)), tt, (x, (y, (n, tt))), passed), tt)
 
+  -- and it may be called so
   goes-wire : ent 𝓤 (⋆ 𝓤 H A (Two ∷ ‵ X ∷ ‵ Y ∷ [])) (Wire 𝓤 H A mem run .pre to-wire)
   goes-wire = qed W (Two ∷ ‵ X ∷ ‵ Y ∷ []) ∵ nothing ! $ owned ! usize (Is usize) (uint-makes 𝓤 H A W w64) n _ (refl, room .0) $ fjoin ! $
       move ! (3 ∷ 0 ∷ []) $ fjoin ! $ move ! (2 ∷ 0 ∷ []) $ fjoin ! $ move ! (1 ∷ 0 ∷ []) $ join ! $ frame ! $ done !
@@ -166,29 +189,36 @@ module _ {M : Type 1} (𝓤 : URA M) (H : Heap 𝓤) (A : Atoms 𝓤) (W : Given
       -- [the list lent; …; y's; x's; the two tokens; the one]
       move ! (4 ∷ 3 ∷ 2 ∷ []) $ use3 W (raw (Wire 𝓤 H A mem run .pre to-wire)) goes-wire $ frame ! $ move ! (2 ∷ 0 ∷ []) $ join ! $ keep ! (0 ∷ []) $ done !
 
+  -- what it says of its result
   said : (d : Laid) → ent 𝓤 (ensured 𝓤 H A wire.ended (wire.clauses 𝓤 H A mem run) (κ, (κ′, tt)) (x, (y, (n, tt))) tt d) (fact 𝓤 (d ≡ answer))
   said d = exE 𝓤 _ (λ ws. snd∗ 𝓤 (sem 𝓤 H A (lasts wire.ended (κ, (κ′, tt)) (x, (y, (n, tt))) ws)) (fact 𝓤 (d ≡ answer)))
 
   -- ---- `fill` and `wiring_of`, of the answer d that stands in memory as w
   module _ (d : Laid) (w : Val) (e : d ≡ answer) (is : Is S.the-row d (w ∷ [])) where
+    -- what `fill` is called with
     abbrev to-fill : Fill 𝓤 H A mem run .Ghost
     to-fill = (((κ″, tt), (q″, tt), tt, (d, (z, tt)), (w ∷ [], (sz ∷ [], tt))), tt)
 
+    -- the legs fit
     fits : (d .wiring .legs ≤ mostLegs) × (d .wiring .legs ≤ n)
     fits = rw e (bare-fits (x .now) (y .now) n)
 
+    -- and it may be called so
     goes-fill : ent 𝓤 (sep 𝓤 (sep 𝓤 (A .lft κ″ q″) (sem 𝓤 H A ftrue)) (sem 𝓤 H A Z)) (Fill 𝓤 H A mem run .pre to-fill)
     goes-fill = qed W (One ∷ ‵ Z ∷ []) ∵ says ! fits $ frame ! $
         nothing ! $ move ! (1 ∷ 0 ∷ []) $ fjoin ! $ owned ! S.the-row (Is S.the-row) ((LL.makes S.the-type S′.the-plain) 𝓤 H A) d (w ∷ []) is $ fjoin ! $ done !
 
+    -- what `wiring_of` is called with
     abbrev to-part : Part 𝓤 H A mem run .Ghost
     to-part = ((tt, tt, tt, (d, tt), (w ∷ [], tt)), tt)
 
+    -- and it may be called so
     goes-part : ent 𝓤 (emp 𝓤) (Part 𝓤 H A mem run .pre to-part)
     goes-part = qed W [] ∵ nothing ! $ owned ! S.the-row (Is S.the-row) ((LL.makes S.the-type S′.the-plain) 𝓤 H A) d (w ∷ []) is $ fjoin ! $ nothing ! $ join ! $ nothing ! $ move ! (1 ∷ 0 ∷ []) $ done !
 
   module _ (C : Calls 𝓤 H) (Λ : Loops 𝓤 H) (fm : FmC 𝓤 H (W .laws) C) (known-wire : Triple 𝓤 (C #wire-bare) (Wire 𝓤 H A mem run)) (known-fill : Triple 𝓤 (C #fill) (Fill 𝓤 H A mem run))
       (known-part : Triple 𝓤 (C #wiring-of) (Part 𝓤 H A mem run)) where
+    -- the whole function, from its entry to its return
     walk : ent 𝓤 (onEntry 𝓤 H A f.signature κs (q, (q′, (q″, tt))) a at) (WpFn 𝓤 H C Λ code.function (sx ∷ sy ∷ sz ∷ []) Post)
     walk =
         qed W (raw (onEntry 𝓤 H A f.signature κs (q, (q′, (q″, tt))) a at) ∷ []) ∵ enter ! C Λ code.function (sx ∷ sy ∷ sz ∷ []) _ $
@@ -227,6 +257,7 @@ module _ {M : Type 1} (𝓤 : URA M) (H : Heap 𝓤) (A : Atoms 𝓤) (W : Given
         keep ! (4 ∷ 1 ∷ 2 ∷ 0 ∷ []) $ by ! (exits s v (zs .1 .0) (h ∙ ap (λ (t : Laid). t .wiring) e, g ∙ ap (λ (t : Laid). filledWith t lent) e) l))))))))))))))))))))))))
 
 module _ {M : Type 1} (𝓤 : URA M) (H : Heap 𝓤) (A : Atoms 𝓤) (W : Given 𝓤 H A) (mem : Memory → SProp 𝓤) (run : Routine → Fun 𝓤) where
+  -- so for any arguments
   lent-walks : (C : Calls 𝓤 H) (Λ : Loops 𝓤 H) → FmC 𝓤 H (W .laws) C → Triple 𝓤 (C #wire-bare) (Wire 𝓤 H A mem run) → Triple 𝓤 (C #fill) (Fill 𝓤 H A mem run) → Triple 𝓤 (C #wiring-of) (Part 𝓤 H A mem run)
       → Walks 𝓤 H A f.ended stayed (WpFn 𝓤 H C Λ code.function) (f.clauses 𝓤 H A mem run)
   lent-walks C Λ fm known-wire known-fill known-part = walked 𝓤 H A f.ended stayed (f.clauses 𝓤 H A mem run) (WpFn 𝓤 H C Λ code.function)
@@ -234,6 +265,7 @@ module _ {M : Type 1} (𝓤 : URA M) (H : Heap 𝓤) (A : Atoms 𝓤) (W : Given
       (λ κs qs bounds a g are. via 𝓤 _ (fst∗ 𝓤 _ (emp 𝓤))
       (walk 𝓤 H A W mem run (κs .0) (κs .1 .0) (κs .1 .1 .0) (qs .0) (qs .1 .0) (qs .1 .1 .0) (a .0) (a .1 .0) (a .1 .1 .0) (are .0 .0 .1) (are .1 .0 .0 .1) (are .1 .1 .0 .0 .1) C Λ fm known-wire known-fill known-part))
 
+-- and the function meets its contract, where the functions called meet theirs
 lent-meets : {M : Type 1} (𝓤 : URA M) (H : Heap 𝓤) (A : Atoms 𝓤) → Given 𝓤 H A → (mem : Memory → SProp 𝓤) (run : Routine → Fun 𝓤) (𝓣 : Tables 𝓤 H)
     → Triple 𝓤 (𝓣 .C #wire-bare) (Wire 𝓤 H A mem run) → Triple 𝓤 (𝓣 .C #fill) (Fill 𝓤 H A mem run) → Triple 𝓤 (𝓣 .C #wiring-of) (Part 𝓤 H A mem run)
     → Meets 𝓤 H A f.signature (WpFn 𝓤 H (𝓣 .C) (𝓣 .Λ) code.function) (f.spec 𝓤 H A mem run)

@@ -1,7 +1,6 @@
 -- `drawing::can_be_made` meets its contract, edit by edit. Assumes nothing.
 use borrow.Author.Needs.{needs}
 use mathlib.Core.Path.{sym}
-use Rattle.drawing.specs.Edits.{placeable, movable}
 use Rattle.drawing.proofs.Tests.{pin-above, placed-test, moved-test, removed-test}
 use Rattle.drawing.proofs.can_be_made.Statement.{statement}
 use Rattle.drawing.proofs.can_be_made.Tie as tie
@@ -40,7 +39,6 @@ same-pin-requires : tie.Need-same-pin-requires
 same-pin-requires c κs = search needs
 
 returns-2 : tie.Need-returns-2
-unfolding placeable
 returns-2 c =
     let m = c .before .before in
     let n = m .before .before .before in
@@ -48,7 +46,6 @@ returns-2 c =
     rw e (placed-test _ (rw e at (n .before .pin-of .ensures)) (n .if1 .left) _ (rw (n .before .before .pre) at (c .can-place .ensures)))
 
 returns-3 : tie.Need-returns-3
-unfolding movable
 returns-3 c =
     let m = c .before .before in
     let n = m .before .before .before in

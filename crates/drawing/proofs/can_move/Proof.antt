@@ -4,6 +4,7 @@ use borrow.Author.Tests.{not-true, not-false}
 use mathlib.Core.Path.{sym, ap, _∙_}
 use mathlib.Core.Bool.{not}
 use Rattle.refusal.proofs.Tests.{both-no, both-yes}
+use Rattle.drawing.specs.Edits.{movable}
 use Rattle.drawing.proofs.can_move.Statement.{statement}
 use Rattle.drawing.proofs.can_move.Tie as tie
 
@@ -11,12 +12,14 @@ stands-at-requires : tie.Need-stands-at-requires
 stands-at-requires c κs = search needs
 
 returns : tie.Need-returns
+unfolding movable
 returns c = sym (both-no _ (sym (c .before .stands-at .ensures) ∙ not-true _ (c .if1 .taken)))
 
 same-place-requires : tie.Need-same-place-requires
 same-place-requires c κs = search needs
 
 returns-2 : tie.Need-returns-2
+unfolding movable
 returns-2 c =
     let d = c .before .before in
     sym (both-yes _ (sym (d .before .stands-at .ensures) ∙ not-false _ (d .if1 .left))
@@ -26,6 +29,7 @@ can-stand-requires : tie.Need-can-stand-requires
 can-stand-requires c κs = search needs
 
 returns-3 : tie.Need-returns-3
+unfolding movable
 returns-3 c =
     let e = c .before in
     let d = e .before .before in

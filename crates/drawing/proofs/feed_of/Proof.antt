@@ -1,55 +1,53 @@
--- `drawing::feed_of` meets its contract. The loop's invariant: the first `i` spots are those of the feed.
--- The measure is how many are left. Assumes nothing.
-use mathlib.Core.Path.{_≡_, refl}
-use Prim.Native.Nat.{_≤_, _<_, _-_}
+-- `drawing::feed_of` meets its contract: the array is filled from the front with the spots of the feed. Assumes nothing.
+use mathlib.Core.Path.{_≡_}
+use Prim.Native.Nat.{_-_}
+use borrow.Author.Needs.{needs}
 use native.Mathlib.Omega.{arith}
-use lib.ListN.{length, take, length-set}
+use Rattle.refusal.proofs.Lists.{overlaid, overlaid-none, mapped-turn, mapped-all}
 use Rattle.feed.specs.Feeds.{mostPins}
-use Rattle.drawing.specs.Pins.{feedOf}
-use Rattle.drawing.proofs.Loops.{feed-next, feed-end}
+use Rattle.drawing.specs.Pins.{absent, spotOf, feedOf}
 use Rattle.drawing.proofs.feed_of.Statement.{statement}
 use Rattle.drawing.proofs.feed_of.Tie as tie
 
 abbrev Inv-loop : tie.InvT-loop
-Inv-loop pins spots₀ i₀ spots i = (i ≤ mostPins) × (length spots ≡ mostPins) × (take i spots ≡ take i (feedOf pins))
+Inv-loop pins spots₀ i₀ spots i = spots ≡ overlaid (feedOf pins) spots₀ i
 
 abbrev μ-loop : tie.MeasureT-loop
 μ-loop pins spots₀ i₀ spots i = mostPins - i
 
 loop-holds : tie.Need-loop-holds Inv-loop μ-loop
-loop-holds c = (omega arith, refl, refl)
+loop-holds c = overlaid-none _ _
 
 mul-q : tie.Need-mul-q Inv-loop μ-loop
-mul-q c = omega arith
+mul-q c = search needs
 
 array-copy-out-q : tie.Need-array-copy-out-q Inv-loop μ-loop
-array-copy-out-q c = omega arith
+array-copy-out-q c = search needs
 
 spot-of-requires : tie.Need-spot-of-requires Inv-loop μ-loop
-spot-of-requires c κs = tt
+spot-of-requires c κs = search needs
 
 mul-spots : tie.Need-mul-spots Inv-loop μ-loop
-mul-spots c = omega arith
+mul-spots c = search needs
 
 array-set-from-spots : tie.Need-array-set-from-spots Inv-loop μ-loop
-array-set-from-spots c = omega arith
+array-set-from-spots c = search needs
 
 add-i : tie.Need-add-i Inv-loop μ-loop
-add-i c = omega arith
+add-i c = search needs
 
 loop-less : tie.Need-loop-less Inv-loop μ-loop
-loop-less c = omega arith
+loop-less c = search needs
 
 loop-again : tie.Need-loop-again Inv-loop μ-loop
+unfolding feedOf
 loop-again c =
-    let l = c .before .before .before in
-    let h : l .loop .i < length (l .before .args .t1) = omega arith in
-    (omega arith, rw length-set (omega arith), rw (c .spot-of .ensures) (feed-next _ _ h _ (omega arith) (l .loop .inv .2)))
+    let h = c .before .before .before in
+    mapped-turn spotOf (h .before .args .t1) _ _ (h .loop .i) (h .loop .inv) absent _ (omega arith) (omega arith) (c .spot-of .ensures)
 
 returns : tie.Need-returns Inv-loop μ-loop
-returns c =
-    let h : length (c .before .before .args .t1) ≤ c .before .loop .i = omega arith in
-    feed-end _ _ h _ (omega arith) (c .before .loop .inv .2)
+unfolding feedOf
+returns c = mapped-all spotOf (c .before .before .args .t1) _ _ (c .before .loop .i) (c .before .loop .inv) (omega arith) (omega arith)
 
 pub feed-of-spec : {M : Type 1} → statement M
 feed-of-spec =

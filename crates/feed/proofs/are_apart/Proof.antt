@@ -3,9 +3,11 @@ use borrow.Author.Needs.{needs}
 use native.Mathlib.Omega.{arith}
 use mathlib.Core.Path.{_≡_, refl, sym, _∙_}
 use Prim.Native.Nat.{_≤_, _-_}
-use lib.ListN.{drop}
-use Rattle.feed.specs.Feeds.{mostPins, allApart}
-use Rattle.feed.proofs.Loops.{apart-stop, apart-next, apart-end}
+use lib.ListN.{drop, drop-of-length-le}
+use Rattle.refusal.proofs.Lists.{front}
+use Rattle.refusal.proofs.Anyone.{two-stop, two-next, two-end}
+use Rattle.feed.specs.declared.Spot.the-variants.{Absent}
+use Rattle.feed.specs.Feeds.{mostPins, spotsTooNear, allApart}
 use Rattle.feed.proofs.are_apart.Statement.{statement}
 use Rattle.feed.proofs.are_apart.Tie as tie
 
@@ -33,7 +35,7 @@ too-near-any-requires c κs = search needs
 returns : tie.Need-returns Inv-loop μ-loop
 returns c =
     let h = c .before .before .before .before in
-    sym (apart-stop (h .before .args .t1) (h .loop .pin) (omega arith) (c .before .too-near-any .ensures) (c .if1 .taken)) ∙ h .loop .inv .1
+    sym (two-stop (front Absent (h .before .args .t1) (h .loop .pin) (omega arith)) spotsTooNear (c .before .too-near-any .ensures) (c .if1 .taken)) ∙ h .loop .inv .1
 
 add-pin : tie.Need-add-pin Inv-loop μ-loop
 add-pin c = search needs
@@ -44,12 +46,13 @@ loop-less c = search needs
 loop-again : tie.Need-loop-again Inv-loop μ-loop
 loop-again c =
     let h = c .before .before .before .before in
-    (search needs, sym (apart-next (h .before .args .t1) (h .loop .pin) (omega arith) (c .before .too-near-any .ensures) (c .if1 .left)) ∙ h .loop .inv .1)
+    let f = front Absent (h .before .args .t1) (h .loop .pin) (omega arith) in
+    (search needs, sym (two-next f spotsTooNear (c .before .too-near-any .ensures) (c .if1 .left)) ∙ h .loop .inv .1)
 
 returns-2 : tie.Need-returns-2 Inv-loop μ-loop
 returns-2 c =
     let h = c .before in
-    sym (apart-end (h .before .args .t1) (h .loop .pin) (omega arith)) ∙ h .loop .inv .1
+    sym (two-end (drop-of-length-le (h .before .args .t1) {i = h .loop .pin} (omega arith)) spotsTooNear) ∙ h .loop .inv .1
 
 pub are-apart-spec : {M : Type 1} → statement M
 are-apart-spec =

@@ -4,9 +4,11 @@ use borrow.Author.Tests.{not-true, not-false}
 use native.Mathlib.Omega.{arith}
 use mathlib.Core.Path.{_≡_, refl, sym, _∙_}
 use Prim.Native.Nat.{_≤_, _-_}
-use lib.ListN.{drop}
-use Rattle.feed.specs.Feeds.{mostPins, allWithin}
-use Rattle.feed.proofs.Loops.{within-stop, within-next, within-end}
+use lib.ListN.{drop, drop-of-length-le}
+use Rattle.refusal.proofs.Lists.{front}
+use Rattle.refusal.proofs.Anyone.{each-stop, each-next, each-end}
+use Rattle.feed.specs.declared.Spot.the-variants.{Absent}
+use Rattle.feed.specs.Feeds.{mostPins, within, allWithin}
 use Rattle.feed.proofs.are_within.Statement.{statement}
 use Rattle.feed.proofs.are_within.Tie as tie
 
@@ -31,7 +33,8 @@ is-within-requires c κs = search needs
 returns : tie.Need-returns Inv-loop μ-loop
 returns c =
     let h = c .before .before .before .before in
-    sym (within-stop (h .before .args .t1) (h .loop .pin) (omega arith) (c .before .is-within .ensures) (not-true _ (c .if1 .taken))) ∙ h .loop .inv .1
+    let f = front Absent (h .before .args .t1) (h .loop .pin) (omega arith) in
+    sym (each-stop f within (c .before .is-within .ensures) (not-true _ (c .if1 .taken))) ∙ h .loop .inv .1
 
 add-pin : tie.Need-add-pin Inv-loop μ-loop
 add-pin c = search needs
@@ -42,12 +45,13 @@ loop-less c = search needs
 loop-again : tie.Need-loop-again Inv-loop μ-loop
 loop-again c =
     let h = c .before .before .before .before in
-    (search needs, sym (within-next (h .before .args .t1) (h .loop .pin) (omega arith) (c .before .is-within .ensures) (not-false _ (c .if1 .left))) ∙ h .loop .inv .1)
+    let f = front Absent (h .before .args .t1) (h .loop .pin) (omega arith) in
+    (search needs, sym (each-next f within (c .before .is-within .ensures) (not-false _ (c .if1 .left))) ∙ h .loop .inv .1)
 
 returns-2 : tie.Need-returns-2 Inv-loop μ-loop
 returns-2 c =
     let h = c .before in
-    sym (within-end (h .before .args .t1) (h .loop .pin) (omega arith)) ∙ h .loop .inv .1
+    sym (each-end (drop-of-length-le (h .before .args .t1) {i = h .loop .pin} (omega arith)) within) ∙ h .loop .inv .1
 
 pub are-within-spec : {M : Type 1} → statement M
 are-within-spec =

@@ -4,7 +4,7 @@ use borrow.Author.Tests.{not-true, not-false}
 use mathlib.Core.Path.{sym, ap, _∙_}
 use mathlib.Core.Bool.{not}
 use Rattle.refusal.proofs.Tests.{both-no, both-yes}
-use Rattle.feed.specs.Feeds.{settled}
+use Rattle.feed.specs.Settled.{settled}
 use Rattle.feed.proofs.is_settled.Statement.{statement}
 use Rattle.feed.proofs.is_settled.Tie as tie
 

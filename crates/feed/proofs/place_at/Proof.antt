@@ -1,5 +1,5 @@
 -- `feed::place_at` meets its contract, by the arm taken. Assumes nothing.
-use mathlib.Core.Path.{sym, ap}
+use mathlib.Core.Path.{sym, ap, _∙_}
 use native.Mathlib.Omega.{arith}
 use lib.ListN.{List·getD-eq-default}
 use Rattle.feed.specs.declared.Spot.the-variants.{Absent}
@@ -20,9 +20,12 @@ place-of-requires c κs = search needs
 returns : tie.Need-returns
 returns c = search needs
 
+middle-requires : tie.Need-middle-requires
+middle-requires c κs = search needs
+
 returns-2 : tie.Need-returns-2
-returns-2 c = sym (ap placeOf (List·getD-eq-default (c .before .args .t1) Absent (omega arith)))
+returns-2 c = c .middle .ensures ∙ sym (ap placeOf (List·getD-eq-default (c .before .before .args .t1) Absent (omega arith)))
 
 pub place-at-spec : {M : Type 1} → statement M
 place-at-spec =
-    tie.close (tie.spec mul-spot array-copy-out-spot place-of-requires returns returns-2)
+    tie.close (tie.spec mul-spot array-copy-out-spot place-of-requires returns middle-requires returns-2)

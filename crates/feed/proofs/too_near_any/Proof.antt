@@ -3,9 +3,11 @@ use borrow.Author.Needs.{needs}
 use native.Mathlib.Omega.{arith}
 use mathlib.Core.Path.{_≡_, refl, sym, _∙_}
 use Prim.Native.Nat.{_≤_, _-_}
-use lib.ListN.{drop}
-use Rattle.feed.specs.Feeds.{mostPins, tooNearAny}
-use Rattle.feed.proofs.Loops.{near-hit, near-miss, near-end}
+use lib.ListN.{drop, drop-of-length-le}
+use Rattle.refusal.proofs.Lists.{front}
+use Rattle.refusal.proofs.Anyone.{any-hit, any-miss, any-end}
+use Rattle.feed.specs.declared.Spot.the-variants.{Absent}
+use Rattle.feed.specs.Feeds.{mostPins, spotsTooNear, tooNearAny}
 use Rattle.feed.proofs.too_near_any.Statement.{statement}
 use Rattle.feed.proofs.too_near_any.Tie as tie
 
@@ -31,7 +33,7 @@ returns : tie.Need-returns Inv-loop μ-loop
 returns c =
     let h = c .before .before .before .before in
     let a = h .before .args in
-    sym (near-hit (a .t2) (h .loop .number) (omega arith) (a .spot) (c .before .are-too-near .ensures) (c .if1 .taken)) ∙ h .loop .inv .1
+    sym (any-hit (front Absent (a .t2) (h .loop .number) (omega arith)) (spotsTooNear (a .spot)) (c .before .are-too-near .ensures) (c .if1 .taken)) ∙ h .loop .inv .1
 
 add-number : tie.Need-add-number Inv-loop μ-loop
 add-number c = search needs
@@ -43,12 +45,13 @@ loop-again : tie.Need-loop-again Inv-loop μ-loop
 loop-again c =
     let h = c .before .before .before .before in
     let a = h .before .args in
-    (search needs, sym (near-miss (a .t2) (h .loop .number) (omega arith) (a .spot) (c .before .are-too-near .ensures) (c .if1 .left)) ∙ h .loop .inv .1)
+    let f = front Absent (a .t2) (h .loop .number) (omega arith) in
+    (search needs, sym (any-miss f (spotsTooNear (a .spot)) (c .before .are-too-near .ensures) (c .if1 .left)) ∙ h .loop .inv .1)
 
 returns-2 : tie.Need-returns-2 Inv-loop μ-loop
 returns-2 c =
     let h = c .before in
-    sym (near-end (h .before .args .t2) (h .loop .number) (omega arith) (h .before .args .spot)) ∙ h .loop .inv .1
+    sym (any-end (drop-of-length-le (h .before .args .t2) {i = h .loop .number} (omega arith)) (spotsTooNear (h .before .args .spot))) ∙ h .loop .inv .1
 
 pub too-near-any-spec : {M : Type 1} → statement M
 too-near-any-spec =

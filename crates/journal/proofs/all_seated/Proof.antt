@@ -2,10 +2,11 @@
 use mathlib.Core.Path.{_≡_, refl, sym, _∙_}
 use Prim.Native.Nat.{_-_, _≤_}
 use native.Mathlib.Omega.{arith}
+use borrow.Author.Tests.{lt-ltb, le-ltb}
 use lib.ListN.{length, take, drop}
-use Rattle.journal.specs.Journal.{seated}
-use Rattle.journal.proofs.Passing.{next, none-left}
-use Rattle.journal.proofs.Seated.{seated-yes, seated-no, seated-nil}
+use Rattle.refusal.proofs.Lists.{front-of, none-left}
+use Rattle.refusal.proofs.Anyone.{each-next, each-stop, each-end}
+use Rattle.journal.specs.Journal.{blank, ofDesk, seated}
 use Rattle.journal.proofs.all_seated.Statement.{statement}
 use Rattle.journal.proofs.all_seated.Tie as tie
 
@@ -36,7 +37,7 @@ loop-again c =
     let o = t .before .loop in
     let a = t .before .before .args in
     let f : a .used ≤ length (a .t1) = omega arith in
-    (omega arith, o .inv .1 ∙ rw (next (a .t1) (a .used) (o .i) f (t .loop-test .taken)) (seated-yes _ _ (c .if1 .taken)))
+    (omega arith, o .inv .1 ∙ each-next (front-of blank (a .t1) (a .used) (o .i) f (t .loop-test .taken)) ofDesk refl (lt-ltb _ _ (c .if1 .taken)))
 
 returns : tie.Need-returns Inv-loop μ-loop
 returns c =
@@ -44,14 +45,13 @@ returns c =
     let o = t .before .loop in
     let a = t .before .before .args in
     let f : a .used ≤ length (a .t1) = omega arith in
-    sym (o .inv .1 ∙ rw (next (a .t1) (a .used) (o .i) f (t .loop-test .taken)) (seated-no _ _ (c .if1 .left)))
+    sym (o .inv .1 ∙ each-stop (front-of blank (a .t1) (a .used) (o .i) f (t .loop-test .taken)) ofDesk refl (le-ltb _ _ (c .if1 .left)))
 
 returns-2 : tie.Need-returns-2 Inv-loop μ-loop
 returns-2 c =
     let a = c .before .before .args in
     let o = c .before .loop in
-    let f : a .used ≤ length (a .t1) = omega arith in
-    sym (o .inv .1 ∙ rw (none-left (a .t1) (a .used) (o .i) f (c .loop-test .left)) seated-nil)
+    sym (o .inv .1 ∙ each-end (none-left (a .t1) (a .used) (o .i) (c .loop-test .left)) ofDesk)
 
 pub all-seated-spec : {M : Type 1} → statement M
 all-seated-spec =

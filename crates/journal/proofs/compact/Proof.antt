@@ -53,7 +53,8 @@ loop-again c =
     let w : o .written < mostRecords = omega arith in (
       omega arith,
       omega arith,
-      drop-keep (a .t1) (a .used) (a .seat) (a .keep) (o .i) (o .out) (o .written) (o .left) f (t .loop-test .taken) (o .inv .2) w (c .before .if1 .taken) (c .if2 .taken),
+      drop-keep (a .t1) (a .used) (a .seat) (a .keep) (o .i) (o .out) (o .written) (o .left) f (t .loop-test .taken) (o .inv .2) w
+          (c .before .if1 .taken) (c .if2 .taken),
     )
 
 loop-less-2 : tie.Need-loop-less-2 Inv-loop μ-loop

@@ -1,15 +1,13 @@
 -- `least::pin_best` and `least::run_best` meet their contracts: the pin's function asks the runs that lead on from it, a run's the pin at its
--- far end. The measure is twice the number of pins not yet visited, and one more for a run. A need looks back by letters: o is the state at the start, s that of
--- the loop. Assumes nothing.
+-- far end. The measure is twice the number of pins not yet visited, and one more for a run. A need looks back by letters: o is the state at the
+-- start, s that of the loop. Assumes nothing.
 use mathlib.Core.Path.{refl}
 use mathlib.Core.Logic.{⊎-elim}
 use Prim.Native.Nat.{ℕ, _+_, _-_, _*_, _<_}
 use native.Mathlib.Omega.{arith}
 use borrow.Fn.Kinds.{In}
 use borrow.Fn.PlainCycle.{Measures, is, falls, and}
-use Rattle.least.proofs.first_tally.Reads as first-tally
-use Rattle.least.proofs.is_bent_into.Reads as is-bent-into
-use Rattle.least.proofs.weigh.Reads as weigh
+use Rattle.least.proofs.pin_answer.Reads as pin-answer
 use Rattle.least.proofs.mark.Reads as mark
 use Rattle.least.proofs.pin_best.Reads as pin-best
 use Rattle.least.proofs.pin_best.Kinds as pin-best-kinds
@@ -19,94 +17,92 @@ use Rattle.least.proofs.+pin_best+run_best.Lts-pin_best as pin-best-lts
 use Rattle.least.proofs.+pin_best+run_best.Lts-run_best as run-best-lts
 use Rattle.least.proofs.+pin_best+run_best.{statement}
 use Rattle.least.proofs.+pin_best+run_best.Tie.{close}
-use Rattle.least.proofs.Collecting.{Collected, pin-in, begin, room, asks, miss, adds, hit, weighs, fits-one, fits-two, answer-straight, answer-bent, fits-lower, fits-upper, run-answer}
+use Rattle.least.proofs.Collecting.{Collecting, begin, room, asks, miss, adds, hit, collected, fits-lower, fits-upper, run-answer}
 
-abbrev μ-pin-best : Measures 3 pin-best-kinds.ps ℕ
-μ-pin-best κs a = 2 * (a .1 .1 .1 .1 .0 - a .1 .1 .1 .1 .1 .0)
+abbrev μ-pin-best : Measures 0 pin-best-kinds.ps ℕ
+μ-pin-best κs a = 2 * (a .0 .count - a .1 .0)
 
-abbrev μ-run-best : Measures 3 run-best-kinds.ps ℕ
-μ-run-best κs a = 2 * (a .1 .1 .1 .1 .0 - (a .1 .1 .1 .1 .1 .0 + 1)) + 1
+abbrev μ-run-best : Measures 0 run-best-kinds.ps ℕ
+μ-run-best κs a = 2 * (a .0 .count - (a .1 .0 + 1)) + 1
 
 -- What each is given at the measure t, and what a call of it asks below t.
-abbrev pin-best-at : ℕ → In 3 pin-best-kinds.ps
-pin-best-at t = and 3 pin-best-kinds.ps (is 3 pin-best-kinds.ps μ-pin-best t) pin-best.Pre
+abbrev pin-best-at : ℕ → In 0 pin-best-kinds.ps
+pin-best-at t = and 0 pin-best-kinds.ps (is 0 pin-best-kinds.ps μ-pin-best t) pin-best.Pre
 
-abbrev pin-best-below : ℕ → In 3 pin-best-kinds.ps
-pin-best-below t = and 3 pin-best-kinds.ps (falls 3 pin-best-kinds.ps _<_ μ-pin-best t) pin-best.Pre
+abbrev pin-best-below : ℕ → In 0 pin-best-kinds.ps
+pin-best-below t = and 0 pin-best-kinds.ps (falls 0 pin-best-kinds.ps _<_ μ-pin-best t) pin-best.Pre
 
-abbrev run-best-at : ℕ → In 3 run-best-kinds.ps
-run-best-at t = and 3 run-best-kinds.ps (is 3 run-best-kinds.ps μ-run-best t) run-best.Pre
+abbrev run-best-at : ℕ → In 0 run-best-kinds.ps
+run-best-at t = and 0 run-best-kinds.ps (is 0 run-best-kinds.ps μ-run-best t) run-best.Pre
 
-abbrev run-best-below : ℕ → In 3 run-best-kinds.ps
-run-best-below t = and 3 run-best-kinds.ps (falls 3 run-best-kinds.ps _<_ μ-run-best t) run-best.Pre
+abbrev run-best-below : ℕ → In 0 run-best-kinds.ps
+run-best-below t = and 0 run-best-kinds.ps (falls 0 run-best-kinds.ps _<_ μ-run-best t) run-best.Pre
 
 -- What the functions that they call ask and ensure.
 abbrev pin-calls : ℕ → pin-best-lts.Claims
-pin-calls t =
-    (run-best-below t, run-best.Post, first-tally.Asked, first-tally.Learnt, weigh.Asked, weigh.Learnt, is-bent-into.Asked, is-bent-into.Learnt)
+pin-calls t = (run-best-below t, run-best.Post, pin-answer.Asked, pin-answer.Learnt)
 
 abbrev run-calls : ℕ → run-best-lts.Claims
 run-calls t = (pin-best-below t, pin-best.Post, mark.Asked, mark.Learnt)
 
 abbrev pin-best-Inv-loop : pin-best-lts.InvT-loop
-pin-best-Inv-loop xs ys near favoured count pin lower₀ upper₀ weighed₀ run₀ lower upper weighed run =
-    Collected xs ys near favoured count pin lower upper weighed run
+pin-best-Inv-loop pin tree lower₀ upper₀ weighed₀ run₀ lower upper weighed run = Collecting tree pin lower upper weighed run
 
 abbrev pin-best-μ-loop : pin-best-lts.MeasureT-loop
-pin-best-μ-loop xs ys near favoured count pin lower₀ upper₀ weighed₀ run₀ lower upper weighed run = count - run
+pin-best-μ-loop pin tree lower₀ upper₀ weighed₀ run₀ lower upper weighed run = tree .count - run
 
 pin-best-loop-holds : (t : ℕ) → pin-best-lts.Need-loop-holds (pin-calls t) (pin-best-at t) pin-best.Post pin-best-Inv-loop pin-best-μ-loop
-pin-best-loop-holds t c = begin _ _ _ _ _ _ _ _ refl refl (c .pre .1)
+pin-best-loop-holds t c = begin _ _ _ _ refl refl (c .pre .1)
 
 pin-best-mul-if1 : (t : ℕ) → pin-best-lts.Need-mul-if1 (pin-calls t) (pin-best-at t) pin-best.Post pin-best-Inv-loop pin-best-μ-loop
-pin-best-mul-if1 t c = record { fits = omega (arith, room _ _ _ _ _ _ _ _ _ _ (c .before .loop .inv) (c .loop-test .taken)) }
+pin-best-mul-if1 t c = record { fits = omega (arith, room _ _ _ _ _ _ (c .before .loop .inv) (c .loop-test .taken)) }
 
 pin-best-element-copy-out-if1 : (t : ℕ) → pin-best-lts.Need-element-copy-out-if1 (pin-calls t) (pin-best-at t) pin-best.Post pin-best-Inv-loop pin-best-μ-loop
-pin-best-element-copy-out-if1 t c = room _ _ _ _ _ _ _ _ _ _ (c .before .loop .inv) (c .loop-test .taken)
+pin-best-element-copy-out-if1 t c = room _ _ _ _ _ _ (c .before .loop .inv) (c .loop-test .taken)
 
 pin-best-run-best-requires : (t : ℕ) → pin-best-lts.Need-run-best-requires (pin-calls t) (pin-best-at t) pin-best.Post pin-best-Inv-loop pin-best-μ-loop
 pin-best-run-best-requires t c κs =
     let k = c .before .before in
     let s = k .before in
     let o = s .before in
-    (omega (arith, o .pre .0, k .loop-test .taken, s .loop .inv .from), asks _ _ _ _ _ _ _ _ _ _ (s .loop .inv) (k .loop-test .taken) (c .if1 .taken))
+    (omega (arith, o .pre .0, k .loop-test .taken, s .loop .inv .from), asks _ _ _ _ _ _ (s .loop .inv) (k .loop-test .taken) (c .if1 .taken))
 
 pin-best-mul-lower : (t : ℕ) → pin-best-lts.Need-mul-lower (pin-calls t) (pin-best-at t) pin-best.Post pin-best-Inv-loop pin-best-μ-loop
 pin-best-mul-lower t c =
     let k = c .before .before .before in
     let s = k .before in
-    record { fits = omega (arith, room _ _ _ _ _ _ _ _ _ _ (s .loop .inv) (k .loop-test .taken)) }
+    record { fits = omega (arith, room _ _ _ _ _ _ (s .loop .inv) (k .loop-test .taken)) }
 
 pin-best-array-write-lower : (t : ℕ) → pin-best-lts.Need-array-write-lower (pin-calls t) (pin-best-at t) pin-best.Post pin-best-Inv-loop pin-best-μ-loop
 pin-best-array-write-lower t c =
     let k = c .before .before .before in
     let s = k .before in
-    room _ _ _ _ _ _ _ _ _ _ (s .loop .inv) (k .loop-test .taken)
+    room _ _ _ _ _ _ (s .loop .inv) (k .loop-test .taken)
 
 pin-best-mul-upper : (t : ℕ) → pin-best-lts.Need-mul-upper (pin-calls t) (pin-best-at t) pin-best.Post pin-best-Inv-loop pin-best-μ-loop
 pin-best-mul-upper t c =
     let k = c .before .before .before in
     let s = k .before in
-    record { fits = omega (arith, room _ _ _ _ _ _ _ _ _ _ (s .loop .inv) (k .loop-test .taken)) }
+    record { fits = omega (arith, room _ _ _ _ _ _ (s .loop .inv) (k .loop-test .taken)) }
 
 pin-best-array-write-upper : (t : ℕ) → pin-best-lts.Need-array-write-upper (pin-calls t) (pin-best-at t) pin-best.Post pin-best-Inv-loop pin-best-μ-loop
 pin-best-array-write-upper t c =
     let k = c .before .before .before in
     let s = k .before in
-    room _ _ _ _ _ _ _ _ _ _ (s .loop .inv) (k .loop-test .taken)
+    room _ _ _ _ _ _ (s .loop .inv) (k .loop-test .taken)
 
 pin-best-add-weighed : (t : ℕ) → pin-best-lts.Need-add-weighed (pin-calls t) (pin-best-at t) pin-best.Post pin-best-Inv-loop pin-best-μ-loop
 pin-best-add-weighed t c =
     let a = c .before .before in
     let k = a .before .before in
     let s = k .before in
-    record { fits = adds _ _ _ _ _ _ _ _ _ _ (s .loop .inv) (k .loop-test .taken) (a .if1 .taken) _ (c .before .run-best .ensures) }
+    record { fits = adds _ _ _ _ _ _ (s .loop .inv) (k .loop-test .taken) (a .if1 .taken) _ (c .before .run-best .ensures) }
 
 pin-best-add-run : (t : ℕ) → pin-best-lts.Need-add-run (pin-calls t) (pin-best-at t) pin-best.Post pin-best-Inv-loop pin-best-μ-loop
 pin-best-add-run t c =
     let k = c .before .before in
     let s = k .before in
-    record { fits = omega (arith, room _ _ _ _ _ _ _ _ _ _ (s .loop .inv) (k .loop-test .taken)) }
+    record { fits = omega (arith, room _ _ _ _ _ _ (s .loop .inv) (k .loop-test .taken)) }
 
 pin-best-loop-less : (t : ℕ) → pin-best-lts.Need-loop-less (pin-calls t) (pin-best-at t) pin-best.Post pin-best-Inv-loop pin-best-μ-loop
 pin-best-loop-less t c = omega (arith, c .before .before .loop-test .taken)
@@ -114,110 +110,41 @@ pin-best-loop-less t c = omega (arith, c .before .before .loop-test .taken)
 pin-best-loop-again : (t : ℕ) → pin-best-lts.Need-loop-again (pin-calls t) (pin-best-at t) pin-best.Post pin-best-Inv-loop pin-best-μ-loop
 pin-best-loop-again t c =
     ⊎-elim
-    (λ w. rw (w .3, w .4, w .5) (hit _ _ _ _ _ _ _ _ _ _ (c .before .before .before .loop .inv) (c .before .before .loop-test .taken) (w .0 .taken) _ (w .1 .ensures)))
-    (λ w. rw (w .1, w .2, w .3) (miss _ _ _ _ _ _ _ _ _ _ (c .before .before .before .loop .inv) (c .before .before .loop-test .taken) (w .0 .left)))
+    (λ w. rw (w .3, w .4, w .5) (hit _ _ _ _ _ _ (c .before .before .before .loop .inv) (c .before .before .loop-test .taken) (w .0 .taken) _ (w .1 .ensures)))
+    (λ w. rw (w .1, w .2, w .3) (miss _ _ _ _ _ _ (c .before .before .before .loop .inv) (c .before .before .loop-test .taken) (w .0 .left)))
     (c .if1 .came)
 
-pin-best-first-tally-requires : (t : ℕ) → pin-best-lts.Need-first-tally-requires (pin-calls t) (pin-best-at t) pin-best.Post pin-best-Inv-loop pin-best-μ-loop
-pin-best-first-tally-requires t c κs = pin-in _ _ _ _ _ (c .before .before .pre .1)
-
-pin-best-weigh-requires : (t : ℕ) → pin-best-lts.Need-weigh-requires (pin-calls t) (pin-best-at t) pin-best.Post pin-best-Inv-loop pin-best-μ-loop
-pin-best-weigh-requires t c κs =
-    let d = c .before .before in
-    let k = d .before in
-    let s = k .before in
-    weighs _ _ _ _ _ _ _ _ _ _ (s .loop .inv) (k .loop-test .left) _ _ (d .first-tally .ensures)
-
-pin-best-is-bent-into-requires : (t : ℕ) → pin-best-lts.Need-is-bent-into-requires (pin-calls t) (pin-best-at t) pin-best.Post pin-best-Inv-loop pin-best-μ-loop
-pin-best-is-bent-into-requires t c κs = pin-in _ _ _ _ _ (c .before .before .before .before .before .before .pre .1)
-
-pin-best-add-t30 : (t : ℕ) → pin-best-lts.Need-add-t30 (pin-calls t) (pin-best-at t) pin-best.Post pin-best-Inv-loop pin-best-μ-loop
-pin-best-add-t30 t c =
-    let w = c .before .before .before in
-    let d = w .before .before .before in
-    let k = d .before in
-    let s = k .before in
-    record { fits = fits-one _ _ _ _ _ _ _ _ _ _ (s .loop .inv) (k .loop-test .left) _ _ (d .first-tally .ensures) (w .weigh .ensures) }
+pin-best-pin-answer-requires : (t : ℕ) → pin-best-lts.Need-pin-answer-requires (pin-calls t) (pin-best-at t) pin-best.Post pin-best-Inv-loop pin-best-μ-loop
+pin-best-pin-answer-requires t c κs = collected _ _ _ _ _ _ (c .before .loop .inv) (c .loop-test .left)
 
 pin-best-returns : (t : ℕ) → pin-best-lts.Need-returns (pin-calls t) (pin-best-at t) pin-best.Post pin-best-Inv-loop pin-best-μ-loop
-pin-best-returns t c =
-    let f = c .before .before in
-    let w = f .before in
-    let d = w .before .before .before in
-    let k = d .before in
-    let s = k .before in
-    answer-straight _ _ _ _ _ _ _ _ _ _ (s .loop .inv) (k .loop-test .left) _ _ (d .first-tally .ensures) (w .weigh .ensures)
-    _ (f .is-bent-into .ensures) (c .before .if2 .taken)
-
-pin-best-first-tally-requires-2 : (t : ℕ) → pin-best-lts.Need-first-tally-requires-2 (pin-calls t) (pin-best-at t) pin-best.Post pin-best-Inv-loop pin-best-μ-loop
-pin-best-first-tally-requires-2 t c κs = pin-in _ _ _ _ _ (c .before .before .before .before .before .before .before .before .pre .1)
-
-pin-best-weigh-requires-2 : (t : ℕ) → pin-best-lts.Need-weigh-requires-2 (pin-calls t) (pin-best-at t) pin-best.Post pin-best-Inv-loop pin-best-μ-loop
-pin-best-weigh-requires-2 t c κs =
-    let h = c .before .before in
-    let k = h .before .before .before .before .before .before .before in
-    let s = k .before in
-    weighs _ _ _ _ _ _ _ _ _ _ (s .loop .inv) (k .loop-test .left) _ _ (h .first-tally2 .ensures)
-
-pin-best-add-t33 : (t : ℕ) → pin-best-lts.Need-add-t33 (pin-calls t) (pin-best-at t) pin-best.Post pin-best-Inv-loop pin-best-μ-loop
-pin-best-add-t33 t c =
-    let w = c .before .before .before .before .before .before .before in
-    let d = w .before .before .before in
-    let k = d .before in
-    let s = k .before in
-    record { fits = fits-one _ _ _ _ _ _ _ _ _ _ (s .loop .inv) (k .loop-test .left) _ _ (d .first-tally .ensures) (w .weigh .ensures) }
-
-pin-best-add-t34 : (t : ℕ) → pin-best-lts.Need-add-t34 (pin-calls t) (pin-best-at t) pin-best.Post pin-best-Inv-loop pin-best-μ-loop
-pin-best-add-t34 t c =
-    let e = c .before .before in
-    let h = e .before .before .before in
-    let w = h .before .before .before in
-    let d = w .before .before .before in
-    let k = d .before in
-    let s = k .before in
-    record {
-      fits = fits-two _ _ _ _ _ _ _ _ _ _ (s .loop .inv) (k .loop-test .left) _ _ (d .first-tally .ensures) (w .weigh .ensures)
-          _ _ (h .first-tally2 .ensures) (e .weigh2 .ensures);
-    }
-
-pin-best-returns-2 : (t : ℕ) → pin-best-lts.Need-returns-2 (pin-calls t) (pin-best-at t) pin-best.Post pin-best-Inv-loop pin-best-μ-loop
-pin-best-returns-2 t c =
-    let e = c .before .before in
-    let h = e .before .before .before in
-    let b = h .before in
-    let f = b .before in
-    let w = f .before in
-    let d = w .before .before .before in
-    let k = d .before in
-    let s = k .before in
-    answer-bent _ _ _ _ _ _ _ _ _ _ (s .loop .inv) (k .loop-test .left) _ _ (d .first-tally .ensures) (w .weigh .ensures)
-    _ _ (h .first-tally2 .ensures) (e .weigh2 .ensures) _ (f .is-bent-into .ensures) (b .if2 .left)
+pin-best-returns t c = c .pin-answer .ensures
 
 run-best-add-pin-best : (t : ℕ) → run-best-lts.Need-add-pin-best (run-calls t) (run-best-at t) run-best.Post
-run-best-add-pin-best t c = record { fits = omega (arith, c .pre .1 .upto, c .pre .1 .tree .few) }
+run-best-add-pin-best t c = record { fits = omega (arith, c .pre .1 .upto, c .pre .1 .grown .few) }
 
 run-best-pin-best-requires : (t : ℕ) → run-best-lts.Need-pin-best-requires (run-calls t) (run-best-at t) run-best.Post
 run-best-pin-best-requires t c κs = (omega (arith, c .pre .0), c .pre .1)
 
 run-best-mark-requires : (t : ℕ) → run-best-lts.Need-mark-requires (run-calls t) (run-best-at t) run-best.Post
-run-best-mark-requires t c κs = omega (arith, c .before .pre .1 .upto, c .before .pre .1 .tree .few)
+run-best-mark-requires t c κs = omega (arith, c .before .pre .1 .upto, c .before .pre .1 .grown .few)
 
 run-best-mark-requires-2 : (t : ℕ) → run-best-lts.Need-mark-requires-2 (run-calls t) (run-best-at t) run-best.Post
-run-best-mark-requires-2 t c κs = omega (arith, c .before .before .pre .1 .upto, c .before .before .pre .1 .tree .few)
+run-best-mark-requires-2 t c κs = omega (arith, c .before .before .pre .1 .upto, c .before .before .pre .1 .grown .few)
 
-run-best-add-t11 : (t : ℕ) → run-best-lts.Need-add-t11 (run-calls t) (run-best-at t) run-best.Post
-run-best-add-t11 t c =
+run-best-add-t7 : (t : ℕ) → run-best-lts.Need-add-t7 (run-calls t) (run-best-at t) run-best.Post
+run-best-add-t7 t c =
     let m = c .before .before in
     let p = m .before in
     let o = p .before in
-    record { fits = fits-lower _ _ _ _ _ _ (o .pre .1) _ (p .pin-best .ensures) _ (m .mark .ensures) }
+    record { fits = fits-lower _ _ (o .pre .1) _ (p .pin-best .ensures) _ (m .mark .ensures) }
 
-run-best-add-t12 : (t : ℕ) → run-best-lts.Need-add-t12 (run-calls t) (run-best-at t) run-best.Post
-run-best-add-t12 t c =
+run-best-add-t8 : (t : ℕ) → run-best-lts.Need-add-t8 (run-calls t) (run-best-at t) run-best.Post
+run-best-add-t8 t c =
     let n = c .before .before in
     let p = n .before .before in
     let o = p .before in
-    record { fits = fits-upper _ _ _ _ _ _ (o .pre .1) _ (p .pin-best .ensures) _ (n .mark2 .ensures) }
+    record { fits = fits-upper _ _ (o .pre .1) _ (p .pin-best .ensures) _ (n .mark2 .ensures) }
 
 run-best-returns : (t : ℕ) → run-best-lts.Need-returns (run-calls t) (run-best-at t) run-best.Post
 run-best-returns t c =
@@ -225,7 +152,7 @@ run-best-returns t c =
     let m = n .before in
     let p = m .before in
     let o = p .before in
-    run-answer _ _ _ _ _ _ (o .pre .1) _ (p .pin-best .ensures) _ _ (m .mark .ensures) (n .mark2 .ensures)
+    run-answer _ _ (o .pre .1) _ (p .pin-best .ensures) _ _ (m .mark .ensures) (n .mark2 .ensures)
 
 pub +pin-best+run-best-spec : {M : Type 1} → statement M
 +pin-best+run-best-spec =
@@ -244,22 +171,14 @@ pub +pin-best+run-best-spec : {M : Type 1} → statement M
     (pin-best-add-run t)
     (pin-best-loop-less t)
     (pin-best-loop-again t)
-    (pin-best-first-tally-requires t)
-    (pin-best-weigh-requires t)
-    (pin-best-is-bent-into-requires t)
-    (pin-best-add-t30 t)
-    (pin-best-returns t)
-    (pin-best-first-tally-requires-2 t)
-    (pin-best-weigh-requires-2 t)
-    (pin-best-add-t33 t)
-    (pin-best-add-t34 t)
-    (pin-best-returns-2 t))
+    (pin-best-pin-answer-requires t)
+    (pin-best-returns t))
     (λ t.
     run-best-lts.spec (run-calls t) (run-best-at t) run-best.Post
     (run-best-add-pin-best t)
     (run-best-pin-best-requires t)
     (run-best-mark-requires t)
     (run-best-mark-requires-2 t)
-    (run-best-add-t11 t)
-    (run-best-add-t12 t)
+    (run-best-add-t7 t)
+    (run-best-add-t8 t)
     (run-best-returns t))

@@ -4,31 +4,31 @@ use borrow.Author.Needs.{needs}
 use Rattle.least.proofs.ends_of.Statement.{statement}
 use Rattle.least.proofs.ends_of.Tie as tie
 
-mul-place-at : tie.Need-mul-place-at
-mul-place-at c = search needs
+mul-pin-place : tie.Need-mul-pin-place
+mul-pin-place c = search needs
 
-element-copy-out-place-at : tie.Need-element-copy-out-place-at
-element-copy-out-place-at c = search needs
+element-copy-out-pin-place : tie.Need-element-copy-out-pin-place
+element-copy-out-pin-place c = search needs
 
-place-at-requires : tie.Need-place-at-requires
-place-at-requires c κs = search needs
+pin-place-requires : tie.Need-pin-place-requires
+pin-place-requires c κs = search needs
 
-add-place-at : tie.Need-add-place-at
-add-place-at c = search needs
+add-pin-place : tie.Need-add-pin-place
+add-pin-place c = search needs
 
-place-at-requires-2 : tie.Need-place-at-requires-2
-place-at-requires-2 c κs = search needs
+pin-place-requires-2 : tie.Need-pin-place-requires-2
+pin-place-requires-2 c κs = search needs
 
 returns : tie.Need-returns
-returns c = rw (c .before .place-at .ensures, c .place-at2 .ensures, add-one)
+returns c = rw (c .before .pin-place .ensures, c .pin-place2 .ensures, add-one)
 
 pub ends-of-spec : {M : Type 1} → statement M
 ends-of-spec =
     tie.close
     (tie.spec
-    mul-place-at
-    element-copy-out-place-at
-    place-at-requires
-    add-place-at
-    place-at-requires-2
+    mul-pin-place
+    element-copy-out-pin-place
+    pin-place-requires
+    add-pin-place
+    pin-place-requires-2
     returns)

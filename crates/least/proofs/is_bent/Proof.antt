@@ -1,6 +1,6 @@
 -- `least::is_bent` meets its contract. Assumes nothing.
 use borrow.Author.Needs.{needs}
-use Rattle.least.specs.Asking.{isBent}
+use Rattle.copper.specs.Least.{isBent}
 use Rattle.least.proofs.is_bent.Statement.{statement}
 use Rattle.least.proofs.is_bent.Tie as tie
 

@@ -1,6 +1,6 @@
 -- `least::next_tally` meets its contract. Assumes nothing.
 use borrow.Author.Needs.{needs}
-use Rattle.least.specs.Asking.{nextTally}
+use Rattle.copper.specs.Least.{nextTally}
 use Rattle.least.proofs.next_tally.Statement.{statement}
 use Rattle.least.proofs.next_tally.Tie as tie
 

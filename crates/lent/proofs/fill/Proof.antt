@@ -50,10 +50,10 @@ use denote.Exit.{yes}
 use Rattle.copper.specs.declared.Leg.{Leg}
 use Rattle.copper.proofs.Leg as T
 use Rattle.copper.proofs.Leg.Laws as T′
-use Rattle.tree.proofs.Loops.{filled, filled-none}
+use Rattle.refusal.proofs.Lists.{overlaid, overlaid-none, overlaid-long}
 use Rattle.wiring.specs.declared.Laid.{Laid}
 use Rattle.wiring.specs.Answer.{mostLegs, noLeg}
-use Rattle.lent.proofs.Filling.{filled-many, leg-more, legs-all}
+use Rattle.lent.proofs.Filling.{leg-more, legs-all}
 use Rattle.wiring.proofs.Laid as S
 use Rattle.wiring.proofs.Laid.Laws as S′
 use Rattle.lent.proofs.count_of as count′
@@ -88,11 +88,13 @@ module _ {M : Type 1} (𝓤 : URA M) (H : Heap 𝓤) (A : Atoms 𝓤) (mem : Mem
   counted : (d : Laid) (r : ℕ) → ent 𝓤 (ensured 𝓤 H A count′.ended (count′.clauses 𝓤 H A mem run) tt (d, tt) tt r) (fact 𝓤 (r ≡ d .wiring .legs))
   counted d r = exE 𝓤 _ (λ ws. snd∗ 𝓤 (sem 𝓤 H A (lasts count′.ended tt (d, tt) ws)) (fact 𝓤 (r ≡ d .wiring .legs)))
 
-  got : (d : Laid) (i : ℕ) (r : Leg) → ent 𝓤 (ensured 𝓤 H A leg′.ended (leg′.clauses 𝓤 H A mem run) tt (d, (i, tt)) tt r) (fact 𝓤 (r ≡ getD (d .legs) i noLeg))
-  got d i r = exE 𝓤 _ (λ ws. snd∗ 𝓤 (sem 𝓤 H A (lasts leg′.ended tt (d, (i, tt)) ws)) (fact 𝓤 (r ≡ getD (d .legs) i noLeg)))
+  got : (d : Laid) (i : ℕ) (r : Leg) → ent 𝓤 (ensured 𝓤 H A leg′.ended (leg′.clauses 𝓤 H A mem run) tt (d, (i, tt)) tt r) (fact 𝓤 (r ≡ getD (d .list) i noLeg))
+  got d i r = exE 𝓤 _ (λ ws. snd∗ 𝓤 (sem 𝓤 H A (lasts leg′.ended tt (d, (i, tt)) ws)) (fact 𝓤 (r ≡ getD (d .list) i noLeg)))
 
-module _ {M : Type 1} (𝓤 : URA M) (H : Heap 𝓤) (A : Atoms 𝓤) (W : Given 𝓤 H A) (mem : Memory → SProp 𝓤) (run : Routine → Fun 𝓤) (κ : Lft) (q : Share) (b o : ℕ) (γ : GName) (lent : List Leg) (d : Laid)
-    (room : Room T.the-row (length lent)) (gd : Is S.the-row d (LL.vals S.the-type S′.the-laws d)) (fits : (d .wiring .legs ≤ mostLegs) × (d .wiring .legs ≤ length lent)) (long : length (d .legs) ≡ mostLegs) where
+module _ {M : Type 1} (𝓤 : URA M) (H : Heap 𝓤) (A : Atoms 𝓤) (W : Given 𝓤 H A) (mem : Memory → SProp 𝓤) (run : Routine → Fun 𝓤)
+    (κ : Lft) (q : Share) (b o : ℕ) (γ : GName) (lent : List Leg) (d : Laid)
+    (room : Room T.the-row (length lent)) (gd : Is S.the-row d (LL.vals S.the-type S′.the-laws d))
+    (fits : (d .wiring .legs ≤ mostLegs) × (d .wiring .legs ≤ length lent)) (long : length (d .list) ≡ mostLegs) where
   abbrev k : ℕ
   k = d .wiring .legs
 
@@ -119,21 +121,24 @@ module _ {M : Type 1} (𝓤 : URA M) (H : Heap 𝓤) (A : Atoms 𝓤) (W : Given
 
   -- the list with the first i legs filled in
   abbrev mix : ℕ → List Leg
-  mix i = filled (d .legs) lent i
+  mix i = overlaid (d .list) lent i
 
   mix-many : (i : ℕ) → i ≤ k → length (mix i) ≡ length lent
-  mix-many i l = filled-many (d .legs) lent i (omega (arith, long, fits .0)) (omega (arith, fits .1))
+  mix-many i l = overlaid-long (d .list) lent i (omega (arith, long, fits .0)) (omega (arith, fits .1))
 
   abbrev Post : Val → SProp 𝓤
   Post = walkOf 𝓤 H A f.ended stayed (f.clauses 𝓤 H A mem run) .post (((κ, tt), (q, tt), tt, a, at), tt)
 
-  exits : (i : ℕ) → i ≡ k → (e : length (mix i) ≡ length lent) → ent 𝓤 (⋆ 𝓤 H A (‵ (fobs γ (codedHoleys T.the-row .code (heres T.the-row (mix i)))) ∷ ‵ (fbor κ (Held T.the-row (length (mix i)) b o γ)) ∷ ‵ (flft κ q) ∷ []))
+  exits : (i : ℕ) → i ≡ k → (e : length (mix i) ≡ length lent)
+      → ent 𝓤 (⋆ 𝓤 H A (‵ (fobs γ (codedHoleys T.the-row .code (heres T.the-row (mix i)))) ∷ ‵ (fbor κ (Held T.the-row (length (mix i)) b o γ)) ∷ ‵ (flft κ q) ∷ []))
       (Post vunit)
   exits i is e =
       qed W (‵ (fobs γ (codedHoleys T.the-row .code (heres T.the-row (mix i)))) ∷ ‵ (fbor κ (Held T.the-row (length (mix i)) b o γ)) ∷ ‵ (flft κ q) ∷ []) ∵
-      suffices ! _ (ends-at 𝓤 H A f.ended stayed (f.clauses 𝓤 H A mem run) W (((κ, tt), (q, tt), tt, a, at), tt) vunit tt (tt, (mix i, tt)) (tt, (e, tt))) $ says ! (legs-all d lent i is) $
+      suffices ! _ (ends-at 𝓤 H A f.ended stayed (f.clauses 𝓤 H A mem run) W (((κ, tt), (q, tt), tt, a, at), tt) vunit tt (tt, (mix i, tt)) (tt, (e, tt))) $
+      says ! (legs-all d lent i is) $
       nothing ! $ move ! (3 ∷ 0 ∷ []) $ join ! $
-      frame ! $ fjoin ! $ pureI ! (at-slice T.the-row (x (mix i)) (at .1 .0)) (tt, (tt, tt)) (ap (λ (m : ℕ). sliceVal (b, o) m ∷ []) (sym e), subst (Room T.the-row) (sym e) room) $ fjoin ! $
+      frame ! $ fjoin ! $ pureI ! (at-slice T.the-row (x (mix i)) (at .1 .0)) (tt, (tt, tt))
+      (ap (λ (m : ℕ). sliceVal (b, o) m ∷ []) (sym e), subst (Room T.the-row) (sym e) room) $ fjoin ! $
       nothing ! $ move ! (1 ∷ 0 ∷ []) $ fjoin ! $ owned ! S.the-row (Is S.the-row) ((LL.makes S.the-type S′.the-plain) 𝓤 H A) d _ gd $ fjoin ! $ frame ! $
       feqI ! (List Val) (vunit ∷ []) (vunit ∷ []) refl $ done !
 
@@ -141,7 +146,8 @@ module _ {M : Type 1} (𝓤 : URA M) (H : Heap 𝓤) (A : Atoms 𝓤) (W : Given
   to-count = ((tt, tt, tt, (d, tt), (mach ∷ [], tt)), tt)
 
   goes-count : ent 𝓤 (emp 𝓤) (CountOf 𝓤 H A mem run .pre to-count)
-  goes-count = qed W [] ∵ nothing ! $ owned ! S.the-row (Is S.the-row) ((LL.makes S.the-type S′.the-plain) 𝓤 H A) d _ gd $ fjoin ! $ nothing ! $ join ! $ nothing ! $ move ! (1 ∷ 0 ∷ []) $ done !
+  goes-count = qed W [] ∵ nothing ! $ owned ! S.the-row (Is S.the-row) ((LL.makes S.the-type S′.the-plain) 𝓤 H A) d _ gd $ fjoin ! $ nothing ! $ join ! $
+      nothing ! $ move ! (1 ∷ 0 ∷ []) $ done !
 
   abbrev to-leg : ℕ → LegAt 𝓤 H A mem run .Ghost
   to-leg i = ((tt, tt, tt, (d, (i, tt)), (mach ∷ [], (vint w64 i ∷ [], tt))), tt)
@@ -178,10 +184,13 @@ module _ {M : Type 1} (𝓤 : URA M) (H : Heap 𝓤) (A : Atoms 𝓤) (W : Given
       En = (tyUnit, l₀) ∷ (S′.mir, l₁) ∷ (slice, l₂) ∷ (word, l₃) ∷ (word, l₄) ∷ (tyBool, l₅) ∷ (T′.mir, l₆) ∷ (word, l₇) ∷ (tyPtr, l₈) ∷ []
 
       abbrev At : Upto → List (Item 𝓤)
-      At i = ‵ (row T.the-row fullShare (mix (i .0)) b o) ∷ ‵ (fobor κ q (Held T.the-row (length lent) b o γ)) ∷ ‵ (fobs γ (codedHoleys T.the-row .code (heres T.the-row lent))) ∷ ‵ (fauth γ (codedHoleys T.the-row .code (heres T.the-row lent)))
-          ∷ ‵ (froom tyPtr l₈ 0) ∷ ‵ (fdies tyPtr l₈) ∷ ‵ (froom word l₇ 0) ∷ ‵ (fdies word l₇) ∷ ‵ (froom T′.mir l₆ 0) ∷ ‵ (fdies T′.mir l₆) ∷ ‵ (froom tyBool l₅ 0) ∷ ‵ (fdies tyBool l₅)
+      At i = ‵ (row T.the-row fullShare (mix (i .0)) b o) ∷ ‵ (fobor κ q (Held T.the-row (length lent) b o γ))
+          ∷ ‵ (fobs γ (codedHoleys T.the-row .code (heres T.the-row lent))) ∷ ‵ (fauth γ (codedHoleys T.the-row .code (heres T.the-row lent)))
+          ∷ ‵ (froom tyPtr l₈ 0) ∷ ‵ (fdies tyPtr l₈) ∷ ‵ (froom word l₇ 0) ∷ ‵ (fdies word l₇) ∷ ‵ (froom T′.mir l₆ 0) ∷ ‵ (fdies T′.mir l₆)
+          ∷ ‵ (froom tyBool l₅ 0) ∷ ‵ (fdies tyBool l₅)
           ∷ ‵ (fat fullShare word l₄ 0 (vint w64 (i .0))) ∷ ‵ (fdies word l₄) ∷ ‵ (fat fullShare word l₃ 0 (vint w64 k)) ∷ ‵ (fdies word l₃)
-          ∷ ‵ (fat fullShare slice l₂ 0 s) ∷ ‵ (fdies slice l₂) ∷ ‵ (fat fullShare S′.mir l₁ 0 mach) ∷ ‵ (fdies S′.mir l₁) ∷ ‵ (froom tyUnit l₀ 0) ∷ ‵ (fdies tyUnit l₀) ∷ []
+          ∷ ‵ (fat fullShare slice l₂ 0 s) ∷ ‵ (fdies slice l₂) ∷ ‵ (fat fullShare S′.mir l₁ 0 mach) ∷ ‵ (fdies S′.mir l₁) ∷ ‵ (froom tyUnit l₀ 0)
+          ∷ ‵ (fdies tyUnit l₀) ∷ []
 
       -- after a turn: nearer to the end, or the loop is left and the rest runs
       abbrev Turned : Upto → Out → SProp 𝓤
@@ -197,21 +206,30 @@ module _ {M : Type 1} (𝓤 : URA M) (H : Heap 𝓤) (A : Atoms 𝓤) (W : Given
               rewrite ! 10 (λ (t : Bool). ‵ (fat fullShare tyBool l₅ 0 (vbool t))) h refl $ stays ! (load ! (from ! (stop !)) (look ! 10 refl)) $
               -- the leg is got
               use0 W (raw (LegAt 𝓤 H A mem run .pre (to-leg (i .0)))) (goes-leg (i .0) under-most i-fits) $
-              calls-at ! (fmOf 𝓤 H (W .laws) 𝓣) (LegAt 𝓤 H A mem run) known-leg (to-leg (i .0)) (and-then ! (load ! (from ! (stop !)) (look ! 19 refl)) (and-then ! (load ! (from ! (stop !)) (look ! 13 refl)) (no-more !))) (λ w.
-              use1 W (later (some (λ (r : Leg). (‵ ftrue ⊛ ‵ (T.the-row .own r (w ∷ []))) ⊛ raw (ensured 𝓤 H A leg′.ended (leg′.clauses 𝓤 H A mem run) tt (d, (i .0, tt)) tt r)))) (id⊢ 𝓤 _) $ await ! tt $ pick ! (λ r.
-              split ! $ move ! (1 ∷ []) $ use1 W (raw (fact 𝓤 (r ≡ getD (d .legs) (i .0) noLeg))) (got 𝓤 H A mem run d (i .0) r) $ heard ! (r ≡ getD (d .legs) (i .0) noLeg) (λ e. split ! $ drop ! $
+              calls-at ! (fmOf 𝓤 H (W .laws) 𝓣) (LegAt 𝓤 H A mem run) known-leg (to-leg (i .0)) (and-then ! (load ! (from ! (stop !)) (look ! 19 refl))
+              (and-then ! (load ! (from ! (stop !)) (look ! 13 refl)) (no-more !))) (λ w.
+              use1 W (later (some (λ (r : Leg). (‵ ftrue ⊛ ‵ (T.the-row .own r (w ∷ [])))
+              ⊛ raw (ensured 𝓤 H A leg′.ended (leg′.clauses 𝓤 H A mem run) tt (d, (i .0, tt)) tt r)))) (id⊢ 𝓤 _) $ await ! tt $ pick ! (λ r.
+              split ! $ move ! (1 ∷ []) $ use1 W (raw (fact 𝓤 (r ≡ getD (d .list) (i .0) noLeg))) (got 𝓤 H A mem run d (i .0) r) $
+              heard ! (r ≡ getD (d .list) (i .0) noLeg) (λ e. split ! $ drop ! $
               peeks ! T.the-row (Is T.the-row) (shows 𝓤 H A T.the-row) r (w ∷ []) (λ is.
               land ! (from ! (stop !)) (init ! 9 refl (LL.lawful T.the-type T′.the-laws 𝓤 H A W .typed r _ is .0)) $ drop ! $
               -- its entry is found
-              assigns ! (bin ! (load ! (from ! (stop !)) (look ! 12 refl)) (lit ! tt) (record { fits = byte-fits })) (from ! (stop !)) (init ! 6 refl (tt, record { fits = byte-fits })) $
-              assigns ! (bin ! (load ! (from ! (fld ! refl (stop !))) (look-in ! 16 (sub ! 0 refl (whole !)))) (load ! (from ! (stop !)) (look ! 6 refl)) tt) (from ! (stop !)) (init ! 4 refl (tt, tt)) $
+              assigns ! (bin ! (load ! (from ! (stop !)) (look ! 12 refl)) (lit ! tt) (record { fits = byte-fits })) (from ! (stop !))
+              (init ! 6 refl (tt, record { fits = byte-fits })) $
+              assigns ! (bin ! (load ! (from ! (fld ! refl (stop !))) (look-in ! 16 (sub ! 0 refl (whole !)))) (load ! (from ! (stop !)) (look ! 6 refl)) tt)
+              (from ! (stop !)) (init ! 4 refl (tt, tt)) $
               rewrite ! 4 (λ (p : ℕ). ‵ (fat fullShare tyPtr l₈ 0 (vptr b p))) (sym (place-is 16 o (i .0))) refl $
-              elem-out ! T.the-row (Is T.the-row) (shows 𝓤 H A T.the-row) (LL.vals T.the-type T′.the-laws) (LL.tells T.the-type T′.the-laws) fullShare (mix (i .0)) (i .0) noLeg b o within (λ _.
+              elem-out ! T.the-row (Is T.the-row) (shows 𝓤 H A T.the-row) (LL.vals T.the-type T′.the-laws) (LL.tells T.the-type T′.the-laws) fullShare (mix (i .0))
+              (i .0) noLeg b o within (λ _.
               -- [the entry; what it owns; the others; the open borrow; obs; auth; _8; …] and the leg is stored there
-              assigns ! (of-opd ! (load ! (from ! (stop !)) (look ! 10 refl))) (from ! (hop ! (look ! 6 refl) (stop !))) (store-raw ! 0 refl (LL.lawful T.the-type T′.the-laws 𝓤 H A W .typed r _ is .0)) $
-              move ! (1 ∷ []) $ drop ! $ owned ! T.the-row (Is T.the-row) ((LL.makes T.the-type T′.the-plain) 𝓤 H A) r (w ∷ []) is $ move ! (1 ∷ 0 ∷ []) $ elem-put ! T.the-row fullShare (mix (i .0)) (i .0) r (w ∷ []) b o within $
+              assigns ! (of-opd ! (load ! (from ! (stop !)) (look ! 10 refl))) (from ! (hop ! (look ! 6 refl) (stop !)))
+              (store-raw ! 0 refl (LL.lawful T.the-type T′.the-laws 𝓤 H A W .typed r _ is .0)) $
+              move ! (1 ∷ []) $ drop ! $ owned ! T.the-row (Is T.the-row) ((LL.makes T.the-type T′.the-plain) 𝓤 H A) r (w ∷ []) is $ move ! (1 ∷ 0 ∷ []) $
+              elem-put ! T.the-row fullShare (mix (i .0)) (i .0) r (w ∷ []) b o within $
               rewrite ! 0 (λ (l : List Leg). ‵ (row T.the-row fullShare l b o)) (leg-more d lent (i .0) r e in-legs in-lent) refl $
-              assigns-last ! (bin ! (load ! (from ! (stop !)) (look ! 12 refl)) (lit ! tt) (record { fits = next-fits })) (from ! (stop !)) (store ! 12 refl (tt, record { fits = next-fits })) $
+              assigns-last ! (bin ! (load ! (from ! (stop !)) (look ! 12 refl)) (lit ! tt) (record { fits = next-fits })) (from ! (stop !))
+              (store ! 12 refl (tt, record { fits = next-fits })) $
               forget ! 4 refl $ forget ! 6 refl $ forget ! 8 refl $ forget ! 10 refl $ again ! Nearer At i (i .0 + 1, next) nearer)))))
             where
               less : i .0 < k
@@ -229,7 +247,7 @@ module _ {M : Type 1} (𝓤 : URA M) (H : Heap 𝓤) (A : Atoms 𝓤) (W : Given
               in-lent : i .0 < length lent
               in-lent = omega (arith, less, fits .1)
 
-              in-legs : i .0 < length (d .legs)
+              in-legs : i .0 < length (d .list)
               in-legs = omega (arith, under-most, long)
 
               within : i .0 < length (mix (i .0))
@@ -245,35 +263,41 @@ module _ {M : Type 1} (𝓤 : URA M) (H : Heap 𝓤) (A : Atoms 𝓤) (W : Given
               nearer = omega (arith, less)
           turn-by false h =
               assigns ! (bin ! (load ! (from ! (stop !)) (look ! 12 refl)) (load ! (from ! (stop !)) (look ! 14 refl)) tt) (from ! (stop !)) (init ! 10 refl (tt, tt)) $
-              rewrite ! 10 (λ (t : Bool). ‵ (fat fullShare tyBool l₅ 0 (vbool t))) h refl $ leaves-loop ! (load ! (from ! (stop !)) (look ! 10 refl)) $ exec ! C Λ En code.Mir.t-4 (atRet En Post) $
+              rewrite ! 10 (λ (t : Bool). ‵ (fat fullShare tyBool l₅ 0 (vbool t))) h refl $ leaves-loop ! (load ! (from ! (stop !)) (look ! 10 refl)) $
+              exec ! C Λ En code.Mir.t-4 (atRet En Post) $
               assigns ! (of-opd ! (unit-lit !)) (from ! (stop !)) (init ! 20 refl (tt, tt)) $
               closes-slice ! tt T.the-row lent (mix (i .0)) (mix-many (i .0) (i .1)) b o $
               -- [obs; the borrow; the token; _8; …; _0; …]
               returns ! (look ! 19 refl) $ forget ! 9 refl $ forget ! 11 refl $ forget ! 13 refl $ forget ! 15 refl $ forget ! 17 refl $ forget ! 19 refl $
-              move ! (19 ∷ 20 ∷ []) $ free1 ! $ move ! (17 ∷ 18 ∷ []) $ free1 ! $ move ! (15 ∷ 16 ∷ []) $ free1 ! $ move ! (13 ∷ 14 ∷ []) $ free1 ! $ move ! (11 ∷ 12 ∷ []) $ free1 ! $
+              move ! (19 ∷ 20 ∷ []) $ free1 ! $ move ! (17 ∷ 18 ∷ []) $ free1 ! $ move ! (15 ∷ 16 ∷ []) $ free1 ! $ move ! (13 ∷ 14 ∷ []) $ free1 ! $
+              move ! (11 ∷ 12 ∷ []) $ free1 ! $
               move ! (9 ∷ 10 ∷ []) $ free1 ! $ move ! (7 ∷ 8 ∷ []) $ free1 ! $ move ! (5 ∷ 6 ∷ []) $ free1 ! $ move ! (3 ∷ 4 ∷ []) $ free1 ! $ free0 ! $
               keep ! (0 ∷ 1 ∷ 2 ∷ []) $ by ! (exits (i .0) (omega (arith, ltb-false, h, i .1)) (mix-many (i .0) (i .1)))
 
       -- from `at = 0` on: the list is opened, and the loop runs
-      opened : Sq W (‵ (froom tyPtr l₈ 0) ∷ ‵ (fdies tyPtr l₈) ∷ ‵ (froom word l₇ 0) ∷ ‵ (fdies word l₇) ∷ ‵ (froom T′.mir l₆ 0) ∷ ‵ (fdies T′.mir l₆) ∷ ‵ (froom tyBool l₅ 0) ∷ ‵ (fdies tyBool l₅)
+      opened : Sq W (‵ (froom tyPtr l₈ 0) ∷ ‵ (fdies tyPtr l₈) ∷ ‵ (froom word l₇ 0) ∷ ‵ (fdies word l₇) ∷ ‵ (froom T′.mir l₆ 0) ∷ ‵ (fdies T′.mir l₆)
+          ∷ ‵ (froom tyBool l₅ 0) ∷ ‵ (fdies tyBool l₅)
           ∷ ‵ (froom word l₄ 0) ∷ ‵ (fdies word l₄) ∷ ‵ (fat fullShare word l₃ 0 (vint w64 k)) ∷ ‵ (fdies word l₃)
           ∷ ‵ (fat fullShare slice l₂ 0 s) ∷ ‵ (fdies slice l₂) ∷ ‵ (fat fullShare S′.mir l₁ 0 mach) ∷ ‵ (fdies S′.mir l₁) ∷ ‵ (froom tyUnit l₀ 0) ∷ ‵ (fdies tyUnit l₀)
           ∷ (‵ (flft κ q) ⊛ ‵ ftrue) ∷ ‵ (owns (S.the-row ∷ MutSlice (named 0) κ T.the-row ∷ []) a at) ∷ []) (runs C Λ En code.Mir.t-2 (atRet En Post))
       opened =
           assigns ! (of-opd ! (lit ! tt)) (from ! (stop !)) (init ! 8 refl (tt, record { fits = lit< tt })) $
           move ! (19 ∷ []) $ fsplit ! $ drop ! $ fsplit ! $ fsplit ! $ move ! (1 ∷ []) $ fsplit ! $ move ! (22 ∷ []) $ split ! $ move ! (2 ∷ 3 ∷ 0 ∷ []) $
-          opens-slice ! tt T.the-row lent b o $ rewrite ! 0 (λ (l : List Leg). ‵ (row T.the-row fullShare l b o)) (filled-none (d .legs) lent) refl $
+          opens-slice ! tt T.the-row lent b o $ rewrite ! 0 (λ (l : List Leg). ‵ (row T.the-row fullShare l b o)) (overlaid-none (d .list) lent) refl $
           keep ! (0 ∷ 1 ∷ 2 ∷ 3 ∷ 7 ∷ 8 ∷ 9 ∷ 10 ∷ 11 ∷ 12 ∷ 13 ∷ 14 ∷ 15 ∷ 16 ∷ 17 ∷ 18 ∷ 19 ∷ 20 ∷ 21 ∷ 22 ∷ 23 ∷ 24 ∷ []) $
           first ! $ blocks ! $ loops ! 𝓣 Nearer Nearer-wf At turns (0, zero-le)
 
     walk : ent 𝓤 (onEntry 𝓤 H A f.signature (κ, tt) (q, tt) a at) (WpFn 𝓤 H C Λ code.function (mach ∷ s ∷ []) Post)
     walk =
         qed W ((‵ (flft κ q) ⊛ ‵ ftrue) ∷ ‵ (owns (S.the-row ∷ MutSlice (named 0) κ T.the-row ∷ []) a at) ∷ []) ∵ enter ! C Λ code.function (mach ∷ s ∷ []) _ $
-        alloc1 ! (λ l₀. alloc1 ! (λ l₁. alloc1 ! (λ l₂. alloc1 ! (λ l₃. alloc1 ! (λ l₄. alloc1 ! (λ l₅. alloc1 ! (λ l₆. alloc1 ! (λ l₇. alloc1 ! (λ l₈. alloc0 ! $ params1 ! $
-        pass1 ! (init ! 14 refl (LL.lawful S.the-type S′.the-laws 𝓤 H A W .typed d _ gd .0)) $ pass1 ! (init ! 12 refl (tt, (tt, (record { fits = room .0 }, tt)))) $ pass0 ! $
+        alloc1 ! (λ l₀. alloc1 ! (λ l₁. alloc1 ! (λ l₂. alloc1 ! (λ l₃. alloc1 ! (λ l₄. alloc1 ! (λ l₅. alloc1 ! (λ l₆. alloc1 ! (λ l₇. alloc1 ! (λ l₈. alloc0 ! $
+        params1 ! $
+        pass1 ! (init ! 14 refl (LL.lawful S.the-type S′.the-laws 𝓤 H A W .typed d _ gd .0)) $
+        pass1 ! (init ! 12 refl (tt, (tt, (record { fits = room .0 }, tt)))) $ pass0 ! $
         use0 W (raw (CountOf 𝓤 H A mem run .pre to-count)) goes-count $
         calls-at ! (fmOf 𝓤 H (W .laws) 𝓣) (CountOf 𝓤 H A mem run) known-count to-count (and-then ! (load ! (from ! (stop !)) (look ! 15 refl)) (no-more !)) (λ w.
-        use1 W (later (some (λ (r : ℕ). (‵ ftrue ⊛ ‵ (usize .own r (w ∷ []))) ⊛ raw (ensured 𝓤 H A count′.ended (count′.clauses 𝓤 H A mem run) tt (d, tt) tt r)))) (id⊢ 𝓤 _) $ await ! tt $ pick ! (λ r.
+        use1 W (later (some (λ (r : ℕ). (‵ ftrue ⊛ ‵ (usize .own r (w ∷ [])))
+        ⊛ raw (ensured 𝓤 H A count′.ended (count′.clauses 𝓤 H A mem run) tt (d, tt) tt r)))) (id⊢ 𝓤 _) $ await ! tt $ pick ! (λ r.
         split ! $ move ! (1 ∷ []) $ use1 W (raw (fact 𝓤 (r ≡ k))) (counted 𝓤 H A mem run d r) $ heard ! (r ≡ k) (λ e. split ! $ drop ! $
         peeks ! usize (Is usize) (shows 𝓤 H A usize) r (w ∷ []) (λ is.
         land ! (from ! (stop !)) (init ! 11 refl (uint-lawful 𝓤 H A W w64 .typed r _ is .0)) $
@@ -281,17 +305,20 @@ module _ {M : Type 1} (𝓤 : URA M) (H : Heap 𝓤) (A : Atoms 𝓤) (W : Given
         opened l₀ l₁ l₂ l₃ l₄ l₅ l₆ l₇ l₈)))))))))))))
 
 module _ {M : Type 1} (𝓤 : URA M) (H : Heap 𝓤) (A : Atoms 𝓤) (W : Given 𝓤 H A) (mem : Memory → SProp 𝓤) (run : Routine → Fun 𝓤) where
-  fill-walks : (𝓣 : Tables 𝓤 H) → Triple 𝓤 (𝓣 .C #count-of) (CountOf 𝓤 H A mem run) → Triple 𝓤 (𝓣 .C #leg-at) (LegAt 𝓤 H A mem run) → Walks 𝓤 H A f.ended stayed (WpFn 𝓤 H (𝓣 .C) (𝓣 .Λ) code.function) (f.clauses 𝓤 H A mem run)
+  fill-walks : (𝓣 : Tables 𝓤 H) → Triple 𝓤 (𝓣 .C #count-of) (CountOf 𝓤 H A mem run) → Triple 𝓤 (𝓣 .C #leg-at) (LegAt 𝓤 H A mem run)
+      → Walks 𝓤 H A f.ended stayed (WpFn 𝓤 H (𝓣 .C) (𝓣 .Λ) code.function) (f.clauses 𝓤 H A mem run)
   fill-walks 𝓣 known-count known-leg = walked 𝓤 H A f.ended stayed (f.clauses 𝓤 H A mem run) (WpFn 𝓤 H (𝓣 .C) (𝓣 .Λ) code.function)
       (λ κs. (LL.vals S.the-type S′.the-laws, (slice-vals, tt))) (λ κs. (LL.tells S.the-type S′.the-laws, (mut-slice-tells (named 0) (κs .0) T.the-row, tt)))
       (λ κs qs bounds a g are. needs 𝓤 ((a .0 .wiring .legs ≤ mostLegs) × (a .0 .wiring .legs ≤ length (a .1 .0 .now))) _ (λ fits.
-      walk 𝓤 H A W mem run (κs .0) (qs .0) (a .1 .0 .ptr .0) (a .1 .0 .ptr .1) (a .1 .0 .name) (a .1 .0 .now) (a .0) (are .1 .0 .0 .1) (are .0) fits (sym (length-map (a .0 .legs) _) ∙ LL.owed S.the-type S′.the-laws (a .0) _ (are .0) .1 .0 .1 .0 .1) 𝓣 known-count known-leg))
+      walk 𝓤 H A W mem run (κs .0) (qs .0) (a .1 .0 .ptr .0) (a .1 .0 .ptr .1) (a .1 .0 .name) (a .1 .0 .now) (a .0) (are .1 .0 .0 .1)
+      (are .0) fits (sym (length-map (a .0 .list) _) ∙ LL.owed S.the-type S′.the-laws (a .0) _ (are .0) .1 .0 .1 .0 .1) 𝓣 known-count known-leg))
 
 fill-meets : {M : Type 1} (𝓤 : URA M) (H : Heap 𝓤) (A : Atoms 𝓤) → Given 𝓤 H A → (mem : Memory → SProp 𝓤) (run : Routine → Fun 𝓤) (𝓣 : Tables 𝓤 H)
     → Triple 𝓤 (𝓣 .C #count-of) (CountOf 𝓤 H A mem run) → Triple 𝓤 (𝓣 .C #leg-at) (LegAt 𝓤 H A mem run)
     → Meets 𝓤 H A f.signature (WpFn 𝓤 H (𝓣 .C) (𝓣 .Λ) code.function) (f.spec 𝓤 H A mem run)
 fill-meets 𝓤 H A W mem run 𝓣 known-count known-leg =
-    walk-meets 𝓤 H A f.ended stayed W (goes-none 𝓤 H A W 1 (λ _. S.the-row) yes (λ κs x f. refl), (goes-slice 𝓤 H A W 1 0 tt (plain (λ _. T.the-row)), tt)) (f.clauses 𝓤 H A mem run)
+    walk-meets 𝓤 H A f.ended stayed W (goes-none 𝓤 H A W 1 (λ _. S.the-row) yes (λ κs x f. refl), (goes-slice 𝓤 H A W 1 0 tt (plain (λ _. T.the-row)), tt))
+    (f.clauses 𝓤 H A mem run)
     (WpFn 𝓤 H (𝓣 .C) (𝓣 .Λ) code.function) (WpFn-mono 𝓤 H (W .laws) 𝓣 code.function) (fill-walks 𝓤 H A W mem run 𝓣 known-count known-leg)
 
 pub fill-spec : {M : Type 1} → stated.statement M

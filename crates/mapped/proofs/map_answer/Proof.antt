@@ -2,7 +2,10 @@
 use mathlib.Core.Path.{sym, _∙_}
 use native.Mathlib.Omega.{arith}
 use borrow.Author.Needs.{needs}
-use Rattle.mapped.proofs.Opening.{answer-refused, answer-wired, printed}
+use Rattle.text.specs.Text.{answerBytes}
+use Rattle.script.specs.Answers.{mostLineBytes}
+use Rattle.shown.proofs.Lines.{held}
+use Rattle.mapped.proofs.Opening.{answer-refused, answer-wired}
 use Rattle.mapped.proofs.map_answer.Statement.{statement}
 use Rattle.mapped.proofs.map_answer.Tie as tie
 
@@ -31,11 +34,9 @@ returns c =
     let o = a .before .before in
     let s = o .before .before .before .before in
     let y = sym (a .before .is-accepted .ensures) ∙ a .if1 .taken in
-    printed (s .args .out .now)
+    held (s .args .out .now) answerBytes (omega arith)
     (answer-wired (s .args .map .now) (o .before .before .job-of-map .ensures) (o .before .empty .ensures) (o .«open» .ensures) (w .wire .ensures) y)
-    (c .print-map .ensures .0 .0)
-    (c .print-map .ensures .0 .1)
-    (c .print-map .ensures .1)
+    (c .print-map .ensures)
 
 print-verdict-requires : tie.Need-print-verdict-requires
 print-verdict-requires c κs = search needs
@@ -46,11 +47,9 @@ returns-2 c =
     let o = a .before .before in
     let s = o .before .before .before .before in
     let n = sym (a .before .is-accepted .ensures) ∙ a .if1 .left in
-    printed (s .args .out .now)
+    held (s .args .out .now) mostLineBytes (omega arith)
     (answer-refused (s .args .map .now) (o .before .before .job-of-map .ensures) (o .before .empty .ensures) (o .«open» .ensures) n)
-    (c .print-verdict .ensures .0 .0)
-    (omega (arith, c .print-verdict .ensures .0 .1))
-    (c .print-verdict .ensures .1)
+    (c .print-verdict .ensures)
 
 pub map-answer-spec : {M : Type 1} → statement M
 map-answer-spec =

@@ -1,8 +1,8 @@
 -- `pinmap::judge` meets its contract: its tests are the rows of a record's refusals, in their order. Assumes nothing.
 use borrow.Author.Needs.{needs}
-use mathlib.Core.Path.{refl}
+use mathlib.Core.Path.{refl, sym, _∙_}
 use Rattle.pinmap.specs.Record.{judged}
-use Rattle.pinmap.proofs.Turns.{row-met, row-passed}
+use Rattle.refusal.proofs.Rows.{hit, miss}
 use Rattle.pinmap.proofs.judge.Statement.{statement}
 use Rattle.pinmap.proofs.judge.Tie as tie
 
@@ -12,7 +12,7 @@ has-other-job-requires c κs = search needs
 returns : tie.Need-returns
 unfolding judged
 returns c =
-    row-met _ (c .before .has-other-job .ensures) (c .if1 .taken)
+    hit _ _ (sym (c .before .has-other-job .ensures) ∙ c .if1 .taken)
 
 has-pin-above-requires : tie.Need-has-pin-above-requires
 has-pin-above-requires c κs = search needs
@@ -21,20 +21,20 @@ returns-2 : tie.Need-returns-2
 unfolding judged
 returns-2 c =
     let j = c .before .before in
-    row-passed _ (j .before .has-other-job .ensures) (j .if1 .left)
-    (row-met _ (c .before .has-pin-above .ensures) (c .if2 .taken))
+    miss _ (sym (j .before .has-other-job .ensures) ∙ j .if1 .left)
+    (hit _ _ (sym (c .before .has-pin-above .ensures) ∙ c .if2 .taken))
 
-is-not-blank-requires : tie.Need-is-not-blank-requires
-is-not-blank-requires c κs = search needs
+is-not-zero-requires : tie.Need-is-not-zero-requires
+is-not-zero-requires c κs = search needs
 
 returns-3 : tie.Need-returns-3
 unfolding judged
 returns-3 c =
     let p = c .before .before in
     let j = p .before .before in
-    row-passed _ (j .before .has-other-job .ensures) (j .if1 .left)
-    (row-passed _ (p .before .has-pin-above .ensures) (p .if2 .left)
-    (row-met _ (c .before .is-not-blank .ensures) (c .if3 .taken)))
+    miss _ (sym (j .before .has-other-job .ensures) ∙ j .if1 .left)
+    (miss _ (sym (p .before .has-pin-above .ensures) ∙ p .if2 .left)
+    (hit _ _ (sym (c .before .is-not-zero .ensures) ∙ c .if3 .taken)))
 
 is-outside-requires : tie.Need-is-outside-requires
 is-outside-requires c κs = search needs
@@ -45,10 +45,10 @@ returns-4 c =
     let b = c .before .before in
     let p = b .before .before in
     let j = p .before .before in
-    row-passed _ (j .before .has-other-job .ensures) (j .if1 .left)
-    (row-passed _ (p .before .has-pin-above .ensures) (p .if2 .left)
-    (row-passed _ (b .before .is-not-blank .ensures) (b .if3 .left)
-    (row-met _ (c .before .is-outside .ensures) (c .if4 .taken))))
+    miss _ (sym (j .before .has-other-job .ensures) ∙ j .if1 .left)
+    (miss _ (sym (p .before .has-pin-above .ensures) ∙ p .if2 .left)
+    (miss _ (sym (b .before .is-not-zero .ensures) ∙ b .if3 .left)
+    (hit _ _ (sym (c .before .is-outside .ensures) ∙ c .if4 .taken))))
 
 is-not-above-requires : tie.Need-is-not-above-requires
 is-not-above-requires c κs = search needs
@@ -60,11 +60,11 @@ returns-5 c =
     let b = o .before .before in
     let p = b .before .before in
     let j = p .before .before in
-    row-passed _ (j .before .has-other-job .ensures) (j .if1 .left)
-    (row-passed _ (p .before .has-pin-above .ensures) (p .if2 .left)
-    (row-passed _ (b .before .is-not-blank .ensures) (b .if3 .left)
-    (row-passed _ (o .before .is-outside .ensures) (o .if4 .left)
-    (row-met _ (c .before .is-not-above .ensures) (c .if5 .taken)))))
+    miss _ (sym (j .before .has-other-job .ensures) ∙ j .if1 .left)
+    (miss _ (sym (p .before .has-pin-above .ensures) ∙ p .if2 .left)
+    (miss _ (sym (b .before .is-not-zero .ensures) ∙ b .if3 .left)
+    (miss _ (sym (o .before .is-outside .ensures) ∙ o .if4 .left)
+    (hit _ _ (sym (c .before .is-not-above .ensures) ∙ c .if5 .taken)))))
 
 has-place-taken-requires : tie.Need-has-place-taken-requires
 has-place-taken-requires c κs = search needs
@@ -77,12 +77,12 @@ returns-6 c =
     let b = o .before .before in
     let p = b .before .before in
     let j = p .before .before in
-    row-passed _ (j .before .has-other-job .ensures) (j .if1 .left)
-    (row-passed _ (p .before .has-pin-above .ensures) (p .if2 .left)
-    (row-passed _ (b .before .is-not-blank .ensures) (b .if3 .left)
-    (row-passed _ (o .before .is-outside .ensures) (o .if4 .left)
-    (row-passed _ (n .before .is-not-above .ensures) (n .if5 .left)
-    (row-met _ (c .before .has-place-taken .ensures) (c .if6 .taken))))))
+    miss _ (sym (j .before .has-other-job .ensures) ∙ j .if1 .left)
+    (miss _ (sym (p .before .has-pin-above .ensures) ∙ p .if2 .left)
+    (miss _ (sym (b .before .is-not-zero .ensures) ∙ b .if3 .left)
+    (miss _ (sym (o .before .is-outside .ensures) ∙ o .if4 .left)
+    (miss _ (sym (n .before .is-not-above .ensures) ∙ n .if5 .left)
+    (hit _ _ (sym (c .before .has-place-taken .ensures) ∙ c .if6 .taken))))))
 
 returns-7 : tie.Need-returns-7
 unfolding judged
@@ -92,12 +92,12 @@ returns-7 c =
     let b = o .before .before in
     let p = b .before .before in
     let j = p .before .before in
-    row-passed _ (j .before .has-other-job .ensures) (j .if1 .left)
-    (row-passed _ (p .before .has-pin-above .ensures) (p .if2 .left)
-    (row-passed _ (b .before .is-not-blank .ensures) (b .if3 .left)
-    (row-passed _ (o .before .is-outside .ensures) (o .if4 .left)
-    (row-passed _ (n .before .is-not-above .ensures) (n .if5 .left)
-    (row-passed _ (c .before .has-place-taken .ensures) (c .if6 .left) refl)))))
+    miss _ (sym (j .before .has-other-job .ensures) ∙ j .if1 .left)
+    (miss _ (sym (p .before .has-pin-above .ensures) ∙ p .if2 .left)
+    (miss _ (sym (b .before .is-not-zero .ensures) ∙ b .if3 .left)
+    (miss _ (sym (o .before .is-outside .ensures) ∙ o .if4 .left)
+    (miss _ (sym (n .before .is-not-above .ensures) ∙ n .if5 .left)
+    (miss _ (sym (c .before .has-place-taken .ensures) ∙ c .if6 .left) refl)))))
 
 pub judge-spec : {M : Type 1} → statement M
 judge-spec =
@@ -107,7 +107,7 @@ judge-spec =
     returns
     has-pin-above-requires
     returns-2
-    is-not-blank-requires
+    is-not-zero-requires
     returns-3
     is-outside-requires
     returns-4

@@ -7,7 +7,7 @@ use Rattle.refusal.proofs.Rows.{NoneHolds}
 use Rattle.feed.specs.declared.Spot.{Spot}
 use Rattle.drawing.proofs.Rules.{lawful-parts}
 use Rattle.wiring.specs.Answer.{wiringOf, turnedAway}
-use Rattle.rows.specs.Found.{lookAtFound, laidIn}
+use Rattle.rows.specs.Found.{lookAtFound}
 use Rattle.rows.proofs.Rows.{naming-passed, taken, turned}
 use Rattle.rows.proofs.feed_wired.Statement.{statement}
 use Rattle.rows.proofs.feed_wired.Tie as tie
@@ -34,7 +34,6 @@ refused-requires : tie.Need-refused-requires
 refused-requires c κs = search needs
 
 returns : tie.Need-returns
-unfolding laidIn
 returns c =
     let d = c .before .before .before .before in
     let t = d .before .before in
@@ -42,7 +41,6 @@ returns c =
     (c .wire-feed .ensures ∙ ap (λ (f : List Spot). wiringOf f (t .before .args .room)) (c .before .feed-of .ensures))
 
 returns-2 : tie.Need-returns-2
-unfolding laidIn
 returns-2 c =
     let d = c .before in
     let e = d .before .before .turned-naming .ensures in

@@ -14,17 +14,17 @@ closed-seat-requires c κs = search needs
 
 returns : tie.Need-returns
 unfolding choose
-returns c = rw (c .before .before .are-sound .ensures, c .closed-seat .ensures, le-leb mostSeats (c .before .before .before .args .number) (c .before .if1 .taken))
+returns c = rw (c .before .before .are-sound .ensures, c .closed-seat .ensures, le-leb mostSeats (c .before .before .before .args .seat) (c .before .if1 .taken))
 
-mul-seat : tie.Need-mul-seat
-mul-seat c = search needs
+mul-state : tie.Need-mul-state
+mul-state c = search needs
 
-array-copy-out-seat : tie.Need-array-copy-out-seat
-array-copy-out-seat c = search needs
+array-copy-out-state : tie.Need-array-copy-out-state
+array-copy-out-state c = search needs
 
 returns-2 : tie.Need-returns-2
 unfolding choose
-returns-2 c = rw (c .before .before .are-sound .ensures, lt-leb mostSeats (c .before .before .before .args .number) (c .before .if1 .left))
+returns-2 c = rw (c .before .before .are-sound .ensures, lt-leb mostSeats (c .before .before .before .args .seat) (c .before .if1 .left))
 
 pub find-spec : {M : Type 1} → statement M
 find-spec =
@@ -33,6 +33,6 @@ find-spec =
     are-sound-requires
     closed-seat-requires
     returns
-    mul-seat
-    array-copy-out-seat
+    mul-state
+    array-copy-out-state
     returns-2)

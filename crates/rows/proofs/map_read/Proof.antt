@@ -1,8 +1,9 @@
 -- `rows::map_read` meets its contract. Assumes nothing.
 use mathlib.Core.Path.{sym, _∙_}
 use borrow.Author.Needs.{needs}
-use Rattle.rows.specs.Found.{readingIn}
-use Rattle.rows.proofs.Rows.{taken, turned}
+use Rattle.seats.specs.Seats.{jobsIn}
+use Rattle.rows.specs.Found.{lookAtFound}
+use Rattle.rows.proofs.Answers.{read-away, read-on}
 use Rattle.rows.proofs.map_read.Statement.{statement}
 use Rattle.rows.proofs.map_read.Tie as tie
 
@@ -19,17 +20,20 @@ no-pins-requires : tie.Need-no-pins-requires
 no-pins-requires c κs = search needs
 
 returns : tie.Need-returns
-unfolding readingIn
 returns c =
     let d = c .before in
-    taken (d .before .before .turned-opening .ensures) _ (sym (d .before .is-accepted .ensures) ∙ d .if1 .taken) (c .read-map .ensures)
+    let t = d .before .before in
+    let a = t .before .before .args in
+    let y = sym (d .before .is-accepted .ensures) ∙ d .if1 .taken in
+    c .read-map .ensures ∙ read-on (lookAtFound (a .found) (jobsIn (a .seats)) 0) (a .job) (a .map .now) (t .turned-opening .ensures) y
 
 returns-2 : tie.Need-returns-2
-unfolding readingIn
 returns-2 c =
     let d = c .before in
-    let e = d .before .before .turned-opening .ensures in
-    turned e _ (sym (d .before .is-accepted .ensures) ∙ d .if1 .left) (λ i. record { verdict = e i; pins = c .no-pins .ensures i })
+    let t = d .before .before in
+    let a = t .before .before .args in
+    let n = sym (d .before .is-accepted .ensures) ∙ d .if1 .left in
+    rw (c .no-pins .ensures) (read-away (lookAtFound (a .found) (jobsIn (a .seats)) 0) (a .job) (a .map .now) (t .turned-opening .ensures) n)
 
 pub map-read-spec : {M : Type 1} → statement M
 map-read-spec =

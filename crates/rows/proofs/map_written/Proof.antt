@@ -1,9 +1,9 @@
 -- `rows::map_written` meets its contract. Assumes nothing.
 use borrow.Author.Needs.{needs}
-use mathlib.Core.Path.{refl, ap, sym, _∙_}
-use Rattle.refusal.specs.declared.Verdict.{Verdict}
-use Rattle.rows.specs.Found.{writingIn, bufferIn}
-use Rattle.rows.proofs.Rows.{taken, turned}
+use mathlib.Core.Path.{sym, _∙_}
+use mathlib.Core.List.{[]}
+use Rattle.rows.specs.Found.{lookAtFound}
+use Rattle.rows.proofs.Answers.{written-away, buffer-away, written-on, buffer-on}
 use Rattle.rows.proofs.map_written.Statement.{statement}
 use Rattle.rows.proofs.map_written.Tie as tie
 
@@ -20,20 +20,22 @@ same-length : tie.Need-same-length
 same-length c = search needs
 
 returns : tie.Need-returns
-unfolding writingIn bufferIn
 returns c =
     let w = c .before .before .write-map .ensures in
     let d = c .before .before .before .before .before .before in
-    let e = d .before .before .turned-naming .ensures in
+    let t = d .before .before in
+    let l = lookAtFound (t .before .before .args .found) [] 0 in
     let y = sym (d .before .is-accepted .ensures) ∙ d .if1 .taken in
-    (taken e _ y (w .0), taken e _ y (w .1))
+    let old = t .before .before .args .buffer .now in
+    (w .0 ∙ written-on l old (t .turned-naming .ensures) y, w .1 ∙ buffer-on l old (t .turned-naming .ensures) y)
 
 returns-2 : tie.Need-returns-2
-unfolding writingIn bufferIn
 returns-2 c =
-    let e = c .before .before .turned-naming .ensures in
+    let t = c .before .before in
+    let l = lookAtFound (t .before .before .args .found) [] 0 in
     let n = sym (c .before .is-accepted .ensures) ∙ c .if1 .left in
-    (turned e _ n (ap (λ (w : Verdict). record { verdict = w; bytes = 0 }) e), turned e _ n refl)
+    let old = t .before .before .args .buffer .now in
+    (written-away l old (t .turned-naming .ensures) n, buffer-away l old (t .turned-naming .ensures) n)
 
 pub map-written-spec : {M : Type 1} → statement M
 map-written-spec =

@@ -7,21 +7,22 @@ use mathlib.Core.List.{[]}
 use Prim.Native.Nat.{_<_}
 use Rattle.refusal.specs.declared.Verdict.{Verdict}
 use Rattle.refusal.proofs.Tests.{either-left, either-right}
-use Rattle.refusal.proofs.Rows.{firstOf}
+use Rattle.refusal.proofs.Rows.{firstOf, hit, miss}
 use Rattle.feed.specs.Feeds.{mostPins}
 use Rattle.rows.specs.Refusals.{turnedMoving}
 use Rattle.rows.specs.Found.{lookAtFound}
-use Rattle.rows.proofs.Rows.{hit, miss, refused, went, thereRows, there-stops, there-goes, there-number}
+use Rattle.rows.proofs.Rows.{refused, went, thereRows, there-stops, there-goes, there-number}
 use Rattle.rows.proofs.turned_moving.Statement.{statement}
 use Rattle.rows.proofs.turned_moving.Tie as tie
 
--- Past 28, 1, 2 and 6 the pin is at most 31, and what comes after them decides.
+-- Past 28, 1, 2 and 6 the pin is at most 31,
 number : (c : tie.Else1) → c .before .before .before .args .pin < mostPins
 number c =
     let t = c .before .before in
     there-number (lookAtFound (t .before .args .found) [] 0) (t .before .args .pin) refl (t .turned-removing .ensures)
     (went _ (c .before .is-accepted .ensures) (c .if1 .left))
 
+-- and what comes after them decides.
 goes : (c : tie.Else1) {x rest : Verdict} → x ≡ rest
     → x ≡ firstOf (thereRows (lookAtFound (c .before .before .before .args .found) [] 0) (c .before .before .before .args .pin)) rest
 goes c =

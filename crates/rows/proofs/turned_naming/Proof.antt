@@ -2,7 +2,7 @@
 use mathlib.Core.Path.{refl, ap}
 use mathlib.Core.Bool.{not}
 use borrow.Author.Tests.{le-leb, lt-leb}
-use Rattle.rows.proofs.Rows.{hit, miss}
+use Rattle.refusal.proofs.Rows.{hit, miss}
 use Rattle.rows.proofs.turned_naming.Statement.{statement}
 use Rattle.rows.proofs.turned_naming.Tie as tie
 

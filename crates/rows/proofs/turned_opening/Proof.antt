@@ -4,7 +4,8 @@ use mathlib.Core.Path.{_≡_, ap, sym, _∙_}
 use borrow.Author.Tests.{eq-eqb, ne-eqb, le-leb, lt-leb}
 use Rattle.seats.specs.Seats.{jobAmong, jobsIn}
 use Rattle.rows.specs.Refusals.{turnedOpening}
-use Rattle.rows.proofs.Rows.{hit, miss, empty-read}
+use Rattle.refusal.proofs.Rows.{hit, miss}
+use Rattle.rows.proofs.Rows.{empty-read}
 use Rattle.rows.proofs.turned_opening.Statement.{statement}
 use Rattle.rows.proofs.turned_opening.Tie as tie
 

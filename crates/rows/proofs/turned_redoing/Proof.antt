@@ -1,23 +1,21 @@
 -- `rows::turned_redoing` meets its contract. Assumes nothing.
 use borrow.Author.Needs.{needs}
-use mathlib.Core.Path.{refl}
+use borrow.Author.Tests.{eq-eqb, ne-eqb}
+use mathlib.Core.Path.{refl, sym, _∙_}
 use mathlib.Core.List.{[]}
-use Prim.Native.Nat.{ℕ, _-_}
-use lib.ListN.{length, take}
-use Rattle.refusal.proofs.Rows.{firstOf, NoneHolds}
+use lib.ListN.{take}
+use Rattle.refusal.proofs.Rows.{firstOf, NoneHolds, hit, miss}
 use Rattle.journal.specs.Journal.{own}
+use Rattle.seats.specs.Seats.{takenBackCount}
 use Rattle.rows.specs.Refusals.{Look, turnedRedoing}
 use Rattle.rows.specs.Found.{lookAtFound}
-use Rattle.rows.proofs.Rows.{hit, miss, refused, went, naming-stops, naming-passed, naming-goes, none-back, some-back}
+use Rattle.rows.proofs.Rows.{refused, went, naming-stops, naming-passed, naming-goes}
 use Rattle.rows.proofs.turned_redoing.Statement.{statement}
 use Rattle.rows.proofs.turned_redoing.Tie as tie
 
--- How many records the seat found owns, and what the row looks at.
-abbrev owned : tie.Start → ℕ
-owned c = length (own (c .args .found .number) (take (c .args .used) (c .args .journal)))
-
+-- What the row looks at.
 abbrev look : tie.Start → Look
-look c = lookAtFound (c .args .found) [] (owned c - c .args .found .seat .standing)
+look c = lookAtFound (c .args .found) [] (takenBackCount (c .args .found .state) (own (c .args .found .seat) (take (c .args .used) (c .args .journal))))
 
 turned-naming-requires : tie.Need-turned-naming-requires
 turned-naming-requires c κs = search needs
@@ -31,9 +29,9 @@ returns c =
     let t = c .before .before in
     naming-stops (look (t .before)) (t .turned-naming .ensures) _ (refused _ (c .before .is-accepted .ensures) (c .if1 .taken))
 
-count-of-requires : tie.Need-count-of-requires
+taken-back-count-requires : tie.Need-taken-back-count-requires
 unfolding NoneHolds
-count-of-requires c κs =
+taken-back-count-requires c κs =
     let d = c .before in
     let t = d .before .before in
     t .before .pre
@@ -42,20 +40,20 @@ count-of-requires c κs =
 returns-2 : tie.Need-returns-2
 unfolding firstOf turnedRedoing
 returns-2 c =
-    let o = c .before .before in
+    let o = c .before in
     let d = o .before .before in
     let t = d .before .before in
     naming-goes (look (t .before)) (t .turned-naming .ensures) (went _ (d .before .is-accepted .ensures) (d .if1 .left))
-    (hit _ _ (none-back (owned (t .before)) (t .before .args .found .seat .standing) (o .count-of .ensures) (c .if2 .taken)))
+    (hit _ _ (eq-eqb _ 0 (sym (o .taken-back-count .ensures) ∙ c .if2 .taken)))
 
 returns-3 : tie.Need-returns-3
 unfolding firstOf turnedRedoing
 returns-3 c =
-    let o = c .before .before in
+    let o = c .before in
     let d = o .before .before in
     let t = d .before .before in
     naming-goes (look (t .before)) (t .turned-naming .ensures) (went _ (d .before .is-accepted .ensures) (d .if1 .left))
-    (miss _ (some-back (owned (t .before)) (t .before .args .found .seat .standing) (o .count-of .ensures) (c .if2 .left)) refl)
+    (miss _ (ne-eqb _ 0 (λ z. c .if2 .left (o .taken-back-count .ensures ∙ z))) refl)
 
 pub turned-redoing-spec : {M : Type 1} → statement M
 turned-redoing-spec =
@@ -64,6 +62,6 @@ turned-redoing-spec =
     turned-naming-requires
     is-accepted-requires
     returns
-    count-of-requires
+    taken-back-count-requires
     returns-2
     returns-3)

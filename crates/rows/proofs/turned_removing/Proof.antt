@@ -6,10 +6,10 @@ use mathlib.Core.List.{[]}
 use borrow.Author.Tests.{le-leb, lt-leb}
 use Rattle.refusal.specs.declared.Verdict.{Verdict}
 use Rattle.refusal.proofs.Tests.{either-left, either-right}
-use Rattle.refusal.proofs.Rows.{firstOf}
+use Rattle.refusal.proofs.Rows.{firstOf, hit, miss}
 use Rattle.rows.specs.Refusals.{turnedRemoving}
 use Rattle.rows.specs.Found.{lookAtFound}
-use Rattle.rows.proofs.Rows.{hit, miss, refused, went, namingRows, naming-stops, naming-goes}
+use Rattle.rows.proofs.Rows.{refused, went, namingRows, naming-stops, naming-goes}
 use Rattle.rows.proofs.turned_removing.Statement.{statement}
 use Rattle.rows.proofs.turned_removing.Tie as tie
 

@@ -3,10 +3,10 @@ use borrow.Author.Needs.{needs}
 use mathlib.Core.Path.{refl}
 use mathlib.Core.List.{[]}
 use borrow.Author.Tests.{eq-eqb, ne-eqb}
-use Rattle.refusal.proofs.Rows.{firstOf}
+use Rattle.refusal.proofs.Rows.{firstOf, hit, miss}
 use Rattle.rows.specs.Refusals.{turnedUndoing}
 use Rattle.rows.specs.Found.{lookAtFound}
-use Rattle.rows.proofs.Rows.{hit, miss, refused, went, naming-stops, naming-goes}
+use Rattle.rows.proofs.Rows.{refused, went, naming-stops, naming-goes}
 use Rattle.rows.proofs.turned_undoing.Statement.{statement}
 use Rattle.rows.proofs.turned_undoing.Tie as tie
 

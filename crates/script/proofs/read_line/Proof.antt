@@ -1,9 +1,9 @@
 -- `script::read_line` meets its contract. Assumes nothing.
 use mathlib.Core.Path.{sym, _∙_, ap}
-use Rattle.script.specs.declared.Cut.{Cut}
-use Rattle.script.proofs.Steps.{over-none, over-as}
-use Rattle.script.proofs.Cutting.{span-good}
-use Rattle.script.proofs.Asking.{text-whole, long-order, long-map, long-across, long-up, line-order, line-map, line-across, line-up, skip-call, skip-map, skip-list, asked-call, asked-map, asked-across, asked-up}
+use Rattle.text.specs.declared.Cut.{Cut}
+use Rattle.text.proofs.Steps.{over-none, over-as}
+use Rattle.text.proofs.Cutting.{span-good}
+use Rattle.script.proofs.Asking.{text-whole, long-said, long-map, long-across, long-up, line-said, line-map, line-across, line-up, skip-call, skip-map, skip-list, asked-call, asked-map, asked-across, asked-up}
 use borrow.Author.Needs.{needs}
 use Rattle.script.proofs.read_line.Statement.{statement}
 use Rattle.script.proofs.read_line.Tie as tie
@@ -14,7 +14,7 @@ end-of-requires c κs = search needs
 returns : tie.Need-returns
 returns c =
     let end = c .before .end-of .ensures in (
-      long-order _ end (c .if1 .taken),
+      long-said _ end (c .if1 .taken),
       (
         over-none (long-map _ end (c .if1 .taken)),
         (over-none (long-across _ end (c .if1 .taken)), over-none (long-up _ end (c .if1 .taken))),
@@ -40,7 +40,7 @@ returns-2 c =
     let cut = c .before .before .before .cut .ensures in
     let name = c .before .before .part .ensures in
     let skipped = sym (c .before .is-skipped .ensures) ∙ c .if2 .taken in (
-      line-order _ end short (skip-call _ cut name skipped),
+      line-said _ end short (skip-call _ cut name skipped),
       (
         over-none (skip-map _ cut name skipped ∙ line-map _ end short),
         (
@@ -78,7 +78,7 @@ returns-3 c =
     let second = c .before .before .before .before .before .before .part3 .ensures in
     let third = c .before .before .before .before .before .part4 .ensures in
     let fourth = c .before .before .before .before .part5 .ensures in (
-      line-order _ end short (asked-call _ cut name first second third fourth unskipped (c .read-call .ensures .0)),
+      line-said _ end short (asked-call _ cut name first second third fourth unskipped (c .read-call .ensures .0)),
       (
         over-as _ (asked-map _ cut name first second third fourth ∙ line-map _ end short) (c .read-call .ensures .1 .0),
         (

@@ -3,10 +3,11 @@
 use mathlib.Core.Path.{_≡_, refl, sym, _∙_}
 use Prim.Native.Nat.{_≤_, _<_, _-_}
 use native.Mathlib.Omega.{arith}
-use lib.ListN.{length, drop}
+use lib.ListN.{length, drop, drop-of-length-le}
+use Rattle.refusal.proofs.Lists.{front}
+use Rattle.refusal.proofs.Anyone.{any-hit, any-miss, any-end}
 use Rattle.journal.specs.Journal.{mostSeats}
-use Rattle.seats.specs.Seats.{jobAmong}
-use Rattle.seats.proofs.Jobs.{among-hit, among-miss, among-end}
+use Rattle.seats.specs.Seats.{sameJob, jobAmong}
 use Rattle.seats.proofs.job_among.Statement.{statement}
 use Rattle.seats.proofs.job_among.Tie as tie
 
@@ -32,7 +33,7 @@ returns : tie.Need-returns Inv-loop μ-loop
 returns c =
     let b = c .before .before .before in
     let h : b .loop .i < length (b .before .args .t2) = omega arith in
-    sym (b .loop .inv .1 ∙ among-hit _ _ h _ (c .before .same-job .ensures) (c .if1 .taken))
+    sym (b .loop .inv .1 ∙ any-hit (front 0 _ _ h) (sameJob _) (c .before .same-job .ensures) (c .if1 .taken))
 
 add-i : tie.Need-add-i Inv-loop μ-loop
 add-i c = omega arith
@@ -44,12 +45,12 @@ loop-again : tie.Need-loop-again Inv-loop μ-loop
 loop-again c =
     let b = c .before .before .before in
     let h : b .loop .i < length (b .before .args .t2) = omega arith in
-    (omega arith, b .loop .inv .1 ∙ among-miss _ _ h _ (c .before .same-job .ensures) (c .if1 .left))
+    (omega arith, b .loop .inv .1 ∙ any-miss (front 0 _ _ h) (sameJob _) (c .before .same-job .ensures) (c .if1 .left))
 
 returns-2 : tie.Need-returns-2 Inv-loop μ-loop
 returns-2 c =
     let h : length (c .before .before .args .t2) ≤ c .before .loop .i = omega arith in
-    sym (c .before .loop .inv .1 ∙ among-end _ _ h _)
+    sym (c .before .loop .inv .1 ∙ any-end (drop-of-length-le _ h) (sameJob _))
 
 pub job-among-spec : {M : Type 1} → statement M
 job-among-spec =

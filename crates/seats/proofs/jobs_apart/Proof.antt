@@ -3,10 +3,11 @@
 use mathlib.Core.Path.{_≡_, refl, sym, _∙_}
 use Prim.Native.Nat.{_≤_, _<_, _-_}
 use native.Mathlib.Omega.{arith}
-use lib.ListN.{length, drop}
+use lib.ListN.{length, drop, drop-of-length-le}
+use Rattle.refusal.proofs.Lists.{front}
+use Rattle.refusal.proofs.Anyone.{two-next, two-stop, two-end}
 use Rattle.journal.specs.Journal.{mostSeats}
-use Rattle.seats.specs.Seats.{jobsApart}
-use Rattle.seats.proofs.Jobs.{apart-next, apart-stop, apart-end}
+use Rattle.seats.specs.Seats.{sameJob, jobsApart}
 use Rattle.seats.proofs.jobs_apart.Statement.{statement}
 use Rattle.seats.proofs.jobs_apart.Tie as tie
 
@@ -35,7 +36,7 @@ returns : tie.Need-returns Inv-loop μ-loop
 returns c =
     let b = c .before .before .before in
     let h : b .loop .i < length (b .before .args .t1) = omega arith in
-    sym (b .loop .inv .1 ∙ apart-stop _ _ h (c .before .job-among .ensures) (c .if1 .taken))
+    sym (b .loop .inv .1 ∙ two-stop (front 0 _ _ h) sameJob (c .before .job-among .ensures) (c .if1 .taken))
 
 loop-less : tie.Need-loop-less Inv-loop μ-loop
 loop-less c = omega arith
@@ -44,12 +45,12 @@ loop-again : tie.Need-loop-again Inv-loop μ-loop
 loop-again c =
     let b = c .before .before .before in
     let h : b .loop .i < length (b .before .args .t1) = omega arith in
-    (omega arith, b .loop .inv .1 ∙ apart-next _ _ h (c .before .job-among .ensures) (c .if1 .left))
+    (omega arith, b .loop .inv .1 ∙ two-next (front 0 _ _ h) sameJob (c .before .job-among .ensures) (c .if1 .left))
 
 returns-2 : tie.Need-returns-2 Inv-loop μ-loop
 returns-2 c =
     let h : length (c .before .before .args .t1) ≤ c .before .loop .i = omega arith in
-    sym (c .before .loop .inv .1 ∙ apart-end _ _ h)
+    sym (c .before .loop .inv .1 ∙ two-end (drop-of-length-le _ h) sameJob)
 
 pub jobs-apart-spec : {M : Type 1} → statement M
 jobs-apart-spec =

@@ -1,7 +1,7 @@
 -- `seats::open_is_sound` meets its contract. Assumes nothing.
 use borrow.Author.Needs.{needs}
 use borrow.Author.Tests.{not-true, not-false}
-use mathlib.Core.Path.{_∙_}
+use mathlib.Core.Path.{sym, _∙_}
 use mathlib.Core.List.{List}
 use lib.ListN.{take}
 use Rattle.drawing.specs.declared.Edit.{Edit}
@@ -36,7 +36,11 @@ returns-3 c =
     breaks-rules (s .args .s) (edits s) (j .if1 .left) (s .pre .1) (k .before .before .if2 .left) (k .keep-rules .ensures) (not-true _ (c .if3 .taken))
 
 can-take-back-all-requires : tie.Need-can-take-back-all-requires
-can-take-back-all-requires c κs = search needs
+can-take-back-all-requires c κs =
+    let k = c .before in
+    let j = k .before .before .before in
+    let s = j .before .before in
+    (s .pre .0, s .pre .1, k .before .before .if2 .left, sym (k .keep-rules .ensures) ∙ not-false _ (c .if3 .left))
 
 can-redo-all-requires : tie.Need-can-redo-all-requires
 can-redo-all-requires c κs = search needs

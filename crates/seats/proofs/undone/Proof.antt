@@ -12,11 +12,8 @@ use Rattle.seats.proofs.undone.Tie as tie
 abbrev edits : tie.Start → List Edit
 edits s = own (s .args .seat) (take (s .args .used) (s .args .journal))
 
-count-of-requires : tie.Need-count-of-requires
-count-of-requires c κs = search needs
-
-sub-edit-of : tie.Need-sub-edit-of
-sub-edit-of c = search needs
+taken-back-count-requires : tie.Need-taken-back-count-requires
+taken-back-count-requires c κs = search needs
 
 edit-of-requires : tie.Need-edit-of-requires
 edit-of-requires c κs = search needs
@@ -25,7 +22,7 @@ take-back-requires : tie.Need-take-back-requires
 take-back-requires c κs =
     let o = c .before .before in
     let s = o .before in
-    rw (undo-finds (edits s) _ _ (o .count-of .ensures) (s .pre .1) (s .pre .2) (c .before .edit-of .ensures)) (s .pre .3)
+    rw (undo-finds (s .args .s) (edits s) (o .taken-back-count .ensures) (s .pre .1) (s .pre .2) (c .before .edit-of .ensures)) (s .pre .3)
 
 sub-t10 : tie.Need-sub-t10
 sub-t10 c = search needs
@@ -34,9 +31,12 @@ returns : tie.Need-returns
 returns c =
     let o = c .before .before .before in
     let s = o .before in
-    rw (c .take-back .ensures, undo-finds (edits s) _ _ (o .count-of .ensures) (s .pre .1) (s .pre .2) (c .before .before .edit-of .ensures))
+    rw (
+      c .take-back .ensures,
+      undo-finds (s .args .s) (edits s) (o .taken-back-count .ensures) (s .pre .1) (s .pre .2) (c .before .before .edit-of .ensures),
+    )
 
 pub undone-spec : {M : Type 1} → statement M
 undone-spec =
     tie.close
-    (tie.spec count-of-requires sub-edit-of edit-of-requires take-back-requires sub-t10 returns)
+    (tie.spec taken-back-count-requires edit-of-requires take-back-requires sub-t10 returns)

@@ -1,11 +1,10 @@
 -- `shown::pins_there` meets its contract. Assumes nothing.
-use mathlib.Core.Path.{_≡_, ap}
+use mathlib.Core.Path.{_≡_, sym, _∙_, ap}
 use Prim.Native.Nat.{_≤_, _+_, _-_}
 use native.Mathlib.Omega.{arith}
-use lib.ListN.{drop}
-use Rattle.shown.proofs.Lines.{count-more}
+use lib.ListN.{drop, drop-of-length-le}
+use Rattle.shown.proofs.Lines.{count-there, count-absent}
 use Rattle.shown.specs.Shown.{pinsThere}
-use Rattle.script.proofs.Steps.{spent}
 use Rattle.feed.specs.Feeds.{mostPins}
 use borrow.Author.Needs.{needs}
 use Rattle.shown.proofs.pins_there.Statement.{statement}
@@ -26,31 +25,39 @@ mul-spot c = search needs
 array-copy-out-spot : tie.Need-array-copy-out-spot Inv-loop μ-loop
 array-copy-out-spot c = search needs
 
-count-of-requires : tie.Need-count-of-requires Inv-loop μ-loop
-count-of-requires c κs = search needs
+add-pin : tie.Need-add-pin Inv-loop μ-loop
+add-pin c = search needs
+
+is-there-requires : tie.Need-is-there-requires Inv-loop μ-loop
+is-there-requires c κs = search needs
 
 add-count : tie.Need-add-count Inv-loop μ-loop
 add-count c = search needs
-
-add-pin : tie.Need-add-pin Inv-loop μ-loop
-add-pin c = search needs
 
 loop-less : tie.Need-loop-less Inv-loop μ-loop
 loop-less c = search needs
 
 loop-again : tie.Need-loop-again Inv-loop μ-loop
 loop-again c =
-    let s = c .before .before .before .before .args in
-    let q = c .before .before .before .loop in
-    let e = c .count-of .ensures in
-    ((omega arith, omega (arith, e .1)), omega (arith, e .0, q .inv .1, count-more (s .t1) (q .pin) (omega arith)))
+    let l = c .before .before .before .before in
+    let t = sym (c .before .is-there .ensures) ∙ c .if1 .taken in
+    ((omega arith, omega arith), omega (arith, l .loop .inv .1, count-there (l .before .args .t1) (l .loop .pin) (omega arith) t))
+
+loop-less-2 : tie.Need-loop-less-2 Inv-loop μ-loop
+loop-less-2 c = search needs
+
+loop-again-2 : tie.Need-loop-again-2 Inv-loop μ-loop
+loop-again-2 c =
+    let l = c .before .before .before .before in
+    let t = sym (c .before .is-there .ensures) ∙ c .if1 .left in
+    ((omega arith, omega arith), omega (arith, l .loop .inv .1, count-absent (l .before .args .t1) (l .loop .pin) (omega arith) t))
 
 returns : tie.Need-returns Inv-loop μ-loop
 unfolding pinsThere
 returns c =
     let s = c .before .before .args in
     let q = c .before .loop in
-    omega (arith, q .inv .1, ap pinsThere (spent (s .t1) (q .pin) (omega arith)))
+    omega (arith, q .inv .1, ap pinsThere (drop-of-length-le (s .t1) {i = q .pin} (omega arith)))
 
 pub pins-there-spec : {M : Type 1} → statement M
 pins-there-spec =
@@ -61,9 +68,11 @@ pins-there-spec =
     loop-holds
     mul-spot
     array-copy-out-spot
-    count-of-requires
-    add-count
     add-pin
+    is-there-requires
+    add-count
     loop-less
     loop-again
+    loop-less-2
+    loop-again-2
     returns)

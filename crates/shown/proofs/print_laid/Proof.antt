@@ -3,10 +3,10 @@ use mathlib.Core.Path.{sym, _∙_}
 use native.Mathlib.Omega.{arith}
 use borrow.Author.Tests.{not-true, not-false}
 use lib.ListN.{take}
-use Rattle.script.specs.Answers.{verdictLine, wiredLine}
-use Rattle.script.proofs.Printing.{put-as, put-all3, line}
+use Rattle.script.specs.Answers.{mostLineBytes, wiredLine}
+use Rattle.text.proofs.Printing.{put-as, put-all3, line}
 use Rattle.shown.specs.Shown.{runsText, legsText, laidText}
-use Rattle.shown.proofs.Lines.{begun, laid-refused, laid-accepted}
+use Rattle.shown.proofs.Lines.{begun, held, laid-refused, laid-accepted}
 use borrow.Author.Needs.{needs}
 use Rattle.shown.proofs.print_laid.Statement.{statement}
 use Rattle.shown.proofs.print_laid.Tie as tie
@@ -20,12 +20,8 @@ print-verdict-requires c κs = search needs
 returns : tie.Need-returns
 returns c =
     let s = c .before .before .before .before .before .args in
-    let e = c .print-verdict .ensures in
     let j = sym (c .before .before .before .is-accepted .ensures) ∙ not-true _ (c .before .before .if1 .taken) in
-    let h =
-    line (s .out .now) (laidText (s .laid))
-    (put-as (s .out .now) 0 (laid-refused (s .laid) j) (begun (s .out .now) (verdictLine (s .laid .wiring .verdict)) (e .0 .0) (e .1))) in
-    ((h .0, omega (arith, e .0 .1)), h .1)
+    held (s .out .now) mostLineBytes (omega arith) (laid-refused (s .laid) j) (c .print-verdict .ensures)
 
 print-wired-requires : tie.Need-print-wired-requires
 print-wired-requires c κs = search needs
@@ -50,10 +46,10 @@ returns-2 c =
     line (s .out .now) (laidText (s .laid))
     (put-as (s .out .now) 0 (laid-accepted (s .laid) j)
     (put-all3 (s .out .now) 0
-    (wiredLine (w .length) (w .count) (w .legs) (w .weighed))
-    (runsText (take (w .count) (w .runs)))
-    (legsText (take (w .legs) (s .laid .legs)))
-    (begun (s .out .now) (wiredLine (w .length) (w .count) (w .legs) (w .weighed)) (a .0 .0) (a .1))
+    (wiredLine (w .length) (w .runs) (w .legs) (w .weighed))
+    (runsText (take (w .runs) (w .entries)))
+    (legsText (take (w .legs) (s .laid .list)))
+    (begun (s .out .now) (wiredLine (w .length) (w .runs) (w .legs) (w .weighed)) (a .0 .0) (a .1))
     (b .0 .0, b .1)
     (d .0 .0, d .1))) in
     ((h .0, omega (arith, a .0 .1, b .0 .1, d .0 .1)), h .1)

@@ -3,10 +3,10 @@ use mathlib.Core.Path.{sym, _∙_}
 use native.Mathlib.Omega.{arith}
 use borrow.Author.Tests.{not-true, not-false}
 use lib.ListN.{take}
-use Rattle.script.specs.Answers.{verdictLine, jobLine}
-use Rattle.script.proofs.Printing.{put-as, then-put, line}
+use Rattle.script.specs.Answers.{mostLineBytes, jobLine}
+use Rattle.text.proofs.Printing.{put-as, then-put, line}
 use Rattle.shown.specs.Shown.{runsText, mapText}
-use Rattle.shown.proofs.Lines.{begun, map-refused, map-accepted}
+use Rattle.shown.proofs.Lines.{begun, held, map-refused, map-accepted}
 use borrow.Author.Needs.{needs}
 use Rattle.shown.proofs.print_map.Statement.{statement}
 use Rattle.shown.proofs.print_map.Tie as tie
@@ -20,12 +20,8 @@ print-verdict-requires c κs = search needs
 returns : tie.Need-returns
 returns c =
     let s = c .before .before .before .before .args in
-    let e = c .print-verdict .ensures in
     let j = sym (c .before .before .before .is-accepted .ensures) ∙ not-true _ (c .before .before .if1 .taken) in
-    let h =
-    line (s .out .now) (mapText (s .job) (s .wiring))
-    (put-as (s .out .now) 0 (map-refused (s .job) (s .wiring) j) (begun (s .out .now) (verdictLine (s .wiring .verdict)) (e .0 .0) (e .1))) in
-    ((h .0, omega (arith, e .0 .1)), h .1)
+    held (s .out .now) mostLineBytes (omega arith) (map-refused (s .job) (s .wiring) j) (c .print-verdict .ensures)
 
 print-job-requires : tie.Need-print-job-requires
 print-job-requires c κs = search needs
@@ -46,9 +42,9 @@ returns-2 c =
     line (s .out .now) (mapText (s .job) w)
     (put-as (s .out .now) 0 (map-accepted (s .job) w j)
     (then-put (s .out .now) 0
-    (jobLine (s .job) (w .length) (w .count) (w .weighed))
-    (runsText (take (w .count) (w .runs)))
-    (begun (s .out .now) (jobLine (s .job) (w .length) (w .count) (w .weighed)) (a .0 .0) (a .1))
+    (jobLine (s .job) (w .length) (w .runs) (w .weighed))
+    (runsText (take (w .runs) (w .entries)))
+    (begun (s .out .now) (jobLine (s .job) (w .length) (w .runs) (w .weighed)) (a .0 .0) (a .1))
     (b .0 .0, b .1))) in
     ((h .0, omega (arith, a .0 .1, b .0 .1)), h .1)
 

@@ -3,16 +3,17 @@ use mathlib.Core.Path.{refl, ap}
 use Prim.Native.Nat.{_≤_, _+_, _*_, _-_}
 use native.Mathlib.Omega.{arith}
 use lib.ListN.{take, getD}
-use Rattle.script.proofs.Printing.{Put, then-put, put-as}
+use Rattle.text.proofs.Printing.{Put, then-put, put-as}
 use Rattle.shown.proofs.Lines.{lines-more, first-all}
 use Rattle.shown.specs.Shown.{legText, lineForEach}
-use Rattle.wiring.specs.Answer.{noLeg}
+use Rattle.wiring.specs.Answer.{mostLegs, noLeg}
+use Rattle.script.specs.Answers.{mostLegBytes}
 use borrow.Author.Needs.{needs}
 use Rattle.shown.proofs.put_legs.Statement.{statement}
 use Rattle.shown.proofs.put_legs.Tie as tie
 
 abbrev Inv-loop : tie.InvT-loop
-Inv-loop count out₀ at legs most next₀ i₀ out next i = ((i ≤ most) × (next ≤ at + i * 92)) × Put out₀ at (lineForEach legText (take i legs)) next out
+Inv-loop count out₀ at legs most next₀ i₀ out next i = ((i ≤ most) × (next ≤ at + i * mostLegBytes)) × Put out₀ at (lineForEach legText (take i legs)) next out
 
 abbrev μ-loop : tie.MeasureT-loop
 μ-loop count out₀ at legs most next₀ i₀ out next i = most - i
@@ -53,7 +54,7 @@ returns c =
     let s = c .before .before .before .args in
     let q = c .before .loop in
     let n = c .before .before .smaller .ensures in
-    let e = first-all (s .t1) (s .count) 62 (q .i) (omega arith) (omega (arith, n)) in
+    let e = first-all (s .t1) (s .count) mostLegs (q .i) (omega arith) (omega (arith, n)) in
     let h = put-as (s .out .now) (s .at) (ap (lineForEach legText) e) (q .inv .1) in
     ((h .0, omega (arith, n)), h .1)
 

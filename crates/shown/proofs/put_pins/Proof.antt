@@ -4,17 +4,18 @@ use Prim.Native.Nat.{_≤_, _+_, _*_, _-_}
 use native.Mathlib.Omega.{arith}
 use lib.ListN.{take, getD}
 use lib.Seq.{take-all}
-use Rattle.script.proofs.Printing.{Put, then-put, put-as}
+use Rattle.text.proofs.Printing.{Put, then-put, put-as}
 use Rattle.shown.proofs.Lines.{pins-more}
 use Rattle.shown.specs.Shown.{spotText, pinsText}
 use Rattle.feed.specs.declared.Spot.the-variants.{Absent}
 use Rattle.feed.specs.Feeds.{mostPins}
+use Rattle.script.specs.Answers.{mostPinBytes}
 use borrow.Author.Needs.{needs}
 use Rattle.shown.proofs.put_pins.Statement.{statement}
 use Rattle.shown.proofs.put_pins.Tie as tie
 
 abbrev Inv-loop : tie.InvT-loop
-Inv-loop out₀ at feed next₀ pin₀ out next pin = ((pin ≤ mostPins) × (next ≤ at + pin * 69)) × Put out₀ at (pinsText 0 (take pin feed)) next out
+Inv-loop out₀ at feed next₀ pin₀ out next pin = ((pin ≤ mostPins) × (next ≤ at + pin * mostPinBytes)) × Put out₀ at (pinsText 0 (take pin feed)) next out
 
 abbrev μ-loop : tie.MeasureT-loop
 μ-loop out₀ at feed next₀ pin₀ out next pin = mostPins - pin

@@ -3,17 +3,19 @@ use mathlib.Core.Path.{refl, ap}
 use Prim.Native.Nat.{_≤_, _+_, _*_, _-_}
 use native.Mathlib.Omega.{arith}
 use lib.ListN.{take, getD}
-use Rattle.script.proofs.Printing.{Put, then-put, put-as}
+use Rattle.text.proofs.Printing.{Put, then-put, put-as}
 use Rattle.shown.proofs.Lines.{lines-more, first-all}
 use Rattle.shown.specs.Shown.{shapedLine, lineForEach}
 use Rattle.copper.specs.declared.Shape.the-variants.{Straight}
-use Rattle.wiring.specs.Answer.{shaped}
+use Rattle.tree.specs.Trees.{mostRuns}
+use Rattle.wiring.specs.Answer.{runEntry}
+use Rattle.script.specs.Answers.{mostRunBytes}
 use borrow.Author.Needs.{needs}
 use Rattle.shown.proofs.put_runs.Statement.{statement}
 use Rattle.shown.proofs.put_runs.Tie as tie
 
 abbrev Inv-loop : tie.InvT-loop
-Inv-loop count out₀ at runs most next₀ i₀ out next i = ((i ≤ most) × (next ≤ at + i * 51)) × Put out₀ at (lineForEach shapedLine (take i runs)) next out
+Inv-loop count out₀ at runs most next₀ i₀ out next i = ((i ≤ most) × (next ≤ at + i * mostRunBytes)) × Put out₀ at (lineForEach shapedLine (take i runs)) next out
 
 abbrev μ-loop : tie.MeasureT-loop
 μ-loop count out₀ at runs most next₀ i₀ out next i = most - i
@@ -45,16 +47,16 @@ loop-again c =
     let s = c .before .before .before .before .before .before .args in
     let q = c .before .before .before .before .loop in
     let e = c .put-shaped .ensures in
-    let a = getD (s .t1) (q .i) (shaped 0 0 Straight) in
+    let a = getD (s .t1) (q .i) (runEntry 0 0 Straight) in
     let h = then-put (s .out .now) (s .at) (lineForEach shapedLine (take (q .i) (s .t1))) (shapedLine a) (q .inv .1) (e .0 .0, e .1) in
-    ((omega arith, omega (arith, e .0 .1)), put-as (s .out .now) (s .at) (lines-more shapedLine (shaped 0 0 Straight) (s .t1) (q .i) (omega arith)) h)
+    ((omega arith, omega (arith, e .0 .1)), put-as (s .out .now) (s .at) (lines-more shapedLine (runEntry 0 0 Straight) (s .t1) (q .i) (omega arith)) h)
 
 returns : tie.Need-returns Inv-loop μ-loop
 returns c =
     let s = c .before .before .before .args in
     let q = c .before .loop in
     let n = c .before .before .smaller .ensures in
-    let e = first-all (s .t1) (s .count) 31 (q .i) (omega arith) (omega (arith, n)) in
+    let e = first-all (s .t1) (s .count) mostRuns (q .i) (omega arith) (omega (arith, n)) in
     let h = put-as (s .out .now) (s .at) (ap (lineForEach shapedLine) e) (q .inv .1) in
     ((h .0, omega (arith, n)), h .1)
 

@@ -1,11 +1,14 @@
 -- `tree::do_boxes_meet` meets its contract: what is left to look through gives the answer. Assumes nothing.
 use borrow.Author.Needs.{needs}
 use native.Mathlib.Omega.{arith}
-use mathlib.Core.Path.{_≡_, refl, _∙_}
+use mathlib.Core.Path.{_≡_, refl, sym, ap, _∙_}
+use mathlib.Core.Bool.{not}
 use Prim.Native.Nat.{_-_}
 use lib.ListN.{take, drop}
-use Rattle.tree.specs.Boxes.{boxesMeet}
-use Rattle.tree.proofs.Loops.{meet-turn, meet-found, meet-none}
+use Rattle.refusal.proofs.Lists.{front-of, none-left}
+use Rattle.refusal.proofs.Anyone.{two-next, two-stop, two-end}
+use Rattle.tree.specs.Growth.{run}
+use Rattle.tree.specs.Boxes.{clash, boxesMeet}
 use Rattle.tree.proofs.do_boxes_meet.Statement.{statement}
 use Rattle.tree.proofs.do_boxes_meet.Tie as tie
 
@@ -34,7 +37,8 @@ returns : tie.Need-returns Inv-loop μ-loop
 returns c =
     let h = c .before .before .before .before in
     let a = h .before .args in
-    meet-found (a .feed) (a .t2) (a .count) (h .loop .at) (omega arith) (omega arith) (c .before .clashes-any .ensures) (c .if1 .taken) ∙ h .loop .inv
+    let f = front-of (run 0 0) (a .t2) (a .count) (h .loop .at) (omega arith) (omega arith) in
+    sym (ap not (two-stop f (clash (a .feed)) (c .before .clashes-any .ensures) (c .if1 .taken))) ∙ h .loop .inv
 
 add-at : tie.Need-add-at Inv-loop μ-loop
 add-at c = search needs
@@ -46,13 +50,14 @@ loop-again : tie.Need-loop-again Inv-loop μ-loop
 loop-again c =
     let h = c .before .before .before .before in
     let a = h .before .args in
-    meet-turn (a .feed) (a .t2) (a .count) (h .loop .at) (omega arith) (omega arith) (c .before .clashes-any .ensures) (c .if1 .left) ∙ h .loop .inv
+    let f = front-of (run 0 0) (a .t2) (a .count) (h .loop .at) (omega arith) (omega arith) in
+    sym (ap not (two-next f (clash (a .feed)) (c .before .clashes-any .ensures) (c .if1 .left))) ∙ h .loop .inv
 
 returns-2 : tie.Need-returns-2 Inv-loop μ-loop
 returns-2 c =
     let h = c .before in
     let a = h .before .args in
-    meet-none (a .feed) (a .t2) (a .count) (h .loop .at) (omega arith) (omega arith) ∙ h .loop .inv
+    sym (ap not (two-end (none-left (a .t2) (a .count) (h .loop .at) (omega arith)) (clash (a .feed)))) ∙ h .loop .inv
 
 pub do-boxes-meet-spec : {M : Type 1} → statement M
 do-boxes-meet-spec =

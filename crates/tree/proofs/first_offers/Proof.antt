@@ -8,12 +8,12 @@ use native.Mathlib.Omega.{arith}
 use mathlib.Core.Path.{_≡_, ap, _∙_}
 use Prim.Native.Nat.{_≤_, _-_}
 use Rattle.tree.specs.Offers.{firstOffers}
-use Rattle.tree.proofs.Loops.{filled, filled-none}
+use Rattle.refusal.proofs.Lists.{overlaid, overlaid-none}
 use Rattle.tree.proofs.first_offers.Statement.{statement}
 use Rattle.tree.proofs.first_offers.Tie as tie
 
 abbrev Inv-loop : tie.InvT-loop
-Inv-loop first feed from offers₀ pin₀ offers pin = (pin ≤ mostPins) × (offers ≡ filled (firstOffers first from 0 feed) offers₀ pin)
+Inv-loop first feed from offers₀ pin₀ offers pin = (pin ≤ mostPins) × (offers ≡ overlaid (firstOffers first from 0 feed) offers₀ pin)
 
 abbrev μ-loop : tie.MeasureT-loop
 μ-loop first feed from offers₀ pin₀ offers pin = mostPins - pin
@@ -25,7 +25,7 @@ no-offer-requires : tie.Need-no-offer-requires Inv-loop μ-loop
 no-offer-requires c κs = search needs
 
 loop-holds : tie.Need-loop-holds Inv-loop μ-loop
-loop-holds c = (search needs, filled-none _ _)
+loop-holds c = (search needs, overlaid-none _ _)
 
 mul-spot : tie.Need-mul-spot Inv-loop μ-loop
 mul-spot c = search needs

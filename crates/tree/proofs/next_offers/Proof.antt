@@ -8,12 +8,12 @@ use native.Mathlib.Omega.{arith}
 use mathlib.Core.Path.{_≡_, ap, _∙_}
 use Prim.Native.Nat.{_≤_, _-_}
 use Rattle.tree.specs.Offers.{nextOffers}
-use Rattle.tree.proofs.Loops.{filled, filled-none}
+use Rattle.refusal.proofs.Lists.{overlaid, overlaid-none}
 use Rattle.tree.proofs.next_offers.Statement.{statement}
 use Rattle.tree.proofs.next_offers.Tie as tie
 
 abbrev Inv-loop : tie.InvT-loop
-Inv-loop near feed from offers₀ pin₀ offers pin = (pin ≤ mostPins) × (offers ≡ filled (nextOffers near from 0 feed offers₀) offers₀ pin)
+Inv-loop near feed from offers₀ pin₀ offers pin = (pin ≤ mostPins) × (offers ≡ overlaid (nextOffers near from 0 feed offers₀) offers₀ pin)
 
 abbrev μ-loop : tie.MeasureT-loop
 μ-loop near feed from offers₀ pin₀ offers pin = mostPins - pin
@@ -22,7 +22,7 @@ place-at-requires : tie.Need-place-at-requires Inv-loop μ-loop
 place-at-requires c κs = search needs
 
 loop-holds : tie.Need-loop-holds Inv-loop μ-loop
-loop-holds c = (search needs, filled-none _ _)
+loop-holds c = (search needs, overlaid-none _ _)
 
 mul-spot : tie.Need-mul-spot Inv-loop μ-loop
 mul-spot c = search needs

@@ -4,7 +4,7 @@ use mathlib.Core.List.{List}
 use Prim.Native.Nat.{ℕ}
 use native.Mathlib.Omega.{arith}
 use Rattle.tree.specs.declared.Offer.{Offer}
-use Rattle.feed.specs.Feeds.{placeOf, spotAt}
+use Rattle.feed.specs.Feeds.{placeAt}
 use Rattle.tree.specs.Offers.{firstOffers, takenRuns, takenOf, firstFrom}
 use Rattle.tree.specs.Trees.{mostRuns}
 use Rattle.tree.proofs.Result.{no-pins, count-few, boxes-meet, the-runs}
@@ -17,13 +17,13 @@ taken : (c : tie.After-take-runs)
     → c .take-runs .result
     ≡ takenOf (takenRuns (c .before .before .before .before .args .feed) mostRuns
     (firstOffers (firstFrom 0 (c .before .before .before .before .args .feed))
-    (placeOf (spotAt (c .before .before .before .before .args .feed) (firstFrom 0 (c .before .before .before .before .args .feed)))) 0
+    (placeAt (c .before .before .before .before .args .feed) (firstFrom 0 (c .before .before .before .before .args .feed))) 0
     (c .before .before .before .before .args .feed)))
 taken c =
     let feed = c .before .before .before .before .args .feed in
     c .take-runs .ensures
     ∙ ap (λ (o : List Offer). takenOf (takenRuns feed mostRuns o))
-    (c .before .first-offers .ensures ∙ ap (λ (f : ℕ). firstOffers f (placeOf (spotAt feed f)) 0 feed) (c .before .before .before .first-pin .ensures))
+    (c .before .first-offers .ensures ∙ ap (λ (f : ℕ). firstOffers f (placeAt feed f) 0 feed) (c .before .before .before .first-pin .ensures))
 
 first-pin-requires : tie.Need-first-pin-requires
 first-pin-requires c κs = search needs

@@ -6,7 +6,7 @@ use native.Mathlib.Omega.{arith}
 use borrow.Author.Needs.{needs}
 use lib.ListN.{length, replicate}
 use lib.Seq.{length-sets, length-take-le}
-use Rattle.script.specs.Text.{over, answerBytes}
+use Rattle.text.specs.Text.{over, answerBytes}
 use Rattle.mapped.specs.Mapped.{mapAnswer}
 use Rattle.wiremap.proofs.main.Statement.{statement}
 use Rattle.wiremap.proofs.main.Tie as tie

@@ -2,7 +2,8 @@
 use mathlib.Core.Path.{_≡_}
 use Prim.Native.Nat.{_≤_, _-_}
 use native.Mathlib.Omega.{arith}
-use Rattle.wiring.specs.Reaching.{valuesFrom, shapedIn}
+use Rattle.refusal.specs.Lists.{valuesFrom}
+use Rattle.wiring.specs.Reaching.{shapedIn}
 use Rattle.wiring.specs.Answer.{runEntries}
 use Rattle.wiring.proofs.Filling.{entries-none, entries-turn, entries-all}
 use borrow.Author.Needs.{needs}

@@ -2,21 +2,20 @@
 use mathlib.Core.Path.{_≡_, refl}
 use Prim.Native.Nat.{_-_}
 use Rattle.tree.specs.Trees.{mostRuns}
-use Rattle.tree.proofs.Loops.{filled, filled-none}
+use Rattle.refusal.proofs.Lists.{overlaid, overlaid-none, values-turn, values-all}
 use Rattle.wiring.specs.Reaching.{nearsOf}
-use Rattle.wiring.proofs.Filling.{values-turn, values-all}
 use borrow.Author.Needs.{needs}
 use Rattle.wiring.proofs.nears_of.Statement.{statement}
 use Rattle.wiring.proofs.nears_of.Tie as tie
 
 abbrev Inv-loop : tie.InvT-loop
-Inv-loop count runs nears₀ at₀ nears at = nears ≡ filled (nearsOf runs count) nears₀ at
+Inv-loop count runs nears₀ at₀ nears at = nears ≡ overlaid (nearsOf runs count) nears₀ at
 
 abbrev μ-loop : tie.MeasureT-loop
 μ-loop count runs nears₀ at₀ nears at = mostRuns - at
 
 loop-holds : tie.Need-loop-holds Inv-loop μ-loop
-loop-holds c = filled-none _ _
+loop-holds c = overlaid-none _ _
 
 mul-run : tie.Need-mul-run Inv-loop μ-loop
 mul-run c = search needs

@@ -3,7 +3,7 @@ use mathlib.Core.Path.{_≡_, refl, sym, _∙_}
 use Prim.Native.Nat.{_-_}
 use native.Mathlib.Omega.{arith}
 use lib.ListN.{take, drop}
-use Rattle.wiring.specs.Reaching.{reachedFrom}
+use Rattle.tree.specs.Reached.{reachedFrom}
 use Rattle.wiring.proofs.Filling.{search-hit, search-miss, search-end}
 use borrow.Author.Needs.{needs}
 use Rattle.wiring.proofs.reached_as.Statement.{statement}

@@ -1,4 +1,4 @@
--- `wiring::reached_of` meets its contract: both lists are filled from the front. Assumes nothing.
+-- `wiring::reached_of` meets its contract: the lists of x and y are filled from the front. Assumes nothing.
 use mir.Syntax.{w32}
 use mir.Val.{SFits}
 use mir.Facts.{toZ-ofZ}
@@ -7,21 +7,20 @@ use Prim.Native.Nat.{_-_}
 use lib.IntN.{pos}
 use Rattle.grid.specs.declared.Place.{Place}
 use Rattle.feed.specs.Feeds.{mostPins}
-use Rattle.tree.proofs.Loops.{filled, filled-none}
+use Rattle.refusal.proofs.Lists.{overlaid, overlaid-none, values-turn, values-all}
 use Rattle.wiring.specs.Reaching.{xsOf, ysOf, reachedOf}
-use Rattle.wiring.proofs.Filling.{values-turn, values-all}
 use borrow.Author.Needs.{needs}
 use Rattle.wiring.proofs.reached_of.Statement.{statement}
 use Rattle.wiring.proofs.reached_of.Tie as tie
 
 abbrev Inv-loop : tie.InvT-loop
-Inv-loop feed runs xs₀ ys₀ i₀ xs ys i = (xs ≡ filled (xsOf feed runs) xs₀ i) × (ys ≡ filled (ysOf feed runs) ys₀ i)
+Inv-loop feed runs count favoured xs₀ ys₀ i₀ xs ys i = (xs ≡ overlaid (xsOf feed runs) xs₀ i) × (ys ≡ overlaid (ysOf feed runs) ys₀ i)
 
 abbrev μ-loop : tie.MeasureT-loop
-μ-loop feed runs xs₀ ys₀ i₀ xs ys i = mostPins - i
+μ-loop feed runs count favoured xs₀ ys₀ i₀ xs ys i = mostPins - i
 
 loop-holds : tie.Need-loop-holds Inv-loop μ-loop
-loop-holds c = (filled-none _ _, filled-none _ _)
+loop-holds c = (overlaid-none _ _, overlaid-none _ _)
 
 reached-place-requires : tie.Need-reached-place-requires Inv-loop μ-loop
 reached-place-requires c κs = search needs
@@ -56,13 +55,17 @@ loop-again c =
       values-turn _ _ _ (pos 0) _ _ (s .loop .inv .1) refl _ in-range (toZ-ofZ fits-y ∙ ap (λ (p : Place). p .y) (t .reached-place .ensures)),
     )
 
+nears-of-requires : tie.Need-nears-of-requires Inv-loop μ-loop
+nears-of-requires c κs = search needs
+
 returns : tie.Need-returns Inv-loop μ-loop
 unfolding reachedOf xsOf ysOf
 returns c =
-    let s = c .before in
-    let xs-all = values-all _ _ _ (pos 0) _ _ (s .loop .inv .0) refl (c .loop-test .left) in
-    let ys-all = values-all _ _ _ (pos 0) _ _ (s .loop .inv .1) refl (c .loop-test .left) in
-    rw (xs-all, ys-all)
+    let k = c .before in
+    let s = k .before in
+    let xs-all = values-all _ _ _ (pos 0) _ _ (s .loop .inv .0) refl (k .loop-test .left) in
+    let ys-all = values-all _ _ _ (pos 0) _ _ (s .loop .inv .1) refl (k .loop-test .left) in
+    rw (xs-all, ys-all, c .nears-of .ensures)
 
 pub reached-of-spec : {M : Type 1} → statement M
 reached-of-spec =
@@ -79,4 +82,5 @@ reached-of-spec =
     add-i
     loop-less
     loop-again
+    nears-of-requires
     returns)

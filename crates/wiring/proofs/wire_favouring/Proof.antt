@@ -1,4 +1,5 @@
--- `wiring::wire_favouring` meets its contract: the tree refuses, the room is too small, or the shapes found are the answer. Assumes nothing.
+-- `wiring::wire_favouring` meets its contract: the tree refuses, the room is too small, or the shapes found are the answer. A need looks back by
+-- letters: o is the state at the start, s that after the first test, m, e and l those after the least cost, the entries and the legs. Assumes nothing.
 use mathlib.Core.Path.{_∙_}
 use native.Mathlib.Omega.{arith}
 use Rattle.wiring.proofs.Answering.{wire-refused, count-few, wire-grown, wire-room, wire-answer}
@@ -24,33 +25,30 @@ returns c =
     _ (s .before .before .tree-of .ensures) _ (s .before .is-accepted .ensures) (s .if1 .taken)
 
 reached-of-requires : tie.Need-reached-of-requires
-reached-of-requires c κs = search needs
-
-nears-of-requires : tie.Need-nears-of-requires
-nears-of-requires c κs =
-    let s = c .before .before .before .before in
+reached-of-requires c κs =
+    let s = c .before in
     let o = s .before .before .before in
     count-few _ (omega (arith, o .good)) (o .pre .0) (o .pre .1) (o .args .favoured) (o .args .room)
     _ (s .before .before .tree-of .ensures) _ (s .before .is-accepted .ensures) (s .if1 .left)
 
 least-cost-requires : tie.Need-least-cost-requires
 least-cost-requires c κs =
-    let s = c .before .before .before .before .before .before .before .before in
+    let s = c .before .before in
     let o = s .before .before .before in
     wire-grown _ (omega (arith, o .good)) (o .pre .0) (o .pre .1) (o .args .favoured) (o .args .room)
     _ (s .before .before .tree-of .ensures) _ (s .before .is-accepted .ensures) (s .if1 .left)
-    _ (c .before .before .before .before .before .before .reached-of .ensures) _ (c .before .before .before .nears-of .ensures)
+    _ (c .reached-of .ensures)
 
 entries-in-requires : tie.Need-entries-in-requires
 entries-in-requires c κs =
-    let s = c .before .before .before .before .before .before .before .before .before .before in
+    let s = c .before .before .before .before in
     let o = s .before .before .before in
     count-few _ (omega (arith, o .good)) (o .pre .0) (o .pre .1) (o .args .favoured) (o .args .room)
     _ (s .before .before .tree-of .ensures) _ (s .before .is-accepted .ensures) (s .if1 .left)
 
 legs-of-requires : tie.Need-legs-of-requires
 legs-of-requires c κs =
-    let s = c .before .before .before .before .before .before .before .before .before .before .before in
+    let s = c .before .before .before .before .before in
     let o = s .before .before .before in
     count-few _ (omega (arith, o .good)) (o .pre .0) (o .pre .1) (o .args .favoured) (o .args .room)
     _ (s .before .before .tree-of .ensures) _ (s .before .is-accepted .ensures) (s .if1 .left)
@@ -60,26 +58,26 @@ refused-requires-2 c κs = search needs
 
 returns-2 : tie.Need-returns-2
 returns-2 c =
-    let s = c .before .before .before .before .before .before .before .before .before .before .before .before .before .before .before in
-    let o = s .before .before .before in
-    let e = c .before .before .before .before in
+    let l = c .before .before .before in
+    let e = l .before in
     let m = e .before .before in
+    let s = m .before .before .before in
+    let o = s .before .before .before in
     c .refused2 .ensures
     ∙ wire-room _ (omega (arith, o .good)) (o .pre .0) (o .pre .1) (o .args .favoured) (o .args .room)
     _ (s .before .before .tree-of .ensures) _ (s .before .is-accepted .ensures) (s .if1 .left)
-    _ (m .before .before .before .before .before .before .before .reached-of .ensures) _ (m .before .before .before .before .nears-of .ensures)
-    _ (m .least-cost .ensures) _ (e .entries-in .ensures) _ (c .before .before .before .legs-of .ensures) (c .before .if2 .taken)
+    _ (m .before .reached-of .ensures) _ (m .least-cost .ensures) _ (e .entries-in .ensures) _ (l .legs-of .ensures) (c .before .if2 .taken)
 
 returns-3 : tie.Need-returns-3
 returns-3 c =
-    let s = c .before .before .before .before .before .before .before .before .before .before .before .before .before .before .before .before in
-    let o = s .before .before .before in
-    let e = c .before .before .before .before .before in
+    let l = c .before .before .before .before in
+    let e = l .before in
     let m = e .before .before in
+    let s = m .before .before .before in
+    let o = s .before .before .before in
     wire-answer _ (omega (arith, o .good)) (o .pre .0) (o .pre .1) (o .args .favoured) (o .args .room)
     _ (s .before .before .tree-of .ensures) _ (s .before .is-accepted .ensures) (s .if1 .left)
-    _ (m .before .before .before .before .before .before .before .reached-of .ensures) _ (m .before .before .before .before .nears-of .ensures)
-    _ (m .least-cost .ensures) _ (e .entries-in .ensures) _ (c .before .before .before .before .legs-of .ensures) (c .before .before .if2 .left)
+    _ (m .before .reached-of .ensures) _ (m .least-cost .ensures) _ (e .entries-in .ensures) _ (l .legs-of .ensures) (c .before .before .if2 .left)
 
 pub wire-favouring-spec : {M : Type 1} → statement M
 wire-favouring-spec =
@@ -90,7 +88,6 @@ wire-favouring-spec =
     refused-requires
     returns
     reached-of-requires
-    nears-of-requires
     least-cost-requires
     entries-in-requires
     legs-of-requires

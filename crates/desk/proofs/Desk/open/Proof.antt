@@ -40,7 +40,8 @@ returns c =
     let f = r .before .before in
     let a = f .before .before .args in
     let y = sym (b .before .is-accepted .ensures) ∙ b .if1 .taken in
-    step-accepted (a .self) (opening (a .seat) (a .job) (a .map .now)) (open-answer (a .self) (a .seat) (a .job) (a .map .now) (f .find .ensures) (r .map-read .ensures)) y
+    step-accepted (a .self) (opening (a .seat) (a .job) (a .map .now))
+    (open-answer (a .self) (a .seat) (a .job) (a .map .now) (f .find .ensures) (r .map-read .ensures)) y
     (c .with-seat .ensures ∙ rw (c .before .open-seat .ensures, open-read (a .self) (a .seat) (a .job) (a .map .now) (f .find .ensures) (r .map-read .ensures) y))
 
 returns-2 : tie.Need-returns-2
@@ -51,7 +52,8 @@ returns-2 c =
     let a = f .before .before .args in
     let y = sym (b .before .is-accepted .ensures) ∙ b .if1 .left in
     c .refused .ensures
-    ∙ step-refused (a .self) (opening (a .seat) (a .job) (a .map .now)) (open-answer (a .self) (a .seat) (a .job) (a .map .now) (f .find .ensures) (r .map-read .ensures)) y
+    ∙ step-refused (a .self) (opening (a .seat) (a .job) (a .map .now))
+    (open-answer (a .self) (a .seat) (a .job) (a .map .now) (f .find .ensures) (r .map-read .ensures)) y
 
 pub open-spec : {M : Type 1} → statement M
 open-spec =

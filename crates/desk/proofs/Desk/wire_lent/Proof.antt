@@ -72,12 +72,15 @@ use Rattle.desk.proofs.Desk.wire_lent as f
 use Rattle.desk.proofs.Desk.wire_lent.Statement as stated
 use Rattle.desk.proofs.Desk.wire_lent.Code as code
 
+-- what is left of the arguments: of the desk and the seat nothing, of the list its last legs
 abbrev stayed : Stays (f.ended .signature .params) (f.ended .kept)
 stayed = (stay-none (λ _. D.the-row) yes, (stay-none (λ _. usize) yes, (gave-slice (0 ∷ []) tt (plain (λ _. T.the-row)), tt)))
 
+-- a usize
 abbrev word : Ty
 word = tyInt w64
 
+-- the lent list
 abbrev slice : Ty
 slice = sliceTy (tyRef (named 0) mut (pointee (T.the-row .written)))
 
@@ -85,9 +88,11 @@ slice = sliceTy (tyRef (named 0) mut (pointee (T.the-row .written)))
 abbrev again : Ty
 again = tyRef erased mut (pointee (T.the-row .written))
 
+-- a struct of two parts
 abbrev two : Sym → Ty → Ty → Ty
 two ν α β = tyStruct ν (tcons α (tcons β tnil))
 
+-- and its value
 abbrev both : Val → Val → Val
 both u v = vstruct (ofList (u ∷ v ∷ []))
 
@@ -95,12 +100,15 @@ both u v = vstruct (ofList (u ∷ v ∷ []))
 -- Between the calls: _5 is the second part of _4, and the list is passed on.
 module _ {M : Type 1} (𝓤 : URA M) (H : Heap 𝓤) (A : Atoms 𝓤) (W : Given 𝓤 H A) (C : Calls 𝓤 H) (Λ : Loops 𝓤 H) (Q : Val → SProp 𝓤) (Γ : List (Item 𝓤)) (ν : Sym) (α β τ₀ τ₁ τ₂ : Ty) (off b o n : ℕ)
     (l₀ l₁ l₂ l₃ l₄ l₅ l₆ l₇ l₈ l₉ : ℕ) (first second v₆ : Val) where
+  -- the locals
   abbrev Between : Env 𝓤 H
   Between = (τ₀, l₀) ∷ (τ₁, l₁) ∷ (τ₂, l₂) ∷ (slice, l₃) ∷ (two ν α β, l₄) ∷ (β, l₅) ∷ (word, l₆) ∷ (tyUnit, l₇) ∷ (again, l₈) ∷ (sliceTy again, l₉) ∷ []
 
+  -- what is had below the value of _5
   abbrev Below : List (Item 𝓤)
   Below = ‵ (fdies β l₅) ∷ ‵ (fat fullShare (two ν α β) l₄ 0 (both first second)) ∷ ‵ (fdies (two ν α β) l₄) ∷ ‵ (fat fullShare slice l₃ 0 (sliceVal (b, o) n)) ∷ Γ
 
+  -- the second part is taken, and the list passed on
   passes : fieldAt zero (tcons α (tcons β tnil)) 1 ≡ just (β, off) → Holds (hasTy β second) × WT second → n < 2 ^ 64
       → Sq W (‵ (fat fullShare (sliceTy again) l₉ 0 (sliceVal (b, o) n)) ∷ ‵ (fdies (sliceTy again) l₉) ∷ ‵ (fat fullShare again l₈ 0 (vptr b o)) ∷ ‵ (fdies again l₈) ∷ ‵ (froom tyUnit l₇ 0) ∷ ‵ (fdies tyUnit l₇)
       ∷ ‵ (fat fullShare word l₆ 0 v₆) ∷ ‵ (fdies word l₆) ∷ ‵ (fat fullShare β l₅ 0 second) ∷ Below) (runs C Λ Between code.Mir.t-6 (atRet Between Q))
@@ -115,9 +123,11 @@ module _ {M : Type 1} (𝓤 : URA M) (H : Heap 𝓤) (A : Atoms 𝓤) (W : Given
 -- At the end: the answer is made of the first parts of _4 and of _5 and returned, and the locals are freed. Two more things are in hand, from which it is shown.
 module _ {M : Type 1} (𝓤 : URA M) (H : Heap 𝓤) (A : Atoms 𝓤) (W : Given 𝓤 H A) (C : Calls 𝓤 H) (Λ : Loops 𝓤 H) (Q : Val → SProp 𝓤) (I J : Item 𝓤) (ν₀ ν₄ ν₅ : Sym) (α β δ ε τ₁ τ₂ τ₃ τ₆ τ₇ τ₈ τ₉ : Ty)
     (l₀ l₁ l₂ l₃ l₄ l₅ l₆ l₇ l₈ l₉ : ℕ) (first second third fourth v₁ v₂ v₃ v₆ v₇ v₈ v₉ : Val) where
+  -- the locals
   abbrev Locals : Env 𝓤 H
   Locals = (two ν₀ α δ, l₀) ∷ (τ₁, l₁) ∷ (τ₂, l₂) ∷ (τ₃, l₃) ∷ (two ν₄ α β, l₄) ∷ (two ν₅ δ ε, l₅) ∷ (τ₆, l₆) ∷ (τ₇, l₇) ∷ (τ₈, l₈) ∷ (τ₉, l₉) ∷ []
 
+  -- the answer is made and returned, and the locals freed
   ends : Holds (hasTy (two ν₀ α δ) (both first third)) × WT (both first third) → ent 𝓤 (⋆ 𝓤 H A (I ∷ J ∷ [])) (Q (both first third))
       → Sq W (I ∷ J ∷ ‵ (fat fullShare τ₉ l₉ 0 v₉) ∷ ‵ (fdies τ₉ l₉) ∷ ‵ (fat fullShare τ₈ l₈ 0 v₈) ∷ ‵ (fdies τ₈ l₈) ∷ ‵ (fat fullShare τ₇ l₇ 0 v₇) ∷ ‵ (fdies τ₇ l₇) ∷ ‵ (fat fullShare τ₆ l₆ 0 v₆) ∷ ‵ (fdies τ₆ l₆)
       ∷ ‵ (fat fullShare (two ν₅ δ ε) l₅ 0 (both third fourth)) ∷ ‵ (fdies (two ν₅ δ ε) l₅) ∷ ‵ (fat fullShare (two ν₄ α β) l₄ 0 (both first second)) ∷ ‵ (fdies (two ν₄ α β) l₄) ∷ ‵ (fat fullShare τ₃ l₃ 0 v₃) ∷ ‵ (fdies τ₃ l₃)
@@ -129,10 +139,11 @@ module _ {M : Type 1} (𝓤 : URA M) (H : Heap 𝓤) (A : Atoms 𝓤) (W : Given
       move ! (10 ∷ 11 ∷ []) $ free1 ! $ move ! (8 ∷ 9 ∷ []) $ free1 ! $ move ! (6 ∷ 7 ∷ []) $ free1 ! $ move ! (4 ∷ 5 ∷ []) $ free1 ! $ move ! (2 ∷ 3 ∷ []) $ free1 ! $ free0 ! $ by ! shown
 
 module _ {M : Type 1} (𝓤 : URA M) (H : Heap 𝓤) (A : Atoms 𝓤) (mem : Memory → SProp 𝓤) (run : Routine → Fun 𝓤) where
-  -- the contracts of the functions called
+  -- the contracts of the functions called: of `wire`
   abbrev Wire : Contract 𝓤
   Wire = tripleOf 𝓤 H A wire.signature (wire.spec 𝓤 H A mem run)
 
+  -- of `fill`
   abbrev Fill : Contract 𝓤
   Fill = tripleOf 𝓤 H A fill.signature (fill.spec 𝓤 H A mem run)
 
@@ -142,27 +153,35 @@ module _ {M : Type 1} (𝓤 : URA M) (H : Heap 𝓤) (A : Atoms 𝓤) (mem : Mem
 
 module _ {M : Type 1} (𝓤 : URA M) (H : Heap 𝓤) (A : Atoms 𝓤) (W : Given 𝓤 H A) (mem : Memory → SProp 𝓤) (run : Routine → Fun 𝓤) (κ : Lft) (q : Share) (b o : ℕ) (γ : GName) (d : Desk) (seat : ℕ) (lent : List Leg)
     (gd : Is D.the-row d (LL.vals D.the-type D′.the-laws d)) (small : seat < 2 ^ 64) (room : Room T.the-row (length lent)) where
+  -- the desk in memory
   abbrev desk : Val
   desk = LL.val D.the-type D′.the-laws d
 
+  -- the lent list
   abbrev x : RefT (List Leg)
   x = record { ptr = (b, o); name = γ; now = lent }
 
+  -- and it in memory
   abbrev s : Val
   s = sliceVal (b, o) (length lent)
 
+  -- the type of the arguments
   abbrev Arg : Type 0
   Arg = Desk × (ℕ × (RefT (List Leg) × Unit {0}))
 
+  -- the arguments
   abbrev a : Arg
   a = (d, (seat, (x, tt)))
 
+  -- and they in memory
   abbrev at : List Val × (List Val × (List Val × Unit {0}))
   at = (desk ∷ [], (vint w64 seat ∷ [], (s ∷ [], tt)))
 
+  -- what the return has to show
   abbrev Post : Val → SProp 𝓤
   Post = walkOf 𝓤 H A f.ended stayed (f.clauses 𝓤 H A mem run) .post (((κ, tt), (q, tt), tt, a, at), tt)
 
+  -- it is shown where the answer and the last legs are those of the contract
   exits : (z : WiredSeat) → Is S.the-row z (LL.vals S.the-type S′.the-laws z) → (legs : List Leg) → z ≡ wiredSeatOf d seat lent → legs ≡ lentOf d seat lent → length legs ≡ length lent
       → ent 𝓤 (sep 𝓤 (sep 𝓤 (A .lft κ q) (sem 𝓤 H A ftrue)) (sem 𝓤 H A (finally T.the-row γ legs))) (Post (LL.val S.the-type S′.the-laws z))
   exits z gz legs e g l =
@@ -172,9 +191,11 @@ module _ {M : Type 1} (𝓤 : URA M) (H : Heap 𝓤) (A : Atoms 𝓤) (W : Given
       nothing ! $ move ! (1 ∷ 0 ∷ []) $ fjoin ! $ owned ! usize (Is usize) (uint-makes 𝓤 H A W w64) seat _ (refl, small) $ fjoin ! $ owned ! D.the-row (Is D.the-row) ((LL.makes D.the-type D′.the-plain) 𝓤 H A) d _ gd $ fjoin ! $
       owned ! S.the-row (Is S.the-row) ((LL.makes S.the-type S′.the-plain) 𝓤 H A) z _ gz $ move ! (1 ∷ 0 ∷ []) $ done !
 
+  -- what `wire` is called with
   abbrev to-wire : Wire 𝓤 H A mem run .Ghost
   to-wire = ((tt, tt, tt, (d, (seat, (length lent, tt))), (desk ∷ [], (vint w64 seat ∷ [], (vint w64 (length lent) ∷ [], tt)))), tt)
 
+  -- and it may be called so
   goes-wire : ent 𝓤 (emp 𝓤) (Wire 𝓤 H A mem run .pre to-wire)
   goes-wire = qed W [] ∵ nothing ! $ owned ! usize (Is usize) (uint-makes 𝓤 H A W w64) (length lent) _ (refl, room .0) $ fjoin ! $ owned ! usize (Is usize) (uint-makes 𝓤 H A W w64) seat _ (refl, small) $ fjoin ! $
       owned ! D.the-row (Is D.the-row) ((LL.makes D.the-type D′.the-plain) 𝓤 H A) d _ gd $ fjoin ! $ nothing ! $ join ! $ nothing ! $ move ! (1 ∷ 0 ∷ []) $ done !
@@ -182,32 +203,41 @@ module _ {M : Type 1} (𝓤 : URA M) (H : Heap 𝓤) (A : Atoms 𝓤) (W : Given
   module _ (C : Calls 𝓤 H) (Λ : Loops 𝓤 H) (fm : FmC 𝓤 H (W .laws) C) (known-wire : Triple 𝓤 (C #wire) (Wire 𝓤 H A mem run)) (known-fill : Triple 𝓤 (C #fill) (Fill 𝓤 H A mem run)) where
     -- once `wire` has answered r
     module _ (r : Wired) (e : r ≡ wiredOf d seat (length lent)) (gr : Is R.the-row r (LL.vals R.the-type R′.the-laws r)) where
+      -- the wiring with its legs
       abbrev laid : Laid
       laid = r .laid
 
+      -- it is one that memory can hold
       gl : Is L.the-row laid (LL.vals L.the-type L′.the-laws laid)
       gl = LL.owed R.the-type R′.the-laws r _ gr .1 .0
 
+      -- it in memory
       abbrev laid-val : Val
       laid-val = LL.val L.the-type L′.the-laws laid
 
+      -- the answer
       abbrev z : WiredSeat
       z = record { desk = r .desk; wiring = laid .wiring }
 
+      -- it is one that memory can hold
       gz : Is S.the-row z (LL.vals S.the-type S′.the-laws z)
       gz = LL.owes S.the-type S′.the-laws z (LL.owed R.the-type R′.the-laws r _ gr .0, (LL.owed L.the-type L′.the-laws laid _ gl .0, tt))
 
+      -- the legs fit
       fits : (laid .wiring .legs ≤ 62) × (laid .wiring .legs ≤ length lent)
       fits = rw e (seat-fits d seat (length lent))
 
+      -- what `fill` is called with
       abbrev to-fill : Fill 𝓤 H A mem run .Ghost
       to-fill = (((κ, tt), (q, tt), tt, (laid, (x, tt)), (laid-val ∷ [], (s ∷ [], tt))), tt)
 
+      -- and it may be called so
       goes-fill : ent 𝓤 (sep 𝓤 (sep 𝓤 (A .lft κ q) (sem 𝓤 H A ftrue)) (sem 𝓤 H A (MutSlice (named 0) κ T.the-row .own x (s ∷ [])))) (Fill 𝓤 H A mem run .pre to-fill)
       goes-fill = qed W ((‵ (flft κ q) ⊛ ‵ ftrue) ∷ ‵ (MutSlice (named 0) κ T.the-row .own x (s ∷ [])) ∷ []) ∵ says ! fits $ frame ! $
           nothing ! $ move ! (1 ∷ 0 ∷ []) $ fjoin ! $ owned ! L.the-row (Is L.the-row) ((LL.makes L.the-type L′.the-plain) 𝓤 H A) laid _ gl $ fjoin ! $ done !
 
       module _ (l₀ l₁ l₂ l₃ l₄ l₅ l₆ l₇ l₈ l₉ : ℕ) where
+        -- the locals
         abbrev En : Env 𝓤 H
         En = (S′.mir, l₀) ∷ (D′.mir, l₁) ∷ (word, l₂) ∷ (slice, l₃) ∷ (R′.mir, l₄) ∷ (L′.mir, l₅) ∷ (word, l₆) ∷ (tyUnit, l₇) ∷ (again, l₈) ∷ (sliceTy again, l₉) ∷ []
 
@@ -239,6 +269,7 @@ module _ {M : Type 1} (𝓤 : URA M) (H : Heap 𝓤) (A : Atoms 𝓤) (W : Given
         rest = passes 𝓤 H A W C Λ Post _ _ D′.mir L′.mir S′.mir D′.mir word _ b o (length lent) l₀ l₁ l₂ l₃ l₄ l₅ l₆ l₇ l₈ l₉ (LL.val D.the-type D′.the-laws (r .desk)) laid-val (vint w64 (length lent))
             refl (LL.lawful L.the-type L′.the-laws 𝓤 H A W .typed laid _ gl .0) (room .0) filling
 
+    -- the whole function, from its entry to its return
     walk : ent 𝓤 (onEntry 𝓤 H A f.signature (κ, tt) (q, tt) a at) (WpFn 𝓤 H C Λ code.function (desk ∷ vint w64 seat ∷ s ∷ []) Post)
     walk =
         qed W ((‵ (flft κ q) ⊛ ‵ ftrue) ∷ ‵ (owns (D.the-row ∷ usize ∷ MutSlice (named 0) κ T.the-row ∷ []) a at) ∷ []) ∵ enter ! C Λ code.function (desk ∷ vint w64 seat ∷ s ∷ []) _ $
@@ -256,6 +287,7 @@ module _ {M : Type 1} (𝓤 : URA M) (H : Heap 𝓤) (A : Atoms 𝓤) (W : Given
         rest r e (subst (Is R.the-row r) (LL.tells R.the-type R′.the-laws r _ is) is) l₀ l₁ l₂ l₃ l₄ l₅ l₆ l₇ l₈ l₉))))))))))))))
 
 module _ {M : Type 1} (𝓤 : URA M) (H : Heap 𝓤) (A : Atoms 𝓤) (W : Given 𝓤 H A) (mem : Memory → SProp 𝓤) (run : Routine → Fun 𝓤) where
+  -- so for any arguments
   wire-lent-walks : (C : Calls 𝓤 H) (Λ : Loops 𝓤 H) → FmC 𝓤 H (W .laws) C → Triple 𝓤 (C #wire) (Wire 𝓤 H A mem run) → Triple 𝓤 (C #fill) (Fill 𝓤 H A mem run)
       → Walks 𝓤 H A f.ended stayed (WpFn 𝓤 H C Λ code.function) (f.clauses 𝓤 H A mem run)
   wire-lent-walks C Λ fm known-wire known-fill = walked 𝓤 H A f.ended stayed (f.clauses 𝓤 H A mem run) (WpFn 𝓤 H C Λ code.function)
@@ -263,6 +295,7 @@ module _ {M : Type 1} (𝓤 : URA M) (H : Heap 𝓤) (A : Atoms 𝓤) (W : Given
       (λ κs qs bounds a g are. via 𝓤 _ (fst∗ 𝓤 _ (emp 𝓤))
       (walk 𝓤 H A W mem run (κs .0) (qs .0) (a .1 .1 .0 .ptr .0) (a .1 .1 .0 .ptr .1) (a .1 .1 .0 .name) (a .0) (a .1 .0) (a .1 .1 .0 .now) (are .0) (are .1 .0 .1) (are .1 .1 .0 .0 .1) C Λ fm known-wire known-fill))
 
+-- and the function meets its contract, where the functions called meet theirs
 wire-lent-meets : {M : Type 1} (𝓤 : URA M) (H : Heap 𝓤) (A : Atoms 𝓤) → Given 𝓤 H A → (mem : Memory → SProp 𝓤) (run : Routine → Fun 𝓤) (𝓣 : Tables 𝓤 H)
     → Triple 𝓤 (𝓣 .C #wire) (Wire 𝓤 H A mem run) → Triple 𝓤 (𝓣 .C #fill) (Fill 𝓤 H A mem run)
     → Meets 𝓤 H A f.signature (WpFn 𝓤 H (𝓣 .C) (𝓣 .Λ) code.function) (f.spec 𝓤 H A mem run)

@@ -1,6 +1,6 @@
 -- `desk::Desk::write` meets its contract, by what is found. Assumes nothing.
 use borrow.Author.Needs.{needs}
-use Rattle.desk.proofs.Writing.{write-done}
+use Rattle.desk.proofs.Writing.{write-done, write-left}
 use Rattle.desk.proofs.Desk.write.Statement.{statement}
 use Rattle.desk.proofs.Desk.write.Tie as tie
 
@@ -18,7 +18,8 @@ returns c =
     let w = c .before .before in
     let f = w .before .before in
     let a = f .before .before .args in
-    write-done (a .self) (a .seat) (f .find .ensures) (a .buffer .now) (w .map-written .ensures .0) (w .map-written .ensures .1)
+    let b = a .buffer .now in
+    (write-done (a .self) (a .seat) (f .find .ensures) b (w .map-written .ensures .0), write-left (a .self) (a .seat) (f .find .ensures) b (w .map-written .ensures .1))
 
 pub write-spec : {M : Type 1} → statement M
 write-spec = tie.close (tie.spec find-requires map-written-requires same-length returns)

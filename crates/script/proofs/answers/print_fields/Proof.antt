@@ -1,9 +1,10 @@
 -- `script::print_fields` meets its contract. Assumes nothing.
 use mathlib.Core.List.{_++_}
 use native.Mathlib.Omega.{arith}
-use Rattle.script.proofs.Printing.{put-all5, line}
-use Rattle.script.specs.Text.{text}
-use Rattle.script.specs.Answers.{decimal, fieldsLine}
+use Rattle.text.proofs.Printing.{put-all5, line}
+use Rattle.text.specs.Text.{text}
+use Rattle.text.specs.Digits.{decimal}
+use Rattle.script.specs.Answers.{fieldsLine}
 use borrow.Author.Needs.{needs}
 use Rattle.script.proofs.answers.print_fields.Statement.{statement}
 use Rattle.script.proofs.answers.print_fields.Tie as tie

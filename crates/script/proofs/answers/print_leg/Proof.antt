@@ -1,8 +1,9 @@
 -- `script::print_leg` meets its contract. Assumes nothing.
 use native.Mathlib.Omega.{arith}
-use Rattle.script.proofs.Printing.{put-all3}
-use Rattle.script.specs.Text.{text}
-use Rattle.script.specs.Answers.{placeText, legLine}
+use Rattle.text.proofs.Printing.{put-all3}
+use Rattle.text.specs.Text.{text}
+use Rattle.text.specs.Digits.{placeText}
+use Rattle.script.specs.Answers.{legLine}
 use borrow.Author.Needs.{needs}
 use Rattle.script.proofs.answers.print_leg.Statement.{statement}
 use Rattle.script.proofs.answers.print_leg.Tie as tie

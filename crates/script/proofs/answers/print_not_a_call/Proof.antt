@@ -1,9 +1,10 @@
 -- `script::print_not_a_call` meets its contract. Assumes nothing.
 use mathlib.Core.List.{_++_}
 use native.Mathlib.Omega.{arith}
-use Rattle.script.proofs.Printing.{then-put, line}
-use Rattle.script.specs.Text.{text}
-use Rattle.script.specs.Answers.{field, notACallLine}
+use Rattle.text.proofs.Printing.{then-put, line}
+use Rattle.text.specs.Text.{text}
+use Rattle.text.specs.Digits.{field}
+use Rattle.script.specs.Answers.{notACallLine}
 use borrow.Author.Needs.{needs}
 use Rattle.script.proofs.answers.print_not_a_call.Statement.{statement}
 use Rattle.script.proofs.answers.print_not_a_call.Tie as tie

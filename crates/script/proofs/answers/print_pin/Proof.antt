@@ -1,8 +1,9 @@
 -- `script::print_pin` meets its contract. Assumes nothing.
 use native.Mathlib.Omega.{arith}
-use Rattle.script.proofs.Printing.{put-all3}
-use Rattle.script.specs.Text.{text}
-use Rattle.script.specs.Answers.{field, placeText, pinLine}
+use Rattle.text.proofs.Printing.{put-all3}
+use Rattle.text.specs.Text.{text}
+use Rattle.text.specs.Digits.{field, placeText}
+use Rattle.script.specs.Answers.{pinLine}
 use borrow.Author.Needs.{needs}
 use Rattle.script.proofs.answers.print_pin.Statement.{statement}
 use Rattle.script.proofs.answers.print_pin.Tie as tie

@@ -1,8 +1,9 @@
 -- `script::print_run` meets its contract. Assumes nothing.
 use native.Mathlib.Omega.{arith}
-use Rattle.script.proofs.Printing.{put-all5}
-use Rattle.script.specs.Text.{text}
-use Rattle.script.specs.Answers.{field, runLine}
+use Rattle.text.proofs.Printing.{put-all5}
+use Rattle.text.specs.Text.{text}
+use Rattle.text.specs.Digits.{field}
+use Rattle.script.specs.Answers.{runLine}
 use borrow.Author.Needs.{needs}
 use Rattle.script.proofs.answers.print_run.Statement.{statement}
 use Rattle.script.proofs.answers.print_run.Tie as tie

@@ -1,8 +1,10 @@
 -- `script::print_told` meets its contract. Assumes nothing.
 use native.Mathlib.Omega.{arith}
-use Rattle.script.proofs.Printing.{put-as, put-all3, line, told-zero, told-refused}
-use Rattle.script.specs.Text.{text}
-use Rattle.script.specs.Answers.{field, carriedText, toldLine}
+use Rattle.script.proofs.Telling.{told-zero, told-refused}
+use Rattle.text.proofs.Printing.{put-as, put-all3, line}
+use Rattle.text.specs.Text.{text}
+use Rattle.text.specs.Digits.{field}
+use Rattle.script.specs.Answers.{carriedText, toldLine}
 use borrow.Author.Needs.{needs}
 use Rattle.script.proofs.answers.print_told.Statement.{statement}
 use Rattle.script.proofs.answers.print_told.Tie as tie

@@ -2,7 +2,7 @@
 use mathlib.Core.Path.{_∙_, ap}
 use Rattle.script.specs.Answers.{toldLine}
 use lib.ListN.{length}
-use Rattle.script.specs.Text.{over}
+use Rattle.text.specs.Text.{over}
 use Rattle.refusal.specs.declared.Told.{Told}
 use borrow.Author.Needs.{needs}
 use Rattle.script.proofs.answers.print_verdict.Statement.{statement}

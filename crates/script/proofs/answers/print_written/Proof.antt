@@ -3,10 +3,11 @@ use mathlib.Core.Path.{sym, _∙_, ap}
 use mathlib.Core.List.{_++_}
 use Prim.Native.Nat.{ℕ}
 use native.Mathlib.Omega.{arith}
-use Rattle.script.specs.Orders.{mostRoom}
-use Rattle.script.proofs.Printing.{put-as, put-all3, line, take-smaller}
-use Rattle.script.specs.Text.{text}
-use Rattle.script.specs.Answers.{field, hexPart, writtenLine}
+use Rattle.script.specs.Said.{mostRoom}
+use Rattle.text.proofs.Printing.{put-as, put-all3, line, take-smaller}
+use Rattle.text.specs.Text.{text}
+use Rattle.text.specs.Digits.{field}
+use Rattle.script.specs.Answers.{hexPart, writtenLine}
 use lib.ListN.{take}
 use lib.Seq.{length-take-le}
 use borrow.Author.Needs.{needs}

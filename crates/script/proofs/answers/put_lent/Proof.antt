@@ -1,9 +1,10 @@
 -- `script::put_lent` meets its contract. Assumes nothing.
 use mathlib.Core.Path.{ap}
 use native.Mathlib.Omega.{arith}
-use Rattle.script.proofs.Printing.{then-put, put-as, lent-none, lent-some}
-use Rattle.script.specs.Text.{text}
-use Rattle.script.specs.Answers.{hex}
+use Rattle.script.proofs.Telling.{lent-none, lent-some}
+use Rattle.text.proofs.Printing.{then-put, put-as}
+use Rattle.text.specs.Text.{text}
+use Rattle.text.specs.Digits.{hex}
 use lib.ListN.{length}
 use lib.Seq.{sets}
 use borrow.Author.Needs.{needs}

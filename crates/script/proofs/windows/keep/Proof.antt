@@ -5,8 +5,8 @@ use Prim.Native.Nat.{ℕ, _≤_, _-_, min}
 use native.Mathlib.Omega.{arith}
 use lib.ListN.{length, take}
 use lib.Seq.{sets}
-use Rattle.script.proofs.Steps.{front, stored-more}
-use Rattle.script.proofs.Printing.{take-smaller}
+use Rattle.text.proofs.Steps.{front, stored-more}
+use Rattle.text.proofs.Printing.{take-smaller}
 use Rattle.script.proofs.windows.keep.Statement.{statement}
 use Rattle.script.proofs.windows.keep.Tie as tie
 

@@ -1,6 +1,6 @@
 -- `script::newline` meets its contract. Assumes nothing.
-use Rattle.script.specs.Words.{newline}
-use Rattle.script.proofs.Cutting.{stop-from, stop-within}
+use Rattle.text.specs.Words.{newline}
+use Rattle.text.proofs.Cutting.{stop-from, stop-within}
 use borrow.Author.Needs.{needs}
 use Rattle.script.proofs.windows.newline.Statement.{statement}
 use Rattle.script.proofs.windows.newline.Tie as tie

@@ -1,0 +1,5 @@
+-- What is proved of words, numbers and digits beside the functions' contracts.
+pub mod Steps
+pub mod Cutting
+pub mod Values
+pub mod Printing

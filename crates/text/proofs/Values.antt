@@ -1,0 +1,475 @@
+-- Words read byte by byte come to the numbers, lists and bytes that the definitions give. Assumes nothing.
+use mathlib.Core.Path.{_≡_, refl, sym, _∙_, ap}
+use mathlib.Core.Bool.{Bool, true, false}
+use mathlib.Core.Logic.{_⊎_, inl, inr}
+use mathlib.Core.List.{List, [], _∷_, map}
+use Prim.Native.Nat.{ℕ, zero, suc, _+_, _-_, _*_, _≤_, _<_, min}
+use native.Mathlib.Omega.{arith}
+use lib.IntN.{ℤ, pos, negsuc, negℤ}
+use lib.Dec.{leb, ltb, eqb}
+use lib.ListN.{length, take, drop, getD, set, List·getD-eq-default, length-drop, length-map, drop-of-length-le}
+use lib.Seq.{drop-nil, drop-drop, take-all}
+use Rattle.bytes.specs.Bytes.{indexOf}
+use mir.Syntax.{w32}
+use mir.Val.{toZ}
+use borrow.Author.Tests.{lt-leb, le-leb, lt-ltb, le-ltb, eq-eqb, ne-eqb, leb-true}
+use Rattle.refusal.specs.Tests.{both, either, choose}
+use Rattle.refusal.proofs.Tests.{opposite, both-left, both-right}
+use Rattle.grid.proofs.Flat.{order}
+use Rattle.text.specs.Text.{same, over}
+use Rattle.text.specs.Words.{comma, pieces, stopAt}
+use Rattle.text.specs.Numbers.{mostAbove, mostBelow, mostNumber, mostNumbers, mostPairs, between, allDigits, valueFrom, valueOf, isNumber, numberOf, hasMinus, isCoordinate, signed, coordinateOf, noneWord, allCoordinates, isRow, listed, isList, isHex, hexValue, allPairs, bytesOf, isMap, beyond}
+use Rattle.text.specs.declared.Number.{Number}
+use Rattle.text.specs.declared.Coordinate.{Coordinate}
+use Rattle.text.proofs.Steps.{front, picked, unpicked, fill-more, fill-done}
+use Rattle.text.proofs.Cutting.{first-piece, after-piece, last-piece, some-piece, same-is}
+
+-- A byte below the low end is not between,
+pub between-below : (low high b : ℕ) → b < low → false ≡ between low high b
+unfolding between both
+between-below low high b h = rw (lt-leb low b h)
+
+-- for any other the high end decides;
+pub between-from : (low high b : ℕ) → low ≤ b → leb b high ≡ between low high b
+unfolding between both
+between-from low high b h = rw (le-leb low b h)
+
+-- what is between is not below the low end nor above the high one.
+pub between-is : (low high b : ℕ) → between low high b ≡ true → (low ≤ b) × (b ≤ high)
+unfolding between
+between-is low high b h = (leb-true low b (both-left _ _ h), leb-true b high (both-right _ _ h))
+
+-- Digits, one by one.
+module _ (w : List ℕ) (i : ℕ) where
+  -- A digit leaves it to the bytes after it whether all are digits,
+  pub digits-next : i < length w → between 48 57 (getD w i 0) ≡ true → allDigits (drop i w) ≡ allDigits (drop (i + 1) w)
+  unfolding allDigits both
+  digits-next h e = rw (front 0 w i h, e)
+
+  -- any other byte settles that they are not,
+  pub digits-stop : i < length w → between 48 57 (getD w i 0) ≡ false → allDigits (drop i w) ≡ false
+  unfolding allDigits both
+  digits-stop h e = rw (front 0 w i h, e)
+
+  -- and at the end of the word they are.
+  pub digits-end : length w ≤ i → allDigits (drop i w) ≡ true
+  unfolding allDigits
+  digits-end h = rw (drop-of-length-le w h)
+
+-- Beyond all ranges one value is as good as another.
+capped : (v d : ℕ) → min (min v beyond * 10 + d) beyond ≡ min (v * 10 + d) beyond
+capped v d = omega arith
+
+value-capped : (w : List ℕ) (v : ℕ) → min (valueFrom (min v beyond) w) beyond ≡ min (valueFrom v w) beyond
+unfolding valueFrom
+value-capped [] v = omega arith
+value-capped (b ∷ rest) v =
+    sym (value-capped rest (min v beyond * 10 + (b - 48)))
+    ∙ ap (λ (n : ℕ). min (valueFrom n rest) beyond) (capped v (b - 48))
+    ∙ value-capped rest (v * 10 + (b - 48))
+
+module _ (w : List ℕ) (i v : ℕ) where
+  -- One digit more: the value so far times ten, and the digit, up to the number beyond all ranges.
+  pub value-next : i < length w
+      → min (valueFrom v (drop i w)) beyond ≡ min (valueFrom (min (v * 10 + (getD w i 0 - 48)) beyond) (drop (i + 1) w)) beyond
+  unfolding valueFrom
+  value-next h = rw (front 0 w i h) (sym (value-capped (drop (i + 1) w) (v * 10 + (getD w i 0 - 48))))
+
+  -- At the end of the word the value so far is what its digits come to.
+  pub value-end : length w ≤ i → v ≤ beyond → v ≡ min (valueFrom v (drop i w)) beyond
+  unfolding valueFrom
+  value-end h k = rw (drop-of-length-le w h) (omega arith)
+
+-- A word that is no number, and one that is.
+module _ (top : ℕ) (w : List ℕ) where
+  -- An empty word is no number,
+  pub number-empty : length w ≡ 0 → Number.NotOne ≡ numberOf top w
+  unfolding numberOf isNumber both choose
+  number-empty h = rw (le-ltb 0 (length w) (omega arith))
+
+  -- nor is one with a byte that is no digit,
+  pub number-undigits : allDigits w ≡ false → Number.NotOne ≡ numberOf top w
+  unfolding numberOf isNumber both choose
+  number-undigits h = undigits (ltb 0 (length w)) h
+    where
+      undigits : (t : Bool) → allDigits w ≡ false
+          → Number.NotOne ≡ choose (both t (both (allDigits w) (leb (valueOf w) top))) (Number.Of (valueOf w)) Number.NotOne
+      undigits true e = rw e
+      undigits false e = refl
+
+  -- nor one that comes to more than its range allows;
+  pub number-above : (length w ≡ 0 → ⊥) → allDigits w ≡ true → top < min (valueOf w) beyond → Number.NotOne ≡ numberOf top w
+  unfolding numberOf isNumber both choose
+  number-above n d h = rw (lt-ltb 0 (length w) (omega arith), d, lt-leb (valueOf w) top (omega arith))
+
+  -- any other is the number that its digits come to.
+  pub number-within : (length w ≡ 0 → ⊥) → allDigits w ≡ true → min (valueOf w) beyond ≤ top → top ≤ mostNumber
+      → Number.Of (min (valueOf w) beyond) ≡ numberOf top w
+  unfolding numberOf isNumber both choose
+  number-within n d h k =
+      rw (lt-ltb 0 (length w) (omega arith), d, le-leb (valueOf w) top (omega arith))
+      (ap Number.Of (omega arith))
+
+  -- A word that was read is a number and comes to what was read,
+  pub number-read : {n : ℕ} → Number.Of n ≡ numberOf top w → (isNumber top w ≡ true) × (n ≡ valueOf w)
+  unfolding numberOf choose
+  number-read {n} e =
+      let p : (isNumber top w ≡ true) × (Number.Of n ≡ Number.Of (valueOf w)) = picked (isNumber top w) (λ q. opposite {t = true} refl cc) e in
+      (p .0, cc)
+
+  -- and one that was not read is none.
+  pub number-unread : Number.NotOne ≡ numberOf top w → isNumber top w ≡ false
+  unfolding numberOf choose
+  number-unread e = unpicked (isNumber top w) (λ q. opposite {t = true} refl cc) e
+
+  -- A number is in its range.
+  pub number-top : isNumber top w ≡ true → valueOf w ≤ top
+  unfolding isNumber
+  number-top h = leb-true (valueOf w) top (both-right _ _ (both-right _ _ h))
+
+-- An empty word has no minus before it.
+pub minus-none : (w : List ℕ) → length w ≡ 0 → false ≡ hasMinus w
+unfolding hasMinus
+minus-none w h = rw (List·getD-eq-default w 0 {n = 0} (omega arith))
+
+-- The value of a hex digit from 0 to 9,
+pub hex-digit : (b : ℕ) → between 48 57 b ≡ true → b - 48 ≡ hexValue b
+unfolding hexValue choose
+hex-digit b h = rw h
+
+-- of a small letter from a to f,
+pub hex-small : (b : ℕ) → between 48 57 b ≡ false → between 97 102 b ≡ true → b - 87 ≡ hexValue b
+unfolding hexValue choose
+hex-small b h k = rw (h, k)
+
+-- of a capital one,
+pub hex-capital : (b : ℕ) → between 48 57 b ≡ false → between 97 102 b ≡ false → between 65 70 b ≡ true → b - 55 ≡ hexValue b
+unfolding hexValue choose
+hex-capital b h k m = rw (h, k, m)
+
+-- and of any other byte.
+pub hex-none : (b : ℕ) → between 48 57 b ≡ false → between 97 102 b ≡ false → between 65 70 b ≡ false → 0 ≡ hexValue b
+unfolding hexValue choose
+hex-none b h k m = rw (h, k, m)
+
+-- Pairs of hex digits, one by one.
+module _ (w : List ℕ) (i : ℕ) where
+  two-fronts : i + 1 < length w → drop i w ≡ getD w i 0 ∷ getD w (i + 1) 0 ∷ drop (i + 2) w
+  two-fronts h =
+      let e : i + 1 + 1 ≡ i + 2 = omega arith in
+      front 0 w i (omega arith)
+      ∙ ap (λ (l : List ℕ). getD w i 0 ∷ l) (front 0 w (i + 1) h)
+      ∙ ap (λ (n : ℕ). getD w i 0 ∷ getD w (i + 1) 0 ∷ drop n w) e
+
+  -- A pair of hex digits leaves it to those after it whether all are pairs,
+  pub pairs-next : i + 1 < length w → isHex (getD w i 0) ≡ true → isHex (getD w (i + 1) 0) ≡ true → allPairs (drop i w) ≡ allPairs (drop (i + 2) w)
+  unfolding allPairs both
+  pairs-next h a b = rw (two-fronts h, a, b)
+
+  -- a first byte that is no hex digit settles that they are not,
+  pub pairs-stop : i + 1 < length w → isHex (getD w i 0) ≡ false → allPairs (drop i w) ≡ false
+  unfolding allPairs both
+  pairs-stop h a = rw (two-fronts h, a)
+
+  -- a second byte too,
+  pub pairs-stop-2 : i + 1 < length w → isHex (getD w i 0) ≡ true → isHex (getD w (i + 1) 0) ≡ false → allPairs (drop i w) ≡ false
+  unfolding allPairs both
+  pairs-stop-2 h a b = rw (two-fronts h, a, b)
+
+  -- and at the end of the word all are pairs unless a byte is left over.
+  pub pairs-end : length w ≤ i + 1 → i ≤ length w → eqb i (length w) ≡ allPairs (drop i w)
+  unfolding allPairs
+  pairs-end h k = end-by (drop i w) (length-drop i w)
+    where
+      end-by : (l : List ℕ) → length l ≡ length w - i → eqb i (length w) ≡ allPairs l
+      end-by [] e = eq-eqb i (length w) (omega arith)
+      end-by (a ∷ []) e = ne-eqb i (length w) (λ q. omega arith)
+      end-by (a ∷ b ∷ r) e = absurd (omega arith)
+
+-- The complement of one less is the number below zero.
+pub neg-complement : (n : ℕ) → (n ≡ 0 → ⊥) → n ≤ 2147483648 → toZ w32 (4294967295 - (n - 1)) ≡ negℤ (pos n)
+neg-complement zero z h = absurd (z refl)
+neg-complement (suc k) z h =
+    let e : 4294967296 - suc (4294967295 - (suc k - 1)) ≡ k = omega arith in
+    rw (le-ltb (4294967295 - (suc k - 1)) 2147483648 (omega arith)) (ap negsuc e)
+
+-- A byte from 0 to 9 is a hex digit,
+pub hex-yes : (b : ℕ) → between 48 57 b ≡ true → true ≡ isHex b
+unfolding isHex either
+hex-yes b h = rw h
+
+-- so is a small letter from a to f,
+pub hex-yes-2 : (b : ℕ) → between 48 57 b ≡ false → between 97 102 b ≡ true → true ≡ isHex b
+unfolding isHex either
+hex-yes-2 b h k = rw (h, k)
+
+-- and any other byte where it is a capital letter from A to F.
+pub hex-last : (b : ℕ) → between 48 57 b ≡ false → between 97 102 b ≡ false → between 65 70 b ≡ isHex b
+unfolding isHex either
+hex-last b h k = rw (h, k)
+
+-- The bytes from a position on are spelled by the pairs from twice that position on.
+pub bytes-from : (k : ℕ) (w : List ℕ) → drop k (bytesOf w) ≡ bytesOf (drop (k * 2) w)
+unfolding bytesOf
+bytes-from zero w = refl
+bytes-from (suc k) [] = rw (drop-nil (suc k * 2))
+bytes-from (suc k) (a ∷ []) =
+    let e : suc k * 2 ≡ suc (suc (k * 2)) = omega arith in
+    rw e
+bytes-from (suc k) (a ∷ b ∷ rest) =
+    let e : suc k * 2 ≡ suc (suc (k * 2)) = omega arith in
+    rw e (bytes-from k rest)
+
+module _ (w : List ℕ) (k : ℕ) where
+  -- The next pair of hex digits spells the next byte,
+  pub bytes-next : k * 2 + 1 < length w
+      → drop k (bytesOf w) ≡ (hexValue (getD w (k * 2) 0) * 16 + hexValue (getD w (k * 2 + 1) 0)) ∷ bytesOf (drop (k * 2 + 2) w)
+  unfolding bytesOf
+  bytes-next h = bytes-from k w ∙ ap bytesOf (two-fronts w (k * 2) h)
+
+  -- and without a pair left there is no byte left.
+  pub bytes-end : length w ≤ k * 2 + 1 → drop k (bytesOf w) ≡ []
+  unfolding bytesOf
+  bytes-end h = bytes-from k w ∙ few (drop (k * 2) w) (omega (arith, length-drop (k * 2) w))
+    where
+      few : (l : List ℕ) → length l ≤ 1 → bytesOf l ≡ []
+      few [] e = refl
+      few (a ∷ []) e = refl
+      few (a ∷ b ∷ r) e = absurd (omega arith)
+
+-- A minus stands only before a word that is not empty.
+pub minus-some : (w : List ℕ) → hasMinus w ≡ true → 0 < length w
+unfolding hasMinus
+minus-some [] h = let z : _≡_ {A = ℕ} 0 1 = cc in absurd (omega arith)
+minus-some (b ∷ rest) h = omega arith
+
+-- A word read as x or y: with a minus, and without.
+module _ (w : List ℕ) where
+  -- A word with a minus is the negative of the number after it,
+  pub below-read : {n : ℕ} → hasMinus w ≡ true → Number.Of n ≡ numberOf mostBelow (drop 1 w) → Coordinate.At (negℤ (pos n)) ≡ coordinateOf w
+  unfolding coordinateOf isCoordinate signed choose
+  below-read {n} h e =
+      let r : (isNumber mostBelow (drop 1 w) ≡ true) × (n ≡ valueOf (drop 1 w)) = number-read mostBelow (drop 1 w) e in
+      rw (h, r .0, r .1)
+
+  -- and not read where no number follows.
+  pub below-unread : hasMinus w ≡ true → Number.NotOne ≡ numberOf mostBelow (drop 1 w) → Coordinate.Unread ≡ coordinateOf w
+  unfolding coordinateOf isCoordinate choose
+  below-unread h e = rw (h, number-unread mostBelow (drop 1 w) e)
+
+  -- A word without a minus is the number that it is,
+  pub plain-read : {n : ℕ} → hasMinus w ≡ false → Number.Of n ≡ numberOf mostAbove w → Coordinate.At (pos n) ≡ coordinateOf w
+  unfolding coordinateOf isCoordinate signed choose
+  plain-read {n} h e =
+      let r : (isNumber mostAbove w ≡ true) × (n ≡ valueOf w) = number-read mostAbove w e in
+      rw (h, r .0, r .1)
+
+  -- and not read where it is none.
+  pub plain-unread : hasMinus w ≡ false → Number.NotOne ≡ numberOf mostAbove w → Coordinate.Unread ≡ coordinateOf w
+  unfolding coordinateOf isCoordinate choose
+  plain-unread h e = rw (h, number-unread mostAbove w e)
+
+  -- A word that was read is an x or y and comes to what was read,
+  pub coordinate-read : {z : ℤ} → Coordinate.At z ≡ coordinateOf w → (isCoordinate w ≡ true) × (z ≡ signed w)
+  unfolding coordinateOf choose
+  coordinate-read {z} e =
+      let p : (isCoordinate w ≡ true) × (Coordinate.At z ≡ Coordinate.At (signed w)) = picked (isCoordinate w) (λ q. opposite {t = true} refl cc) e in
+      (p .0, cc)
+
+  -- and one that was not read is none.
+  pub coordinate-unread : Coordinate.Unread ≡ coordinateOf w → isCoordinate w ≡ false
+  unfolding coordinateOf choose
+  coordinate-unread e = unpicked (isCoordinate w) (λ q. opposite {t = true} refl cc) e
+
+  -- A minus alone is a map,
+  pub map-none : same w noneWord ≡ true → true ≡ isMap w
+  unfolding isMap either
+  map-none h = rw h
+
+  -- an empty word is none,
+  pub map-empty : same w noneWord ≡ false → length w ≡ 0 → false ≡ isMap w
+  unfolding isMap either both
+  map-empty h k = rw (h, le-ltb 0 (length w) (omega arith))
+
+  -- nor is one of more than 8,400 hex digits;
+  pub map-long : same w noneWord ≡ false → mostPairs * 2 < length w → false ≡ isMap w
+  unfolding isMap either both
+  map-long h k = rw (h, lt-ltb 0 (length w) (omega arith), lt-leb (length w) (mostPairs * 2) k)
+
+  -- any other is a map where all its bytes are pairs of hex digits,
+  pub map-pairs : same w noneWord ≡ false → (length w ≡ 0 → ⊥) → length w ≤ mostPairs * 2 → allPairs w ≡ isMap w
+  unfolding isMap either both
+  map-pairs h n k = rw (h, lt-ltb 0 (length w) (omega arith), le-leb (length w) (mostPairs * 2) k)
+
+  -- and so no map has more than 8,400.
+  pub map-length : isMap w ≡ true → length w ≤ mostPairs * 2
+  unfolding isMap either
+  map-length h = by (same w noneWord) refl h
+    where
+      by : (t : Bool) → same w noneWord ≡ t → either t (both (ltb 0 (length w)) (both (leb (length w) (mostPairs * 2)) (allPairs w))) ≡ true → length w ≤ mostPairs * 2
+      by true e k = omega (arith, ap length (same-is w noneWord e))
+      by false e k = leb-true (length w) (mostPairs * 2) (both-left _ _ (both-right _ _ k))
+
+-- The pieces that are left from a position on.
+unfoldable pub rowLeft : List ℕ → ℕ → List (List ℕ)
+rowLeft w at = choose (leb at (length w)) (pieces comma (drop at w)) []
+
+-- At the start all pieces are left,
+pub row-start : (w : List ℕ) → rowLeft w 0 ≡ pieces comma w
+unfolding rowLeft choose
+row-start w = rw (le-leb 0 (length w) (omega arith))
+
+-- beyond the end none,
+pub row-end : (w : List ℕ) (at : ℕ) → length w < at → rowLeft w at ≡ []
+unfolding rowLeft choose
+row-end w at h = rw (lt-leb at (length w) h)
+
+module _ (w : List ℕ) (at : ℕ) (h : at ≤ length w) where
+  rest-is : drop 1 (pieces comma (drop at w)) ≡ rowLeft w (stopAt comma w at + 1)
+  unfolding rowLeft stopAt choose
+  rest-is = by (order (suc (indexOf comma (drop at w))) (length (drop at w)))
+    where
+      by : (suc (indexOf comma (drop at w)) ≤ length (drop at w)) ⊎ (length (drop at w) < suc (indexOf comma (drop at w)))
+          → drop 1 (pieces comma (drop at w))
+          ≡ choose (leb (at + indexOf comma (drop at w) + 1) (length w)) (pieces comma (drop (at + indexOf comma (drop at w) + 1) w)) []
+      by (inl k) =
+          let e : at + suc (indexOf comma (drop at w)) ≡ at + indexOf comma (drop at w) + 1 = omega arith in
+          rw (le-leb (at + indexOf comma (drop at w) + 1) (length w) (omega (arith, length-drop at w)))
+          (after-piece comma (drop at w) k ∙ ap (pieces comma) (drop-drop (suc (indexOf comma (drop at w))) at w ∙ ap (λ (n : ℕ). drop n w) e))
+      by (inr k) =
+          rw (lt-leb (at + indexOf comma (drop at w) + 1) (length w) (omega (arith, length-drop at w)))
+          (last-piece comma (drop at w) (omega arith))
+
+  piece-is : getD (pieces comma (drop at w)) 0 [] ≡ take (stopAt comma w at - at) (drop at w)
+  unfolding stopAt
+  piece-is =
+      let e : indexOf comma (drop at w) ≡ at + indexOf comma (drop at w) - at = omega arith in
+      first-piece comma (drop at w) ∙ ap (λ (n : ℕ). take n (drop at w)) e
+
+  -- and elsewhere the piece up to the next comma and those after that comma.
+  pub row-next : rowLeft w at ≡ take (stopAt comma w at - at) (drop at w) ∷ rowLeft w (stopAt comma w at + 1)
+  unfolding rowLeft choose
+  row-next =
+      rw (le-leb at (length w) h)
+      (front [] (pieces comma (drop at w)) 0 (some-piece comma (drop at w))
+      ∙ ap (λ (p : List ℕ). p ∷ drop 1 (pieces comma (drop at w))) piece-is
+      ∙ ap (λ (ps : List (List ℕ)). take (stopAt comma w at - at) (drop at w) ∷ ps) rest-is)
+
+-- Whether the pieces that are left are numbers, and few enough with those counted before.
+unfoldable pub judged : ℕ → List (List ℕ) → Bool
+judged count ps = both (allCoordinates ps) (leb (count + length ps) mostNumbers)
+
+-- At the start, with none before, that judges the row;
+pub judged-start : (w : List ℕ) → isRow w ≡ judged 0 (rowLeft w 0)
+unfolding isRow judged
+judged-start w =
+    let e : length (pieces comma w) ≡ 0 + length (pieces comma w) = omega arith in
+    rw (row-start w) (ap (λ (n : ℕ). both (allCoordinates (pieces comma w)) (leb n mostNumbers)) e)
+
+-- a piece that is no number settles that it is none,
+pub judged-stop : (count : ℕ) (p : List ℕ) (ps : List (List ℕ)) → isCoordinate p ≡ false → judged count (p ∷ ps) ≡ false
+unfolding judged allCoordinates both
+judged-stop count p ps h = rw h
+
+-- a number leaves it to the pieces after it, with one more counted,
+pub judged-next : (count : ℕ) (p : List ℕ) (ps : List (List ℕ)) → isCoordinate p ≡ true → judged count (p ∷ ps) ≡ judged (count + 1) ps
+unfolding judged allCoordinates both
+judged-next count p ps h =
+    let e : count + suc (length ps) ≡ count + 1 + length ps = omega arith in
+    rw (h, e)
+
+-- and at the end the count decides.
+pub judged-end : (count : ℕ) → leb count mostNumbers ≡ judged count []
+unfolding judged allCoordinates both
+judged-end count =
+    let e : count ≡ count + 0 = omega arith in
+    ap (λ (n : ℕ). leb n mostNumbers) e
+
+-- Bits below the sign are read as they stand.
+pub to-pos : (n : ℕ) → n ≤ mostAbove → toZ w32 n ≡ pos n
+to-pos n h = rw (lt-ltb n 2147483648 (omega arith))
+
+-- What follows the first byte of a word is as long as the word is, but for that byte.
+pub rest-whole : (w : List ℕ) → take (length w - 1) (drop 1 w) ≡ drop 1 w
+rest-whole w = take-all (length w - 1) (drop 1 w) (omega (arith, length-drop 1 w))
+
+-- A row is all numbers, at most forty;
+pub row-numbers : (w : List ℕ) → isRow w ≡ true → (allCoordinates (pieces comma w) ≡ true) × (length (map signed (pieces comma w)) ≤ mostNumbers)
+unfolding isRow
+row-numbers w h =
+    (both-left _ _ h, omega (arith, leb-true (length (pieces comma w)) mostNumbers (both-right _ _ h), length-map (pieces comma w) signed))
+
+-- where all are numbers, the first is one and so are the others.
+pub coordinates-next : (p : List ℕ) (ps : List (List ℕ)) → allCoordinates (p ∷ ps) ≡ true → (isCoordinate p ≡ true) × (allCoordinates ps ≡ true)
+unfolding allCoordinates
+coordinates-next p ps h = (both-left _ _ h, both-right _ _ h)
+
+-- The piece of a row from a position up to the next comma:
+module _ (w : List ℕ) (at to : ℕ) (h : at ≤ length w) (e : to ≡ stopAt comma w at) where
+  row-step : rowLeft w at ≡ take (to - at) (drop at w) ∷ rowLeft w (to + 1)
+  row-step = row-next w at h ∙ ap (λ (n : ℕ). take (n - at) (drop at w) ∷ rowLeft w (n + 1)) (sym e)
+
+  -- where it is no number, the row is none;
+  pub row-bad : (count : ℕ) → isCoordinate (take (to - at) (drop at w)) ≡ false → judged count (rowLeft w at) ≡ false
+  row-bad count k = ap (judged count) row-step ∙ judged-stop count (take (to - at) (drop at w)) (rowLeft w (to + 1)) k
+
+  -- where it is one, the row is judged by what is left, with one more counted.
+  pub row-good : (count : ℕ) → isCoordinate (take (to - at) (drop at w)) ≡ true
+      → judged count (rowLeft w at) ≡ judged (count + 1) (rowLeft w (to + 1))
+  row-good count k = ap (judged count) row-step ∙ judged-next count (take (to - at) (drop at w)) (rowLeft w (to + 1)) k
+
+  -- In a row of numbers it is one, and what is left is numbers.
+  pub row-coordinates : allCoordinates (rowLeft w at) ≡ true
+      → (isCoordinate (take (to - at) (drop at w)) ≡ true) × (allCoordinates (rowLeft w (to + 1)) ≡ true)
+  row-coordinates k = coordinates-next (take (to - at) (drop at w)) (rowLeft w (to + 1)) (sym (ap allCoordinates row-step) ∙ k)
+
+  -- The number of the piece is the next to be stored:
+  module _ (old : List ℤ) (count : ℕ) (d : drop count (map signed (pieces comma w)) ≡ map signed (rowLeft w at)) where
+    here : drop count (map signed (pieces comma w)) ≡ signed (take (to - at) (drop at w)) ∷ map signed (rowLeft w (to + 1))
+    here = d ∙ ap (map signed) row-step
+
+    -- it is stored, and the list goes so far,
+    pub row-stored :
+        (set (over (take count (map signed (pieces comma w))) old) count (signed (take (to - at) (drop at w)))
+        ≡ over (take (count + 1) (map signed (pieces comma w))) old)
+        × (count < length (map signed (pieces comma w)))
+    row-stored = fill-more (pos 0) (map signed (pieces comma w)) old count here
+
+    -- and after it the numbers of what is left are to be stored.
+    pub row-after : drop (count + 1) (map signed (pieces comma w)) ≡ map signed (rowLeft w (to + 1))
+    row-after = sym (drop-drop 1 count (map signed (pieces comma w))) ∙ ap (λ (l : List ℤ). drop 1 l) here
+
+-- A row read to its end: all its numbers are stored.
+pub row-done : (w : List ℕ) (at count : ℕ) (old : List ℤ) → length w < at → count ≤ length (map signed (pieces comma w))
+    → drop count (map signed (pieces comma w)) ≡ map signed (rowLeft w at)
+    → (count ≡ length (pieces comma w)) × (over (take count (map signed (pieces comma w))) old ≡ over (map signed (pieces comma w)) old)
+row-done w at count old h k d =
+    let f : (count ≡ length (map signed (pieces comma w))) × (over (take count (map signed (pieces comma w))) old ≡ over (map signed (pieces comma w)) old) =
+    fill-done (map signed (pieces comma w)) old count k (d ∙ ap (map signed) (row-end w at h)) in
+    (f .0 ∙ length-map (pieces comma w) signed, f .1)
+
+-- A word that is a list, and what it lists.
+module _ (w : List ℕ) where
+  -- A minus alone is a list,
+  pub list-none : same w noneWord ≡ true → true ≡ isList w
+  unfolding isList either
+  list-none h = rw h
+
+  -- and any other word where it is a row.
+  pub list-row : same w noneWord ≡ false → isRow w ≡ isList w
+  unfolding isList either
+  list-row h = rw h
+
+  -- A minus alone lists nothing,
+  pub listed-none : same w noneWord ≡ true → [] ≡ listed w
+  unfolding listed choose
+  listed-none h = rw h
+
+  -- a row the number of each of its pieces,
+  pub listed-row : same w noneWord ≡ false → map signed (pieces comma w) ≡ listed w
+  unfolding listed choose
+  listed-row h = rw h
+
+  -- as many as it has pieces.
+  pub listed-length : same w noneWord ≡ false → length (pieces comma w) ≡ length (listed w)
+  listed-length h = sym (length-map (pieces comma w) signed) ∙ ap length (listed-row h)
