@@ -15,7 +15,7 @@ use Rattle.script.specs.declared.Said.{Said}
 use Rattle.text.specs.Text.{text, same, over}
 use Rattle.text.specs.Numbers.{mostNumber, mostJob, mostPairs, mostNumbers, noneWord, isNumber, listed, isList, bytesOf, isMap}
 use Rattle.text.specs.Words.{withoutReturn, wordsOf, word}
-use Rattle.script.specs.Said.{mostRoom, mostLegsLent, only, seatCall, pairCall, isOpenCall, isBareCall, isPlacing, openCall, bareCall, lentCall, placeCall, callOf, isSkipped, asked, isLong, saidBy, mapIn, mapAsked, mapGiven, listIn, listAsked, xsGiven, ysGiven}
+use Rattle.script.specs.Said.{mostRoom, mostLegsLent, only, seatCall, pairCall, isOpenCall, isBareCall, isPlacing, openCall, bareCall, lentCall, placeCall, callOf, isSkipped, saidIn, isLong, saidBy, mapIn, mapSaid, mapGiven, listIn, listSaid, xsGiven, ysGiven}
 use Rattle.text.proofs.Values.{number-top, map-length, list-row, listed-none, listed-row, row-numbers}
 
 -- Its map, its lists and its counts are as a line says.
@@ -35,13 +35,14 @@ Matching m xs ys (Said.Bare room across up) =
     ((across ≡ length xs) × (across ≤ mostNumbers)) × ((up ≡ length ys) × (up ≤ mostNumbers))
 Matching m xs ys (Said.Pins s) = Unit {0}
 
--- A byte has two digits, and a list that was read is not too long.
+-- A byte has two digits.
 bytes-half : (w : List ℕ) → length (bytesOf w) * 2 ≤ length w
 unfolding bytesOf
 bytes-half [] = omega arith
 bytes-half (a ∷ []) = omega arith
 bytes-half (a ∷ b ∷ rest) = omega (arith, bytes-half rest)
 
+-- A list that is one has at most 40 numbers.
 list-short : (w : List ℕ) → isList w ≡ true → length (listed w) ≤ mostNumbers
 list-short w h = by (same w noneWord) refl
   where
@@ -49,12 +50,13 @@ list-short w h = by (same w noneWord) refl
     by true e = rw (← listed-none w e) (omega arith)
     by false e = rw (← listed-row w e) (row-numbers w (list-row w e ∙ h) .1)
 
--- What holds of both sides of a choice holds of it, and what holds of no call as well holds of a call that is one in its range only.
+-- What holds of both sides of a choice holds of it.
 row : (P : Said → Type 0) {p q : Said} (t : Bool) → (t ≡ true → P p) → (t ≡ false → P q) → P (choose t p q)
 unfolding choose
 row P true h k = h refl
 row P false h k = k refl
 
+-- What holds of a line that is no call, and of a call where its test holds, holds of the two joined.
 just : (P : Said → Type 0) {p : Said} → P Said.NotACall → (t : Bool) → (t ≡ true → P p) → P (only t p)
 unfolding only
 just P n t h = row P t h (λ e. n)
@@ -86,11 +88,12 @@ module _ (m : List ℕ) (xs ys : List ℤ) where
       just F tt (isPlacing a b c d)
       (λ e. row F (same name (text "place")) (λ e. tt) (λ e. row F (same name (text "move")) (λ e. tt) (λ e. tt)))
 
--- What the words of an opening and of a bare wiring are.
+-- The last word of an opening is a map.
 map-read : (a b c : List ℕ) → isOpenCall a b c ≡ true → isMap c ≡ true
 unfolding isOpenCall
 map-read a b c f = both-right (isNumber mostJob b) (isMap c) (both-right (isNumber mostNumber a) (both (isNumber mostJob b) (isMap c)) f)
 
+-- The words of a bare wiring hold two lists.
 lists-read : (a b c : List ℕ) → isBareCall a b c ≡ true → both (isList b) (isList c) ≡ true
 unfolding isBareCall
 lists-read a b c f = both-right (isNumber mostLegsLent a) (both (isList b) (isList c)) f
@@ -116,6 +119,7 @@ unfolding choose
 four-matching true name a b c e = lent-matching name a b c
 four-matching false name a b c e = absurd (let z : _≡_ {A = ℕ} 0 1 = cc in omega arith)
 
+-- The numbers that a call states are those of its map and lists,
 call-matching : (n : ℕ) (name a b c d : List ℕ)
     → Matching (choose (eqb n 4) (mapIn name a b c) []) (choose (eqb n 4) (listIn name a b c b) []) (choose (eqb n 4) (listIn name a b c c) []) (callOf n name a b c d)
 unfolding callOf Matching
@@ -129,19 +133,21 @@ call-matching n name a b c d =
     (λ e. row F (eqb n 4) (λ f. four-matching (eqb n 4) name a b c f)
     (λ e. row F (eqb n 5) (λ e. place-matching m xs ys name a b c d) (λ e. tt))))
 
--- Words, and a line.
-words-matching : (words : List (List ℕ)) → Matching (mapAsked words) (listAsked 2 words) (listAsked 3 words) (asked words)
-unfolding asked mapAsked listAsked Matching
+-- so are those of the words of a line,
+words-matching : (words : List (List ℕ)) → Matching (mapSaid words) (listSaid 2 words) (listSaid 3 words) (saidIn words)
+unfolding saidIn mapSaid listSaid Matching
 words-matching words =
-    row (Matching (mapAsked words) (listAsked 2 words) (listAsked 3 words)) (isSkipped (word 0 words)) (λ e. tt)
+    row (Matching (mapSaid words) (listSaid 2 words) (listSaid 3 words)) (isSkipped (word 0 words)) (λ e. tt)
     (λ e. call-matching (length words) (word 0 words) (word 1 words) (word 2 words) (word 3 words) (word 4 words))
 
+-- so too where the line is too long,
 line-matching : (t : Bool) (words : List (List ℕ))
-    → Matching (choose t [] (mapAsked words)) (choose t [] (listAsked 2 words)) (choose t [] (listAsked 3 words)) (choose t Said.NotACall (asked words))
+    → Matching (choose t [] (mapSaid words)) (choose t [] (listSaid 2 words)) (choose t [] (listSaid 3 words)) (choose t Said.NotACall (saidIn words))
 unfolding choose Matching
 line-matching true words = tt
 line-matching false words = words-matching words
 
+-- and of every line.
 matching : (line : List ℕ) → Matching (mapGiven line) (xsGiven line) (ysGiven line) (saidBy line)
 unfolding saidBy mapGiven xsGiven ysGiven
 matching line = line-matching (isLong line) (wordsOf (withoutReturn line))

@@ -23,11 +23,12 @@ use Rattle.shown.specs.Shown.{laidText}
 use Rattle.shown.proofs.Lines.{held}
 use Rattle.answer.specs.Answered.{callText, lentBytes, writingText}
 
--- Writing and wiring leave the desk as it is.
+-- Writing leaves the desk as it is.
 write-kept : (d : Desk) (s : ℕ) (buffer : List ℕ) {w : Written} → w ≡ writtenOf d s buffer → w .desk ≡ d
 unfolding writtenOf
 write-kept d s buffer e = ap (λ (x : Written). x .desk) e
 
+-- So does wiring.
 wire-kept : (d : Desk) (s legs : ℕ) {w : Wired} → w ≡ wiredOf d s legs → w .desk ≡ d
 unfolding wiredOf
 wire-kept d s legs e = ap (λ (x : Wired). x .desk) e

@@ -3,6 +3,7 @@ use mathlib.Core.Path.{_≡_, refl}
 use mathlib.Core.List.{List, [], _∷_, _++_}
 use Prim.Native.Nat.{ℕ, _+_}
 use Prim.Native.String.{String}
+use Rattle.tree.specs.Bends.{howMany}
 use Rattle.refusal.specs.Tests.{both, either, choose, anyOf, eachOf, noTwo}
 use Rattle.refusal.specs.Refusals.{accepted, turn}
 use Rattle.grid.specs.Number.{firstByte, secondByte, thirdByte, fourthByte}
@@ -18,11 +19,11 @@ use Rattle.desk.specs.Refusals.{sameJob, turnedOpening, turnedClosing, turnedPl
 use Rattle.desk.specs.Desk.{jobOf, soundOpen, soundClosed, soundSeat, soundTo, sound, edited, effect, answerOf, step, emptyDesk, writtenOf, bufferOf}
 use Rattle.text.specs.Text.{text, same}
 use Rattle.text.specs.Words.{endOf, beforeFirst, pieces, nonEmpty, wordsOf}
-use Rattle.text.specs.Numbers.{between, allDigits, valueFrom, isNumber, hasMinus, isCoordinate, signed, isHex, hexValue, allPairs, bytesOf, isMap}
-use Rattle.script.specs.Said.{only, seatCall, pairCall, isOpenCall, openCall, lentCall, isPlacing, placeCall, callOf, isSkipped, asked, isLong, saidBy, mapIn, mapAsked, mapGiven}
+use Rattle.text.specs.Numbers.{between, valueFrom, isNumber, hasMinus, isCoordinate, signed, isHex, hexValue, allPairs, bytesOf, isMap}
+use Rattle.script.specs.Said.{only, seatCall, pairCall, isOpenCall, openCall, lentCall, isPlacing, placeCall, callOf, isSkipped, saidIn, isLong, saidBy, mapIn, mapSaid, mapGiven}
 use Rattle.text.specs.Digits.{digits, integer, placeText, hexDigit, hex}
 use Rattle.script.specs.Answers.{carriedText, toldLine, hexPart, writtenLine, drawingLine, pinLine, notACallLine}
-use Rattle.shown.specs.Shown.{spotText, pinsText, pinsThere, drawnText}
+use Rattle.shown.specs.Shown.{spotText, pinsText, drawnText}
 use Rattle.answer.specs.Answered.{followed, played, callText, writingText, lookText, seatText, printed, answered}
 
 -- What lines print one after the other, numbered from a number on.
@@ -40,8 +41,8 @@ unfolding told both either choose accepted turn onBoard inside difference closer
     tooNearOther crowded within spotOf feedOf lawful movedPin made unmade standsAt fits placeable movable makeable takeable heldBy firstByte secondByte
     thirdByte fourthByte recordBytes pinBytes readFrom wrongLength readMap mapFrom mapOf written own kept filled inTurn sameJob turnedOpening turnedClosing
     turnedPlacing turnedUndoing turnedWriting verdictOf jobOf soundOpen soundClosed soundSeat soundTo sound edited effect answerOf step emptyDesk writtenOf
-    bufferOf same endOf beforeFirst pieces nonEmpty wordsOf between allDigits valueFrom isNumber hasMinus isCoordinate signed isHex hexValue allPairs bytesOf
-    isMap only seatCall pairCall isOpenCall openCall lentCall isPlacing placeCall callOf isSkipped asked isLong mapIn mapAsked mapGiven digits integer placeText
-    hexDigit hex carriedText toldLine hexPart writtenLine drawingLine pinLine notACallLine spotText pinsText pinsThere drawnText followed played callText
-    writingText lookText seatText printed answered saidBy anyOf eachOf noTwo
+    bufferOf same endOf beforeFirst pieces nonEmpty wordsOf between eachOf valueFrom isNumber hasMinus isCoordinate signed isHex hexValue allPairs bytesOf
+    isMap only seatCall pairCall isOpenCall openCall lentCall isPlacing placeCall callOf isSkipped saidIn isLong mapIn mapSaid mapGiven digits integer placeText
+    hexDigit hex carriedText toldLine hexPart writtenLine drawingLine pinLine notACallLine spotText pinsText howMany drawnText followed played callText
+    writingText lookText seatText printed answered saidBy anyOf noTwo
 worked = refl

@@ -15,11 +15,11 @@ use text::MOST_NUMBERS;
 use text::MOST_PAIRS;
 ghost use mathlib.Core.Path.{_≡_};
 ghost use Prim.Native.Nat.{_≤_};
-ghost use lib.ListN.{take};
+ghost use lib.ListN.{length, take};
 ghost use Rattle.bare.specs.Bare.{bareOf};
 ghost use Rattle.desk.specs.Calls.{opening};
 ghost use Rattle.desk.specs.Desk.{step, wiredOf};
-ghost use Rattle.text.specs.Text.{answerBytes, Holds};
+ghost use Rattle.text.specs.Text.{over, answerBytes, Holds};
 ghost use Rattle.text.specs.Numbers.{mostPairs, mostNumbers};
 ghost use Rattle.script.specs.Said.{mostRoom};
 ghost use Rattle.script.specs.Answers.{verdictLine};
@@ -157,7 +157,7 @@ fn show_pins(desk: Desk, seat: usize, out: &mut [u8; ANSWER_BYTES]) -> usize
 // Answers the line of that number, without its newline.
 pub fn answer_line(desk: Desk, number: usize, line: &[u8], out: &mut [u8; ANSWER_BYTES]) -> Answer
     ensures { λ r. ⌜ r .desk ≡ played desk (now (line .entry)) ⌝ }
-    ensures { λ r. ⌜ Holds answerBytes (answered desk number (now (line .entry))) (now (out .entry)) (r .bytes) (now (out .exit)) ⌝ }
+    ensures { λ r. ⌜ ((r .bytes ≡ length (answered desk number (now (line .entry)))) × (r .bytes ≤ answerBytes)) × (now (out .exit) ≡ over (answered desk number (now (line .entry))) (now (out .entry))) ⌝ }
 {
     let mut map = [0u8; MOST_PAIRS];
     let mut xs = [0i32; MOST_NUMBERS];

@@ -1,4 +1,4 @@
-// Tries 28 on desks broken by hand, one or more for each way that the rules list: every call on each of them, and on the whole desk that they were made from.
+// Tries 28 on desks broken by hand, one or more for each way that the rules list: every call on each of them, on the whole desk that they were made from, and on it with its unused parts changed.
 use desk::Answered;
 use desk::Desk;
 use drawing::Edit;

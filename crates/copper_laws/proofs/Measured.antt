@@ -9,6 +9,7 @@ use native.Mathlib.Omega.{arith}
 use lib.IntN.{ℤ, pos, _+ℤ_}
 use lib.Dec.{eqb, leb, ltb}
 use borrow.Author.Tests.{eqb-true, eqb-false, leb-true, le-leb, ltb-true, lt-ltb}
+use Rattle.refusal.proofs.Anyone.{any-append}
 use Rattle.refusal.specs.Tests.{both, either, choose, anyOf}
 use Rattle.refusal.proofs.Tests.{fails-if, both-left, both-right, both-of, both-none, both-swap, either-which, same-test}
 use Rattle.grid.specs.declared.Place.{Place}
@@ -289,38 +290,15 @@ legs-each no-legs = none
 legs-each (more-legs {l = l} p h) = each-join (leg-each l p) (legs-each h)
 
 -- One of the legs covers the stride.
-unfoldable pub anyLeg : List Leg → Stride → Bool
-anyLeg [] σ = false
-anyLeg (l ∷ ls) σ = either (covers (site (l .from)) (site (l .to)) σ) (anyLeg ls σ)
-
--- One of three, whichever two are joined first.
-either-joined : (a b c : Bool) → either (either a b) c ≡ either a (either b c)
-unfolding either
-either-joined true b c = refl
-either-joined false b c = refl
-
--- A step is among two lists joined where it is among the first or the second.
-among-join : (t : Step) (ss ts : List Step) → among t (ss ++ ts) ≡ either (among t ss) (among t ts)
-unfolding anyOf either
-among-join t [] ts = refl
-among-join t (s ∷ ss) ts =
-    ap (λ (z : Bool). either (sameStep t s) z) (among-join t ss ts)
-    ∙ sym (either-joined (sameStep t s) (among t ss) (among t ts))
-
--- One of two lists of legs joined covers a stride where one of the first does, or of the second.
-pub any-join : (ks ls : List Leg) (σ : Stride) → anyLeg (ks ++ ls) σ ≡ either (anyLeg ks σ) (anyLeg ls σ)
-unfolding anyLeg either
-any-join [] ls σ = refl
-any-join (l ∷ ks) ls σ =
-    ap (λ (z : Bool). either (covers (site (l .from)) (site (l .to)) σ) z) (any-join ks ls σ)
-    ∙ sym (either-joined (covers (site (l .from)) (site (l .to)) σ) (anyLeg ks σ) (anyLeg ls σ))
+abbrev pub anyLeg : List Leg → Stride → Bool
+anyLeg ls σ = anyOf (λ (l : Leg). covers (site (l .from)) (site (l .to)) σ) ls
 
 -- A step is one of the legs' where one of them covers it.
 legs-steps : {m : ℕ} {ls : List Leg} → HeldLegs m ls → (σ : Stride) → among (stepAt σ) (stepsOfAll ls) ≡ anyLeg ls σ
-unfolding stepsOfAll anyLeg
+unfolding stepsOfAll anyOf
 legs-steps no-legs σ = among-none (stepAt σ)
 legs-steps (more-legs {l = l} {ls = ls} p h) σ =
-    among-join (stepAt σ) (stepsOf l) (stepsOfAll ls)
+    any-append (sameStep (stepAt σ)) (stepsOf l) (stepsOfAll ls)
     ∙ ap₂ either (leg-steps (l .from) (l .to) (p .from-held) (p .to-held) σ) (legs-steps h σ)
 
 -- The length of a list of legs, as a sum over the grid.

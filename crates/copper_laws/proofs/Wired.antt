@@ -8,12 +8,12 @@ use mathlib.Core.List.{List, [], _++_, append-assoc, append-nil}
 use mathlib.Core.Logic.{_⊎_}
 use Prim.Native.Nat.{ℕ, zero, suc, _+_, _*_, _≤_, _<_}
 use native.Mathlib.Omega.{arith}
-use Rattle.refusal.specs.Tests.{either, choose}
+use Rattle.refusal.proofs.Anyone.{any-append}
+use Rattle.refusal.specs.Tests.{either, choose, anyOf}
 use Rattle.refusal.proofs.Tests.{either-none, either-swap}
 use Rattle.grid.specs.declared.Place.{Place}
 use Rattle.grid.proofs.Signed.{off-max}
 use Rattle.grid.proofs.Flat.{Site, site, PlaceI32}
-use Rattle.grid.specs.Place.{isStraight}
 use Rattle.copper.specs.declared.Shape.{Shape}
 use Rattle.copper.specs.declared.Shape.the-variants.{Straight, Lower, Upper}
 use Rattle.copper.specs.declared.Leg.{Leg}
@@ -30,7 +30,7 @@ use Rattle.copper_laws.proofs.Laid.{Spaced, armsAt, straightLength, gri
 use Rattle.copper_laws.proofs.Cost.{lexical, startTally, addTally, costOf, leastCost, cost-is}
 use Rattle.copper_laws.proofs.Tallies.{leastOf, least-site, may-site, may-place}
 use Rattle.copper_laws.proofs.Moved.{straight-site, lower-site, upper-site, lower-held, upper-held}
-use Rattle.copper_laws.proofs.Measured.{HeldLeg, HeldLegs, no-legs, more-legs, held-join, anyLeg, any-join, length-counted}
+use Rattle.copper_laws.proofs.Measured.{HeldLeg, HeldLegs, no-legs, more-legs, held-join, anyLeg, length-counted}
 
 -- The run from a to b.
 module _ (a b : Place) (p : PlaceI32 a) (q : PlaceI32 b) where
@@ -45,12 +45,12 @@ module _ (a b : Place) (p : PlaceI32 a) (q : PlaceI32 b) where
 
       go : (t v : Bool) → anyLeg (legsOf (choose t Straight (choose v Upper Lower)) a b) σ
           ≡ cond t (covers (site a) (site b) σ) (either (covers (site a) (bend v (site a) (site b)) σ) (covers (bend v (site a) (site b)) (site b) σ))
-      go true v = unfold choose legsOf anyLeg in either-none (covers (site a) (site b) σ)
+      go true v = unfold choose legsOf anyOf in either-none (covers (site a) (site b) σ)
       go false true =
-          unfold choose legsOf anyLeg in
+          unfold choose legsOf anyOf in
           (two (upperCorner a b) ∙ ap (λ (z : Site). either (covers (site a) z σ) (covers z (site b) σ)) (upper-site a b p q))
       go false false =
-          unfold choose legsOf anyLeg in
+          unfold choose legsOf anyOf in
           (two (lowerCorner a b) ∙ ap (λ (z : Site). either (covers (site a) z σ) (covers z (site b) σ)) (lower-site a b p q))
 
 -- A grid that holds all that i32 holds.
@@ -121,11 +121,11 @@ module _ (at : ℕ → Place) (near : ℕ → ℕ) where
   runs-any s zero g h σ = none σ
     where
       none : (σ : Stride) → anyLeg [] σ ≡ false
-      none σ = unfold anyLeg in refl
+      none σ = unfold anyOf in refl
   runs-any s (suc n) g h σ =
       let a : Place = at (near n) in
       let b : Place = at (suc n) in
-      any-join (legsOfRuns at near s n) (legsOf (shapeOf (s n) a b) a b) σ
+      any-append (λ (l : Leg). covers (site (l .from)) (site (l .to)) σ) (legsOfRuns at near s n) (legsOf (shapeOf (s n) a b) a b)
       ∙ ap₂ either (runs-any s n (λ r l. g r (omega arith)) (λ i l. h i (omega arith)) σ) (one σ)
       ∙ either-swap (covered sites near n s σ) (coversOf sites near n (s n) σ)
     where
@@ -140,34 +140,17 @@ module _ (at : ℕ → Place) (near : ℕ → ℕ) where
       length-counted (runs-held m big s n g h)
       ∙ over-same m (λ σ. oneIf (anyLeg (legsOfRuns at near s n) σ)) (λ σ. oneIf (covered sites near n s σ)) (λ σ. ap oneIf (runs-any s n g h σ))
 
-  -- The shape given to a straight run does not matter: where two choices agree on the bent runs, the legs are the same.
-  pub straight-shape : (n : ℕ) (s t : ℕ → Bool) → ((r : ℕ) → r < n → isStraight (at (near r)) (at (suc r)) ≡ false → s r ≡ t r)
-      → legsOfRuns at near s n ≡ legsOfRuns at near t n
-  unfolding legsOfRuns
-  straight-shape zero s t h = refl
-  straight-shape (suc n) s t h =
-      ap₂ (λ (ls : List Leg) (shape : Shape). ls ++ legsOf shape (at (near n)) (at (suc n)))
-      (straight-shape n s t (λ r l. h r (omega arith))) (go (isStraight (at (near n)) (at (suc n))) refl)
-    where
-      go : (b : Bool) → isStraight (at (near n)) (at (suc n)) ≡ b → shapeOf (s n) (at (near n)) (at (suc n)) ≡ shapeOf (t n) (at (near n)) (at (suc n))
-      go true e = unfold shapeOf choose in rw e
-      go false e = ap (λ (u : Bool). shapeOf u (at (near n)) (at (suc n))) (h n (omega arith) e)
-
   module _ (n : ℕ) (held : (i : ℕ) → i < suc n → PlaceI32 (at i)) (laid : Spaced sites near n) where
-    -- The sites of the pins are on it.
+    -- The sites of the pins are on a grid that holds the board.
     on-grid : (m : ℕ) → 4294967296 ≤ m → (i : ℕ) → i < suc n → Within m (sites i)
     on-grid m big i l = held-in m big (at i) (held i l)
 
-    -- The length by its definition is the length on any grid that holds the board ..
-    length-grid : (m : ℕ) → 4294967296 ≤ m → (s : ℕ → Bool) → lengthOf (legsOfRuns at near s n) ≡ gridLength sites near m n s
-    length-grid m big s = grid-by m big s n (laid .grown) held
-
-    -- With the distances of the straight runs it is the sum of the arms, on any such grid.
+    -- The length with the distances of the straight runs is the sum of the arms, by any such grid,
     length-sum-by : (m : ℕ) → 4294967296 ≤ m → (s : ℕ → Bool)
         → lengthOf (legsOfRuns at near s n) + sumBelow n (straightLength sites near) ≡ sumBelow (suc n) (λ i. spread (armsAt sites near n s i))
-    length-sum-by m big s = omega (arith, length-grid m big s, grid-length sites near n laid s m (on-grid m big))
+    length-sum-by m big s = omega (arith, grid-by m big s n (laid .grown) held, grid-length sites near n laid s m (on-grid m big))
 
-    -- .. so the length, with the distances of the straight runs, is the sum over the pins of their four longest arms.
+    -- so it is the sum over the pins of their four longest arms.
     pub length-sum : (s : ℕ → Bool)
         → lengthOf (legsOfRuns at near s n) + sumBelow n (straightLength sites near) ≡ sumBelow (suc n) (λ i. spread (armsAt sites near n s i))
     length-sum = length-sum-by 4294967296 (omega arith)
@@ -177,7 +160,7 @@ module _ (at : ℕ → Place) (near : ℕ → ℕ) where
         → costOf sites near B own n s ≡ sumBelow n (λ r. own r (s r)) + lengthOf (legsOfRuns at near s n) * B
     cost-length-by m big B own s =
         cost-is sites near n laid m (on-grid m big) B own s
-        ∙ ap (λ (z : ℕ). sumBelow n (λ r. own r (s r)) + z * B) (sym (length-grid m big s))
+        ∙ ap (λ (z : ℕ). sumBelow n (λ r. own r (s r)) + z * B) (sym (grid-by m big s n (laid .grown) held))
 
     -- The cost of a choice of shapes is its length, times B, with what the runs cost for themselves.
     pub cost-length : (B : ℕ) (own : ℕ → Bool → ℕ) (s : ℕ → Bool)

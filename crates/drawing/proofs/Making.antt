@@ -85,6 +85,7 @@ stand-absent : (s : Stand) → thereIn s ≡ false → s ≡ Absent
 stand-absent Absent e = refl
 stand-absent (There h) e = cc
 
+-- A pin that is not there is the absent pin.
 pin-absent : (q : Pin) → isThere q ≡ false → q ≡ absent
 unfolding isThere
 pin-absent q e = let p : q .stand ≡ Absent = stand-absent (q .stand) e in λ i. record { stand = p i }
@@ -94,6 +95,7 @@ stand-there : (s : Stand) (a : Place) → standsIn s a ≡ true → s ≡ There 
 stand-there Absent a e = cc
 stand-there (There h) a e = let p : h .place ≡ a = place-same (h .place) a e in λ i. There (record { place = p i })
 
+-- A pin that stands at a place is there with that place.
 pin-there : (q : Pin) (a : Place) → standsAt q a ≡ true → q ≡ there (holding a)
 unfolding standsAt
 pin-there q a e = let p : q .stand ≡ There (holding a) = stand-there (q .stand) a e in λ i. record { stand = p i }

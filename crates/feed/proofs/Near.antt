@@ -7,11 +7,12 @@ use Rattle.grid.specs.declared.Place.{Place}
 use Rattle.grid.specs.Place.{difference, closer, tooNear}
 use Rattle.grid.proofs.Signed.{abs-sub}
 
--- How far a number is above 0, and how far below.
+-- How far a number is above 0.
 abbrev up : ℤ → ℕ
 up (pos n) = n
 up (negsuc n) = 0
 
+-- How far a number lies below zero.
 abbrev down : ℤ → ℕ
 down (pos n) = 0
 down (negsuc n) = suc n
@@ -26,6 +27,7 @@ difference-is (negsuc a) (pos zero) = omega (arith, abs-sub 0 (suc a))
 difference-is (negsuc a) (pos (suc b)) = omega arith
 difference-is (negsuc a) (negsuc b) = omega (arith, abs-sub (suc b) (suc a))
 
+-- Two numbers are as far apart from either side.
 difference-turned : (a b : ℤ) → difference a b ≡ difference b a
 difference-turned a b = omega (arith, difference-is a b, difference-is b a)
 

@@ -20,10 +20,12 @@ pub record Board (z : ℤ) : Type 0 where
   pub low : 2147483648 ≤ off z + limit
   pub high : off z ≤ 2147483648 + limit
 
+-- The lowest number of the board, counted from the lowest of i32,
 low-is : off (negsuc (limit - 1)) ≡ 2147483648 - limit
 unfolding off
 low-is = refl
 
+-- and the highest.
 high-is : off (pos limit) ≡ 2147483648 + limit
 unfolding off
 high-is = refl
@@ -77,6 +79,7 @@ size-below : (z : ℤ) → ltZ z (pos 0) ≡ true → pos 0 -ℤ z ≡ pos (natA
 size-below (pos n) e = absurd (omega (arith, ltb-true n 0 e))
 size-below (negsuc n) e = ap pos (omega arith)
 
+-- A number that is not below zero is its own size.
 size-above : (z : ℤ) → ltZ z (pos 0) ≡ false → z ≡ pos (natAbs z)
 size-above (pos n) e = refl
 size-above (negsuc n) e = absurd (true≢false e)
@@ -89,6 +92,7 @@ difference-below a b p q = omega (arith, difference-off a b p q, off-max a p, of
 pub difference-fits : {a b : ℤ} → SFits w32 a → SFits w32 b → SFits w64 (pos (difference a b))
 difference-fits {a} {b} fa fb = record { sfits = omega (arith, difference-below a b (fa .sfits) (fb .sfits)) }
 
+-- The magnitude of a number, as the library has it, is at most its size.
 size : (z : ℤ) → mag z ≤ natAbs z
 size (pos n) = omega arith
 size (negsuc n) = omega arith

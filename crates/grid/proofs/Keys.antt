@@ -64,6 +64,7 @@ pub record Fits (a : Site) (i : ℕ) : Type 0 where
 pub low : (n : ℕ) → down n < 17179869184
 low n = omega arith
 
+-- Two numbers with the same smaller and larger one are the same two.
 both-numbers : (i j k l : ℕ) → min i j ≡ min k l → max i j ≡ max k l → ((i ≡ k) × (j ≡ l)) ⊎ ((i ≡ l) × (j ≡ k))
 both-numbers i j k l h m = go (order i j) (order k l)
   where
@@ -123,6 +124,7 @@ join-go false false false false a b x y r es et eu ev hx hy =
     let f : x ≡ y = omega (arith, ltb-false x y eu, ltb-false y x ev) in
     rw (le-ltb (a * 17179869184 + x) (b * 17179869184 + y) (omega arith), le-ltb (b * 17179869184 + y) (a * 17179869184 + x) (omega arith))
 
+-- Comparing by two parts is comparing by the one number that joins them.
 joined : (a b x y : ℕ) (r : Bool) → x < 17179869184 → y < 17179869184
     → byNumber a b (byNumber x y r) ≡ byNumber (lex a x) (lex b y) r
 unfolding byNumber
@@ -148,6 +150,7 @@ pub on-board : {a : Place} → PlaceI32 a → inside a ≡ true → OnBoard a
 unfolding inside
 on-board {a} h e = record { held = h; x = both-left _ _ e; y = both-right (onBoard (a .x)) _ e }
 
+-- A number of i32, as the language holds it.
 fit : {z : ℤ} → I32 z → SFits w32 z
 fit h = record { sfits = h }
 
@@ -161,6 +164,7 @@ record Parts (a b : Place) : Type 0 where
   near-right : max (off (a .x)) (off (b .x)) < 2148000000
   above-right : 2146000000 < max (off (a .x)) (off (b .x))
 
+-- The parts of a weight of two places of the board have their bounds,
 parts : {a b : Place} → OnBoard a → OnBoard b → Parts a b
 unfolding gap span
 parts {a} {b} p q =
@@ -194,6 +198,7 @@ record Fit (a b : Place) : Type 0 where
   rise : I32 (negℤ (pos (difference (a .y) (b .y))))
   right : I32 (negℤ (larger (a .x) (b .x)))
 
+-- so each of them is a number of i32.
 fits : {a b : Place} → Parts a b → Fit a b
 fits {a} {b} p =
     record {

@@ -32,6 +32,7 @@ ltb-as false a b c d e f g = sym (le-ltb c d (g (ltb-false a b e)))
 pub ltb-same : (a b c d : ℕ) → (a < b → c < d) → (b ≤ a → d ≤ c) → ltb a b ≡ ltb c d
 ltb-same a b c d f g = ltb-as (ltb a b) a b c d refl f g
 
+-- A test of order tells of two other numbers in the same order,
 leb-as : (t : Bool) (a b c d : ℕ) → leb a b ≡ t → (a ≤ b → c ≤ d) → (b < a → d < c) → t ≡ leb c d
 leb-as true a b c d e f g = sym (le-leb c d (f (leb-true a b e)))
 leb-as false a b c d e f g = sym (lt-leb c d (g (leb-false a b e)))
@@ -40,6 +41,7 @@ leb-as false a b c d e f g = sym (lt-leb c d (g (leb-false a b e)))
 pub leb-same : (a b c d : ℕ) → (a ≤ b → c ≤ d) → (b < a → d < c) → leb a b ≡ leb c d
 leb-same a b c d f g = leb-as (leb a b) a b c d refl f g
 
+-- and a test of sameness of two that are the same just then.
 eqb-as : (t : Bool) (a b c d : ℕ) → eqb a b ≡ t → (a ≡ b → c ≡ d) → (c ≡ d → a ≡ b) → t ≡ eqb c d
 eqb-as true a b c d e f g = sym (eq-eqb c d (f (eqb-true a b e)))
 eqb-as false a b c d e f g = sym (ne-eqb c d (λ q. eqb-false a b e (g q)))
@@ -124,6 +126,7 @@ add-off a b ha hb = off-add a b (small-mag a ha) (small-mag b hb)
 pub neg-off : (a : ℤ) → Small a → off (negℤ a) + off a ≡ 4294967296
 neg-off a ha = off-neg a (omega (arith, small-mag a ha))
 
+-- A small number turned about is small.
 small-neg : (a : ℤ) → Small a → Small (negℤ a)
 small-neg a ha = omega (arith, neg-off a ha)
 
@@ -146,6 +149,7 @@ difference-off (negsuc a) (pos zero) ha hb = omega (arith, abs-sub 0 (suc a))
 difference-off (negsuc a) (pos (suc b)) ha hb = omega arith
 difference-off (negsuc a) (negsuc b) ha hb = omega (arith, abs-sub (suc b) (suc a))
 
+-- The larger of two, counted from the lowest of i32, is the larger count.
 max-pick : (t : Bool) (a b : ℤ) → ltb (off a) (off b) ≡ t → off (choose t b a) ≡ max (off a) (off b)
 unfolding choose
 max-pick true a b e = omega (arith, ltb-true (off a) (off b) e)
@@ -197,6 +201,7 @@ max-yes : (a b : ℤ) → ltZ a b ≡ true → b ≡ larger a b
 unfolding larger choose
 max-yes a b e = rw e
 
+-- Where the first is not less, it is the larger.
 max-no : (a b : ℤ) → ltZ a b ≡ false → a ≡ larger a b
 unfolding larger choose
 max-no a b e = rw e

@@ -13,10 +13,12 @@ bytes-minus-one : numberAt (255 ∷ 255 ∷ 255 ∷ 255 ∷ []) 0 ≡ negsuc 0
 unfolding numberAt
 bytes-minus-one = refl
 
+-- The largest.
 bytes-largest : numberAt (127 ∷ 255 ∷ 255 ∷ 255 ∷ []) 0 ≡ pos 2147483647
 unfolding numberAt
 bytes-largest = refl
 
+-- The smallest.
 bytes-smallest : numberAt (128 ∷ 0 ∷ 0 ∷ 0 ∷ []) 0 ≡ negsuc 2147483647
 unfolding numberAt
 bytes-smallest = refl
@@ -26,6 +28,7 @@ written-one : putAt (9 ∷ 9 ∷ 9 ∷ 9 ∷ 9 ∷ []) 0 (pos 1) ≡ (0 ∷ 0 �
 unfolding putAt firstByte secondByte thirdByte fourthByte
 written-one = refl
 
+-- Minus one, written.
 written-minus-one : putAt (9 ∷ 9 ∷ 9 ∷ 9 ∷ 9 ∷ []) 0 (negsuc 0) ≡ (255 ∷ 255 ∷ 255 ∷ 255 ∷ 9 ∷ [])
 unfolding putAt firstByte secondByte thirdByte fourthByte
 written-minus-one = refl
@@ -60,6 +63,7 @@ taller : comesBefore (pairOf 2 (place (pos 0) (pos 0)) 3 (place (pos 1) (pos 2))
 unfolding comesBefore pairOf weightOf distanceOf difference larger choose byPart byNumber
 taller = refl
 
+-- Where all parts are equal, the pair with the higher numbers does not come before.
 numbers : comesBefore (pairOf 3 (place (pos 0) (pos 2)) 1 (place (pos 1) (pos 1))) (pairOf 0 (place (pos 0) (pos 0)) 2 (place (pos 1) (pos 1))) ≡ false
 unfolding comesBefore pairOf weightOf distanceOf difference larger choose byPart byNumber
 numbers = refl

@@ -17,7 +17,7 @@ use Rattle.history.proofs.Sane.{Sane, sane-after, sane-nothing, sane-hi
 use Rattle.history.proofs.Simulation.{At, Agrees, used-same, shown-open, shown-job, shown-pins, shown-standing, shown-takenBack}
 use Rattle.history.proofs.Steps.{agrees-sound, step-answer, step-agrees}
 
--- The empty desk agrees with no history.
+-- The empty desk agrees with the history of no calls.
 agrees-empty : Agrees emptyDesk nothing
 unfolding emptyDesk own eachOf sum At
 agrees-empty =

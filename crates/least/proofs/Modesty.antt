@@ -41,7 +41,7 @@ ours p e =
 held : {p : Place} → Ours p → PlaceI32 p
 held o = record { x = o .held-x; y = o .held-y }
 
--- So is where a leg that leaves it ends.
+-- The crossing of two such places is one.
 cross : {a b : Place} → Ours a → Ours b → Ours (crossing a b)
 cross p q = record { x = p .x; y = q .y; held-x = p .held-x; held-y = q .held-y }
 
@@ -63,7 +63,7 @@ arms-board a b p q =
     arms-short (2 * limit) a b (held p) (held q)
     (omega (arith, p .x, q .x)) (omega (arith, p .x, q .x)) (omega (arith, p .y, q .y)) (omega (arith, p .y, q .y))
 
--- What is modest is fair, and what it owes is little.
+-- What is modest is fair.
 pub modest-fair : {t : Tally} → Modest t → Fair t
 modest-fair m =
     let s = m .short in

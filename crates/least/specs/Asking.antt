@@ -9,7 +9,7 @@ use lib.Dec.{eqb}
 use lib.ListN.{getD}
 use Rattle.refusal.specs.Tests.{choose}
 use Rattle.grid.specs.declared.Place.{Place}
-use Rattle.grid.specs.Place.{limit, inside}
+use Rattle.grid.specs.Place.{limit, inside, place}
 use Rattle.tree.specs.Trees.{mostRuns}
 use Rattle.copper.specs.declared.Tally.{Tally}
 use Rattle.copper.specs.Arms.{owed, Bounded}
@@ -26,7 +26,7 @@ base = 2147483648
 
 -- Where a pin stands, in a tree as it was reached.
 abbrev pub pinPlace : Reached → ℕ → Place
-pinPlace tree i = record { x = getD (tree .xs) i (pos 0); y = getD (tree .ys) i (pos 0) }
+pinPlace tree i = place (getD (tree .xs) i (pos 0)) (getD (tree .ys) i (pos 0))
 
 -- The near pin of a run, in such a tree.
 abbrev pub nearPin : Reached → ℕ → ℕ

@@ -23,7 +23,7 @@ pub struct Reached {
     pub favoured: bool,
 }
 
-// What runs were asked, by run number: their costs in either shape.
+// What the runs that were asked answered, by run number: their costs in either shape.
 pub struct Costs {
     pub lower: [u64; RUNS],
     pub upper: [u64; RUNS],

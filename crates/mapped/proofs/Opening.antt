@@ -40,6 +40,7 @@ pub printed-refused : (map : List ℕ) {v : Verdict} → openedWith map .verdict
 unfolding mapAnswer choose
 printed-refused map e n = rw (e, n)
 
+-- A map that is opened is printed as it is wired.
 printed-wired : (map : List ℕ) → accepted (openedWith map .verdict) ≡ true → mapAnswer map ≡ mapText (jobOfMap map) (wiredWith map)
 unfolding mapAnswer choose
 printed-wired map e = rw e

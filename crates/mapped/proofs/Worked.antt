@@ -26,7 +26,7 @@ use Rattle.desk.specs.Desk.{jobOf, soundOpen, soundClosed, soundSeat, soundTo, 
 use Rattle.text.specs.Text.{text}
 use Rattle.text.specs.Digits.{digits}
 use Rattle.script.specs.Answers.{carriedText, toldLine, jobLine, runLine}
-use Rattle.shown.specs.Shown.{shapedLine, lineForEach, jobText, mapText}
+use Rattle.shown.specs.Shown.{entryLine, lineForEach, jobText, mapText}
 use Rattle.mapped.specs.Mapped.{jobOfMap, openedWith, wiredWith, mapAnswer}
 use Rattle.mapped.proofs.Opening.{opened, printed-refused}
 
@@ -45,7 +45,7 @@ W3 = placed 0 0 (0 ∷ 0 ∷ 0 ∷ 0 ∷ []) ++ placed 1 4 (0 ∷ 0 ∷ 0 ∷ 2 
 
 -- For W3 exactly these three lines are printed.
 W3-holds : mapAnswer W3 ≡ text "job 7 length 8 runs 2 weighed 5\n0 1 lower\n1 2 straight\n"
-unfolding jobOfMap openedWith wiredWith mapAnswer mapText jobText lineForEach shapedLine runLine jobLine digits wiredOf step effect answerOf verdictOf
+unfolding jobOfMap openedWith wiredWith mapAnswer mapText jobText lineForEach entryLine runLine jobLine digits wiredOf step effect answerOf verdictOf
     turnedOpening turnedClosing sameJob sound soundTo soundSeat soundOpen soundClosed jobOf emptyDesk readMap wrongLength readFrom recordOf numberAt judged
     withPinOf own filled inTurn isThere spotsTooNear tooNearOther crowded within spotOf feedOf lawful wiringOf wiringFavouring wiringWith wiringVerdict
     answerWith turnedAway legEntries runEntries shapedRuns weighedOf sum weighedAt howMany bent bestChoice shortestOf shortest lengthOfChoice legsOfChoice choicesOf
@@ -59,6 +59,7 @@ W3-holds = refl
 abbrev thirdOther : List ℕ
 thirdOther = placed 0 0 (0 ∷ 0 ∷ 0 ∷ 0 ∷ []) ++ placed 1 4 (0 ∷ 0 ∷ 0 ∷ 2 ∷ []) ++ (0 ∷ 8 ∷ 2 ∷ 0 ∷ 0 ∷ 0 ∷ 0 ∷ 4 ∷ 255 ∷ 255 ∷ 255 ∷ 254 ∷ [])
 
+-- It is refused with 14 and that record.
 other-job : mapAnswer thirdOther ≡ text "refused 14 record 2\n"
 unfolding jobOfMap readMap wrongLength readFrom recordOf numberAt judged withPinOf spotsTooNear anyOf tooNearOther crowded spotOf feedOf difference closer
     tooNear inside onBoard accepted turn both either choose toldLine carriedText digits
@@ -68,6 +69,7 @@ other-job = printed-refused thirdOther {v = OtherJob 2} (opened thirdOther) refl
 abbrev pinTwice : List ℕ
 pinTwice = placed 0 0 (0 ∷ 0 ∷ 0 ∷ 0 ∷ []) ++ placed 0 4 (0 ∷ 0 ∷ 0 ∷ 2 ∷ [])
 
+-- It is refused with 15 and the second record.
 pin-twice : mapAnswer pinTwice ≡ text "refused 15 record 1\n"
 unfolding jobOfMap readMap wrongLength readFrom recordOf numberAt judged withPinOf spotsTooNear anyOf tooNearOther crowded spotOf feedOf difference closer
     tooNear inside onBoard accepted turn both either choose toldLine carriedText digits

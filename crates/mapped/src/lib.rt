@@ -5,8 +5,9 @@ use shown::print_map;
 use text::ANSWER_BYTES;
 use wiring::LEGS;
 ghost use mathlib.Core.Path.{_≡_};
-ghost use lib.ListN.{replicate};
-ghost use Rattle.text.specs.Text.{answerBytes, Holds};
+ghost use Prim.Native.Nat.{_≤_};
+ghost use lib.ListN.{length, replicate};
+ghost use Rattle.text.specs.Text.{over, answerBytes};
 ghost use Rattle.mapped.specs.Mapped.{jobOfMap, mapAnswer, mostRead};
 
 // Of a longer input it is enough to read so many bytes (proofs/Inputs.antt).
@@ -31,7 +32,7 @@ fn job_of_map(map: &[u8]) -> u16
 
 // Opens a map at seat 0 of an empty desk under its job, wires it, and prints the answer; says how many bytes that is.
 pub fn map_answer(map: &[u8], out: &mut [u8; ANSWER_BYTES]) -> usize
-    ensures { λ r. ⌜ Holds answerBytes (mapAnswer (now (map .entry))) (now (out .entry)) r (now (out .exit)) ⌝ }
+    ensures { λ r. ⌜ ((r ≡ length (mapAnswer (now (map .entry)))) × (r ≤ answerBytes)) × (now (out .exit) ≡ over (mapAnswer (now (map .entry))) (now (out .entry))) ⌝ }
 {
     let job = job_of_map(map);
     let desk = Desk::empty();

@@ -28,6 +28,7 @@ x-held : (a : Place) → inside a ≡ true → SFits w32 (a .x)
 unfolding inside
 x-held a e = record { sfits = number-held (a .x) (both-left _ _ e) }
 
+-- So is its y.
 y-held : (a : Place) → inside a ≡ true → SFits w32 (a .y)
 unfolding inside
 y-held a e = record { sfits = number-held (a .y) (both-right _ _ e) }

@@ -33,6 +33,7 @@ D3-written : mapOf 7 onePin ≡ oneRecord
 unfolding mapOf mapFrom pinBytes recordBytes firstByte secondByte thirdByte fourthByte
 D3-written = refl
 
+-- Read back, it is that pin.
 D3-read : readMap oneRecord 7 ≡ readAs onePin
 unfolding readMap wrongLength either choose readFrom recordOf numberAt judged turn accepted inside onBoard both anyOf spotsTooNear spotOf feedOf withPinOf
 D3-read = refl
@@ -42,6 +43,7 @@ D3-buffer : bufferAfter onePin 7 (replicate 14 9) ≡ oneRecord ++ (9 ∷ 9 ∷ 
 unfolding bufferAfter written choose mapOf mapFrom pinBytes recordBytes firstByte secondByte thirdByte fourthByte
 D3-buffer = refl
 
+-- 12 bytes are written where there is room, none where there is one byte too few.
 D3-answer : (writeMap onePin 7 (replicate 14 9) ≡ record { verdict = Accepted; bytes = 12 })
     × (writeMap onePin 7 (replicate 11 9) ≡ record { verdict = RoomTooSmall; bytes = 0 })
     × (bufferAfter onePin 7 (replicate 11 9) ≡ replicate 11 9)
@@ -53,6 +55,7 @@ empty-read : readMap [] 7 ≡ readAs noPins
 unfolding readMap wrongLength either choose readFrom
 empty-read = refl
 
+-- and it is written as no bytes.
 empty-written : mapOf 7 noPins ≡ []
 unfolding mapOf mapFrom pinBytes
 empty-written = refl
@@ -82,10 +85,12 @@ not-ascending : readMap (given 7 3 0 0 ++ given 7 3 0 1) 7 ≡ refusedBy (Faulty
 unfolding readMap wrongLength either choose readFrom recordOf numberAt judged turn accepted inside onBoard both anyOf spotsTooNear spotOf feedOf withPinOf
 not-ascending = refl
 
+-- A pin below the one before it is 15,
 descending : readMap (given 7 3 0 0 ++ given 7 2 0 1) 7 ≡ refusedBy (FaultyRecord 1)
 unfolding readMap wrongLength either choose readFrom recordOf numberAt judged turn accepted inside onBoard both anyOf spotsTooNear spotOf feedOf withPinOf
 descending = refl
 
+-- and so is a place that comes again.
 place-twice : readMap (given 7 3 0 9 ++ given 7 4 0 9) 7 ≡ refusedBy (FaultyRecord 1)
 unfolding readMap wrongLength either choose readFrom recordOf numberAt judged turn accepted inside onBoard both anyOf spotsTooNear spotOf feedOf tooNear closer
     difference withPinOf

@@ -33,6 +33,7 @@ withLine l line = record { desk = l .desk; line = line; lines = l .lines; ended 
 longer-none : (l : Log) → length (l .line) ≤ mostKept → longer l [] ≡ l
 longer-none l h = ap (withLine l) (rw append-nil (take-all mostKept (l .line) h))
 
+-- A line that goes on twice goes on by both.
 longer-more : (l : Log) (a b : List ℕ) → longer (longer l a) b ≡ longer l (a ++ b)
 longer-more l a b = ap (withLine l) (cut-once mostKept (l .line ++ a) b ∙ ap (take mostKept) (append-assoc (l .line) a b))
 

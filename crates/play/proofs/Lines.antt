@@ -33,6 +33,7 @@ record Some (pieces : List (List ℕ)) : Type 0 where
   rest : List (List ℕ)
   are : pieces ≡ first ∷ rest
 
+-- There is always a first piece.
 some : (v : List ℕ) → Some (pieces newline v)
 unfolding pieces beforeFirst choose
 some [] = record { first = []; rest = []; are = refl }

@@ -14,7 +14,7 @@ use Rattle.refusal.proofs.Tests.{opposite, fails-if, both-no, both-yes, choose-
 use Rattle.grid.specs.declared.Place.{Place}
 use Rattle.text.specs.Text.{text, same, over}
 use Rattle.text.specs.Numbers.{mostNumber, mostJob, valueOf, isNumber, numberOf, isCoordinate, signed, listed, isList, bytesOf, isMap}
-use Rattle.script.specs.Said.{mostLine, mostRoom, mostLegsLent, only, seatCall, pairCall, isOpenCall, isBareCall, openCall, bareCall, lentCall, isPlacing, placeRead, placingOf, placeCall, callOf, isSkipped, asked, isLong, saidBy, mapIn, listIn, mapAsked, listAsked, mapGiven, xsGiven, ysGiven}
+use Rattle.script.specs.Said.{mostLine, mostRoom, mostLegsLent, only, seatCall, pairCall, isOpenCall, isBareCall, openCall, bareCall, lentCall, isPlacing, placeRead, placingOf, placeCall, callOf, isSkipped, saidIn, isLong, saidBy, mapIn, listIn, mapSaid, listSaid, mapGiven, xsGiven, ysGiven}
 use Rattle.text.specs.Words.{hash, endOf, withoutReturn, wordsOf, word, partOf, cutOf}
 use Rattle.text.specs.declared.Cut.{Cut}
 use Rattle.grid.proofs.Signed.{eqb-same}
@@ -25,7 +25,7 @@ use Rattle.script.specs.declared.Placing.{Placing}
 use Rattle.script.specs.declared.Said.{Said}
 use Rattle.text.proofs.Values.{number-read, number-unread}
 
--- In a row of calls, the one whose test holds is what is asked for,
+-- In a row of calls, the one whose test holds is what is saidIn for,
 row-yes : {t : Bool} {o p : Said} (q : Said) → t ≡ true → o ≡ p → o ≡ choose t p q
 row-yes q h e = e ∙ sym (choose-yes _ q h)
 
@@ -50,7 +50,7 @@ both-by h e = both-yes _ h ∙ e
 -- Calls of two words.
 module _ (name a : List ℕ) where
   -- A second word that is no number makes no call;
-  pub seat-unread : Number.NotOne ≡ numberOf mostNumber a → Said.NotACall ≡ seatCall name a
+  pub seat-unread : Number.Unread ≡ numberOf mostNumber a → Said.NotACall ≡ seatCall name a
   unfolding seatCall
   seat-unread e = only-no _ (number-unread mostNumber a e)
 
@@ -92,7 +92,7 @@ module _ (name a : List ℕ) where
 -- Calls of three words.
 module _ (name a b : List ℕ) where
   -- A second word that is no number makes no call;
-  pub pair-unread : Number.NotOne ≡ numberOf mostNumber a → Said.NotACall ≡ pairCall name a b
+  pub pair-unread : Number.Unread ≡ numberOf mostNumber a → Said.NotACall ≡ pairCall name a b
   unfolding pairCall
   pair-unread e = only-no _ (number-unread mostNumber a e)
 
@@ -142,13 +142,13 @@ module _ (a b c : List ℕ) where
   open-no h = only-no _ h
 
   -- a seat that is no number,
-  pub open-seat : Number.NotOne ≡ numberOf mostNumber a → isOpenCall a b c ≡ false
+  pub open-seat : Number.Unread ≡ numberOf mostNumber a → isOpenCall a b c ≡ false
   unfolding isOpenCall
   open-seat e = both-no _ (number-unread mostNumber a e)
 
   module _ {s : ℕ} (e : Number.Of s ≡ numberOf mostNumber a) where
     -- or a job that is none in its range;
-    pub open-job : Number.NotOne ≡ numberOf mostJob b → isOpenCall a b c ≡ false
+    pub open-job : Number.Unread ≡ numberOf mostJob b → isOpenCall a b c ≡ false
     unfolding isOpenCall
     open-job f = both-by (number-read mostNumber a e .0) (both-no _ (number-unread mostJob b f))
 
@@ -173,7 +173,7 @@ module _ (a b c : List ℕ) where
   bare-no h = only-no _ h
 
   -- a room that is no number in its range,
-  pub bare-room : Number.NotOne ≡ numberOf mostLegsLent a → isBareCall a b c ≡ false
+  pub bare-room : Number.Unread ≡ numberOf mostLegsLent a → isBareCall a b c ≡ false
   unfolding isBareCall
   bare-room e = both-no _ (number-unread mostLegsLent a e)
 
@@ -200,13 +200,13 @@ module _ (a b c d : List ℕ) where
   placing-not h = sym (choose-no _ Placing.Unread h)
 
   -- A seat that is no number is not read,
-  pub placing-seat : Number.NotOne ≡ numberOf mostNumber a → Placing.Unread ≡ placingOf a b c d
+  pub placing-seat : Number.Unread ≡ numberOf mostNumber a → Placing.Unread ≡ placingOf a b c d
   unfolding isPlacing
   placing-seat e = placing-not (both-no _ (number-unread mostNumber a e))
 
   module _ {s : ℕ} (e : Number.Of s ≡ numberOf mostNumber a) where
     -- nor a pin that is none,
-    pub placing-pin : Number.NotOne ≡ numberOf mostNumber b → Placing.Unread ≡ placingOf a b c d
+    pub placing-pin : Number.Unread ≡ numberOf mostNumber b → Placing.Unread ≡ placingOf a b c d
     unfolding isPlacing
     placing-pin f = placing-not (both-by (number-read mostNumber a e .0) (both-no _ (number-unread mostNumber b f)))
 
@@ -389,28 +389,28 @@ module _ (t : List ℕ) {words : Cut} (h : words ≡ cutOf t) {p q r s u : List 
   tells : (k : ℕ) → k < 6 → eqb (words .count) k ≡ eqb (length (wordsOf t)) k
   tells k l = ap (λ (w : Cut). eqb (w .count) k) h ∙ six (length (wordsOf t)) k l
 
-  called : isSkipped p ≡ false → callOf (words .count) p q r s u ≡ asked (wordsOf t)
-  unfolding asked callOf choose
+  called : isSkipped p ≡ false → callOf (words .count) p q r s u ≡ saidIn (wordsOf t)
+  unfolding saidIn callOf choose
   called e =
       rw (← is0, ← is1, ← is2, ← is3, ← is4, e, tells 2 (omega arith), tells 3 (omega arith), tells 4 (omega arith), tells 5 (omega arith))
 
   -- a line that is not skipped asks for the call of its words,
-  pub asked-call : {o : Said} → isSkipped p ≡ false → o ≡ callOf (words .count) p q r s u → o ≡ asked (wordsOf t)
+  pub asked-call : {o : Said} → isSkipped p ≡ false → o ≡ callOf (words .count) p q r s u → o ≡ saidIn (wordsOf t)
   asked-call e k = k ∙ called e
 
   -- its map is that of its fourth word where it has four,
-  pub asked-map : choose (eqb (words .count) 4) (mapIn p q r s) [] ≡ mapAsked (wordsOf t)
-  unfolding mapAsked
+  pub asked-map : choose (eqb (words .count) 4) (mapIn p q r s) [] ≡ mapSaid (wordsOf t)
+  unfolding mapSaid
   asked-map = rw (← is0, ← is1, ← is2, ← is3, tells 4 (omega arith))
 
   -- and so are the x of its third word
-  pub asked-across : choose (eqb (words .count) 4) (listIn p q r s r) [] ≡ listAsked 2 (wordsOf t)
-  unfolding listAsked
+  pub asked-across : choose (eqb (words .count) 4) (listIn p q r s r) [] ≡ listSaid 2 (wordsOf t)
+  unfolding listSaid
   asked-across = rw (← is0, ← is1, ← is2, ← is3, tells 4 (omega arith))
 
   -- and the y of its fourth.
-  pub asked-up : choose (eqb (words .count) 4) (listIn p q r s s) [] ≡ listAsked 3 (wordsOf t)
-  unfolding listAsked
+  pub asked-up : choose (eqb (words .count) 4) (listIn p q r s s) [] ≡ listSaid 3 (wordsOf t)
+  unfolding listSaid
   asked-up = rw (← is0, ← is1, ← is2, ← is3, tells 4 (omega arith))
 
 -- A line whose first word says so is skipped:
@@ -422,20 +422,20 @@ module _ (t : List ℕ) {words : Cut} (h : words ≡ cutOf t) {p : List ℕ} (hp
   first-skipped = sym (ap isSkipped first-is) ∙ e
 
   -- it asks for nothing,
-  pub skip-call : Said.Skip ≡ asked (wordsOf t)
-  unfolding asked choose
+  pub skip-call : Said.Skip ≡ saidIn (wordsOf t)
+  unfolding saidIn choose
   skip-call = rw first-skipped
 
   -- it has no map,
-  pub skip-map : [] ≡ mapAsked (wordsOf t)
-  unfolding mapAsked
+  pub skip-map : [] ≡ mapSaid (wordsOf t)
+  unfolding mapSaid
   skip-map =
       sym (choose-same (eqb (length (wordsOf t)) 4) [])
       ∙ ap (λ (l : List ℕ). choose (eqb (length (wordsOf t)) 4) l []) (map-other _ _ _ _ (skipped-other _ first-skipped .0))
 
   -- and it has no list.
-  pub skip-list : (k : ℕ) → [] ≡ listAsked k (wordsOf t)
-  unfolding listAsked
+  pub skip-list : (k : ℕ) → [] ≡ listSaid k (wordsOf t)
+  unfolding listSaid
   skip-list k =
       sym (choose-same (eqb (length (wordsOf t)) 4) [])
       ∙ ap (λ (l : List ℤ). choose (eqb (length (wordsOf t)) 4) l []) (list-other _ _ _ _ _ (skipped-other _ first-skipped .1))
@@ -499,21 +499,21 @@ module _ (l : List ℕ) {end : ℕ} (h : end ≡ endOf l) where
   long-up k = rw (long k)
 
   -- What is not too long gives the call of its words,
-  pub line-said : {o : Said} → end ≤ mostLine → o ≡ asked (wordsOf (take end l)) → o ≡ saidBy l
+  pub line-said : {o : Said} → end ≤ mostLine → o ≡ saidIn (wordsOf (take end l)) → o ≡ saidBy l
   unfolding saidBy choose
-  line-said k e = rw (short k) (e ∙ ap (λ (t : List ℕ). asked (wordsOf t)) text-is)
+  line-said k e = rw (short k) (e ∙ ap (λ (t : List ℕ). saidIn (wordsOf t)) text-is)
 
   -- their map,
-  pub line-map : end ≤ mostLine → mapAsked (wordsOf (take end l)) ≡ mapGiven l
+  pub line-map : end ≤ mostLine → mapSaid (wordsOf (take end l)) ≡ mapGiven l
   unfolding mapGiven choose
   line-map k = rw (short k, text-is)
 
   -- their x
-  pub line-across : end ≤ mostLine → listAsked 2 (wordsOf (take end l)) ≡ xsGiven l
+  pub line-across : end ≤ mostLine → listSaid 2 (wordsOf (take end l)) ≡ xsGiven l
   unfolding xsGiven choose
   line-across k = rw (short k, text-is)
 
   -- and their y.
-  pub line-up : end ≤ mostLine → listAsked 3 (wordsOf (take end l)) ≡ ysGiven l
+  pub line-up : end ≤ mostLine → listSaid 3 (wordsOf (take end l)) ≡ ysGiven l
   unfolding ysGiven choose
   line-up k = rw (short k, text-is)

@@ -4,11 +4,11 @@ use mathlib.Core.List.{List, [], _∷_, _++_}
 use Prim.Native.String.{String}
 use lib.IntN.{pos, negsuc}
 use lib.ListN.{replicate}
-use Rattle.refusal.specs.Tests.{both, either, choose}
+use Rattle.refusal.specs.Tests.{both, either, choose, eachOf}
 use Rattle.text.specs.Text.{text, same}
 use Rattle.text.specs.Words.{endOf, beforeFirst, pieces, nonEmpty, wordsOf}
-use Rattle.text.specs.Numbers.{between, allDigits, valueFrom, isNumber, hasMinus, isCoordinate, signed, allCoordinates, listed, isRow, isList, isHex, hexValue, allPairs, bytesOf, isMap}
-use Rattle.script.specs.Said.{only, seatCall, pairCall, isOpenCall, isBareCall, openCall, bareCall, lentCall, isPlacing, placeCall, callOf, isSkipped, asked, isLong, saidBy}
+use Rattle.text.specs.Numbers.{between, valueFrom, isNumber, hasMinus, isCoordinate, signed, listed, isRow, isList, isHex, hexValue, allPairs, bytesOf, isMap}
+use Rattle.script.specs.Said.{only, seatCall, pairCall, isOpenCall, isBareCall, openCall, bareCall, lentCall, isPlacing, placeCall, callOf, isSkipped, saidIn, isLong, saidBy}
 use Rattle.text.specs.Digits.{digits, integer, placeText, hexDigit, hex}
 use Rattle.script.specs.Answers.{carriedText, toldLine, verdictLine, hexPart, writtenLine, wiredLine, jobLine, runLine, legLine, closedLine, drawingLine, pinLine, notACallLine}
 use Rattle.script.specs.declared.Said.{Said}
@@ -38,9 +38,9 @@ pub each-call :
     ∷ Said.Bare 0 0 1
     ∷ Said.Pins 8
     ∷ []
-unfolding saidByEach both either choose same endOf beforeFirst pieces nonEmpty wordsOf between allDigits valueFrom isNumber hasMinus isCoordinate signed
-    allCoordinates listed isRow isList isHex hexValue allPairs bytesOf isMap only seatCall pairCall isOpenCall isBareCall openCall bareCall lentCall
-    isPlacing placeCall callOf isSkipped asked isLong saidBy
+unfolding saidByEach both either choose same endOf beforeFirst pieces nonEmpty wordsOf between eachOf valueFrom isNumber hasMinus isCoordinate signed
+    listed isRow isList isHex hexValue allPairs bytesOf isMap only seatCall pairCall isOpenCall isBareCall openCall bareCall lentCall
+    isPlacing placeCall callOf isSkipped saidIn isLong saidBy
 each-call = refl
 
 -- What is no call: signs where none may stand, numbers out of range, words missing or over, odd hex digits, lists with a gap.
@@ -52,9 +52,9 @@ pub no-calls :
     ∷ "open 1 9 0009Ff0" ∷ "open 1 9 0g" ∷ "open 1 9 --" ∷ "write 2 1025" ∷ "wire 1 65" ∷ "bare 64 1,,2 1,2,3"
     ∷ "bare 64 1, 2" ∷ "bare 64 , ," ∷ "bare 64 -,1 1,2" ∷ "bare 65 - -" ∷ [])
     ≡ replicate 24 Said.NotACall
-unfolding saidByEach both either choose same endOf beforeFirst pieces nonEmpty wordsOf between allDigits valueFrom isNumber hasMinus isCoordinate signed
-    allCoordinates listed isRow isList isHex hexValue allPairs bytesOf isMap only seatCall pairCall isOpenCall isBareCall openCall bareCall lentCall
-    isPlacing placeCall callOf isSkipped asked isLong saidBy
+unfolding saidByEach both either choose same endOf beforeFirst pieces nonEmpty wordsOf between eachOf valueFrom isNumber hasMinus isCoordinate signed
+    listed isRow isList isHex hexValue allPairs bytesOf isMap only seatCall pairCall isOpenCall isBareCall openCall bareCall lentCall
+    isPlacing placeCall callOf isSkipped saidIn isLong saidBy
 no-calls = refl
 
 -- Lines with no word, and remarks.
@@ -62,7 +62,7 @@ pub skipped :
     saidByEach
     ("" ∷ "   " ∷ "\r" ∷ "# undo 0" ∷ "  #undo 0" ∷ [])
     ≡ replicate 5 Said.Skip
-unfolding saidByEach either choose endOf beforeFirst pieces nonEmpty wordsOf isSkipped asked isLong saidBy
+unfolding saidByEach either choose endOf beforeFirst pieces nonEmpty wordsOf isSkipped saidIn isLong saidBy
 skipped = refl
 
 -- The ends of the ranges, and leading zeros.
@@ -73,13 +73,13 @@ pub edges :
     ∷ Said.Place 0 2 (record { x = negsuc 2147483647; y = pos 2147483647 })
     ∷ Said.Place 4294967295 2 (record { x = pos 0; y = pos 0 })
     ∷ []
-unfolding saidByEach both either choose same endOf beforeFirst pieces nonEmpty wordsOf between allDigits valueFrom isNumber hasMinus
-    isCoordinate signed only isPlacing placeCall callOf isSkipped asked isLong saidBy
+unfolding saidByEach both either choose same endOf beforeFirst pieces nonEmpty wordsOf between eachOf valueFrom isNumber hasMinus
+    isCoordinate signed only isPlacing placeCall callOf isSkipped saidIn isLong saidBy
 edges = refl
 
 -- A call on a line of 16,384 bytes,
 pub longest : saidBy (text "undo 0" ++ replicate 16378 32) ≡ Said.Undo 0
-unfolding both either choose same endOf beforeFirst pieces nonEmpty wordsOf between allDigits valueFrom isNumber only seatCall callOf isSkipped asked isLong saidBy
+unfolding both either choose same endOf beforeFirst pieces nonEmpty wordsOf between eachOf valueFrom isNumber only seatCall callOf isSkipped saidIn isLong saidBy
 longest = refl
 
 -- and one byte more, which is not a call.

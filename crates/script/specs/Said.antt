@@ -5,6 +5,7 @@ use Prim.Native.Nat.{ℕ}
 use lib.IntN.{ℤ}
 use lib.Dec.{ltb, eqb}
 use lib.ListN.{length, getD}
+use Rattle.grid.specs.Place.{place}
 use Rattle.refusal.specs.Tests.{both, either, choose}
 use Rattle.grid.specs.declared.Place.{Place}
 use Rattle.text.specs.Text.{text, same}
@@ -78,7 +79,7 @@ isPlacing a b c d = both (isNumber mostNumber a) (both (isNumber mostNumber b) (
 
 -- The place of an x and a y.
 abbrev pub placeRead : List ℕ → List ℕ → Place
-placeRead c d = record { x = signed c; y = signed d }
+placeRead c d = place (signed c) (signed d)
 
 -- Four words read as a seat, a pin and a place, where they are that.
 unfoldable pub placingOf : List ℕ → List ℕ → List ℕ → List ℕ → Placing
@@ -103,9 +104,9 @@ callOf n name a b c d =
 unfoldable pub isSkipped : List ℕ → Bool
 isSkipped name = either (eqb (length name) 0) (eqb (getD name 0 0) hash)
 
--- What words ask for.
-unfoldable pub asked : List (List ℕ) → Said
-asked words =
+-- What the words of a line say.
+unfoldable pub saidIn : List (List ℕ) → Said
+saidIn words =
     choose (isSkipped (word 0 words)) Said.Skip
     (callOf (length words) (word 0 words) (word 1 words) (word 2 words) (word 3 words) (word 4 words))
 
@@ -115,7 +116,7 @@ isLong line = ltb mostLine (length (withoutReturn line))
 
 -- What a line says.
 unfoldable pub saidBy : List ℕ → Said
-saidBy line = choose (isLong line) Said.NotACall (asked (wordsOf (withoutReturn line)))
+saidBy line = choose (isLong line) Said.NotACall (saidIn (wordsOf (withoutReturn line)))
 
 -- The bytes of the map, where words are an opening.
 unfoldable pub mapIn : List ℕ → List ℕ → List ℕ → List ℕ → List ℕ
@@ -126,22 +127,22 @@ unfoldable pub listIn : List ℕ → List ℕ → List ℕ → List ℕ → List
 listIn name a b c list = choose (both (same name (text "bare")) (isBareCall a b c)) (listed list) []
 
 -- The bytes of the map in words; only calls of four words have one.
-unfoldable pub mapAsked : List (List ℕ) → List ℕ
-mapAsked words = choose (eqb (length words) 4) (mapIn (word 0 words) (word 1 words) (word 2 words) (word 3 words)) []
+unfoldable pub mapSaid : List (List ℕ) → List ℕ
+mapSaid words = choose (eqb (length words) 4) (mapIn (word 0 words) (word 1 words) (word 2 words) (word 3 words)) []
 
 -- The numbers of the list that is the word of a number; only calls of four words have one.
-unfoldable pub listAsked : ℕ → List (List ℕ) → List ℤ
-listAsked k words =
+unfoldable pub listSaid : ℕ → List (List ℕ) → List ℤ
+listSaid k words =
     choose (eqb (length words) 4) (listIn (word 0 words) (word 1 words) (word 2 words) (word 3 words) (word k words)) []
 
 -- The bytes of the map in a line.
 unfoldable pub mapGiven : List ℕ → List ℕ
-mapGiven line = choose (isLong line) [] (mapAsked (wordsOf (withoutReturn line)))
+mapGiven line = choose (isLong line) [] (mapSaid (wordsOf (withoutReturn line)))
 
 -- The list of x in a line.
 unfoldable pub xsGiven : List ℕ → List ℤ
-xsGiven line = choose (isLong line) [] (listAsked 2 (wordsOf (withoutReturn line)))
+xsGiven line = choose (isLong line) [] (listSaid 2 (wordsOf (withoutReturn line)))
 
 -- The list of y in a line.
 unfoldable pub ysGiven : List ℕ → List ℤ
-ysGiven line = choose (isLong line) [] (listAsked 3 (wordsOf (withoutReturn line)))
+ysGiven line = choose (isLong line) [] (listSaid 3 (wordsOf (withoutReturn line)))

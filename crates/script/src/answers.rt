@@ -15,7 +15,7 @@ ghost use mathlib.Core.Path.{_≡_};
 ghost use Prim.Native.Nat.{_+_, _≤_};
 ghost use lib.ListN.{length};
 ghost use lib.Seq.{sets};
-ghost use Rattle.text.specs.Text.{answerBytes, Holds};
+ghost use Rattle.text.specs.Text.{over, answerBytes, Holds};
 ghost use Rattle.script.specs.Said.{mostRoom};
 ghost use Rattle.script.specs.Answers.{mostLineBytes, mostRunBytes, mostLegBytes, mostPinBytes, mostShapeBytes, mostLabelBytes, mostCarriedBytes, mostHexBytes, fieldsLine, hexPart, carriedText, toldLine, verdictLine, writtenLine, wiredLine, jobLine, runLine, legLine, closedLine, drawingLine, pinLine, notACallLine};
 
@@ -43,7 +43,7 @@ fn print_fields(
 
 // What is not a call: its line, counted from 1.
 pub fn print_not_a_call(line: usize, out: &mut [u8; ANSWER_BYTES]) -> usize
-    ensures { λ r. ⌜ Holds mostLineBytes (notACallLine line) (now (out .entry)) r (now (out .exit)) ⌝ }
+    ensures { λ r. ⌜ ((r ≡ length (notACallLine line)) × (r ≤ mostLineBytes)) × (now (out .exit) ≡ over (notACallLine line) (now (out .entry))) ⌝ }
 {
     let next = put_field(out, 0, b"line ", line);
     put(out, next, b": not a call\n")
@@ -57,7 +57,7 @@ pub fn print_wired(
     weighed: usize,
     out: &mut [u8; ANSWER_BYTES],
 ) -> usize
-    ensures { λ r. ⌜ Holds mostLineBytes (wiredLine length runs legs weighed) (now (out .entry)) r (now (out .exit)) ⌝ }
+    ensures { λ r. ⌜ ((r ≡ lib.ListN.length (wiredLine length runs legs weighed)) × (r ≤ mostLineBytes)) × (now (out .exit) ≡ over (wiredLine length runs legs weighed) (now (out .entry))) ⌝ }
 {
     print_fields(
         b"0 length ",
@@ -80,7 +80,7 @@ pub fn print_job(
     weighed: usize,
     out: &mut [u8; ANSWER_BYTES],
 ) -> usize
-    ensures { λ r. ⌜ Holds mostLineBytes (jobLine job length runs weighed) (now (out .entry)) r (now (out .exit)) ⌝ }
+    ensures { λ r. ⌜ ((r ≡ lib.ListN.length (jobLine job length runs weighed)) × (r ≤ mostLineBytes)) × (now (out .exit) ≡ over (jobLine job length runs weighed) (now (out .entry))) ⌝ }
 {
     print_fields(
         b"job ",
@@ -127,7 +127,7 @@ pub fn print_leg(a: Place, b: Place, out: &mut [u8; ANSWER_BYTES], at: usize) ->
 
 // A seat that is not open.
 pub fn print_closed(out: &mut [u8; ANSWER_BYTES]) -> usize
-    ensures { λ r. ⌜ Holds mostLineBytes closedLine (now (out .entry)) r (now (out .exit)) ⌝ }
+    ensures { λ r. ⌜ ((r ≡ length closedLine) × (r ≤ mostLineBytes)) × (now (out .exit) ≡ over closedLine (now (out .entry))) ⌝ }
 {
     put(out, 0, b"closed\n")
 }
@@ -140,7 +140,7 @@ pub fn print_drawing(
     taken: usize,
     out: &mut [u8; ANSWER_BYTES],
 ) -> usize
-    ensures { λ r. ⌜ Holds mostLineBytes (drawingLine job pins standing taken) (now (out .entry)) r (now (out .exit)) ⌝ }
+    ensures { λ r. ⌜ ((r ≡ length (drawingLine job pins standing taken)) × (r ≤ mostLineBytes)) × (now (out .exit) ≡ over (drawingLine job pins standing taken) (now (out .entry))) ⌝ }
 {
     print_fields(
         b"job ",
@@ -193,7 +193,7 @@ fn print_told(told: Told, out: &mut [u8; ANSWER_BYTES]) -> usize
 
 // The verdict of a call.
 pub fn print_verdict(verdict: Verdict, out: &mut [u8; ANSWER_BYTES]) -> usize
-    ensures { λ r. ⌜ Holds mostLineBytes (verdictLine verdict) (now (out .entry)) r (now (out .exit)) ⌝ }
+    ensures { λ r. ⌜ ((r ≡ length (verdictLine verdict)) × (r ≤ mostLineBytes)) × (now (out .exit) ≡ over (verdictLine verdict) (now (out .entry))) ⌝ }
 {
     print_told(refusal::tell(verdict), out)
 }
@@ -213,7 +213,7 @@ fn put_lent(out: &mut [u8; ANSWER_BYTES], at: usize, bytes: &[u8]) -> usize
 
 // An accepted writing: the bytes written, and the lent buffer after the call, of which at most 1,024 bytes are printed.
 pub fn print_written(bytes: usize, buffer: &[u8], out: &mut [u8; ANSWER_BYTES]) -> usize
-    ensures { λ r. ⌜ Holds answerBytes (writtenLine bytes (now (buffer .entry))) (now (out .entry)) r (now (out .exit)) ⌝ }
+    ensures { λ r. ⌜ ((r ≡ length (writtenLine bytes (now (buffer .entry)))) × (r ≤ answerBytes)) × (now (out .exit) ≡ over (writtenLine bytes (now (buffer .entry))) (now (out .entry))) ⌝ }
 {
     let shown = smaller(buffer.len(), MOST_ROOM);
     let one = put_field(out, 0, b"0 ", bytes);

@@ -1,4 +1,4 @@
-// What the words of a line ask for.
+// What the words of a line say.
 use crate::MOST_ROOM;
 use crate::Placing;
 use crate::Said;

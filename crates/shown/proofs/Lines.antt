@@ -7,10 +7,10 @@ use native.Mathlib.Nat.{add-zero, zero-add}
 use native.Mathlib.Omega.{arith}
 use lib.ListN.{length, take, drop, getD}
 use lib.Seq.{length-take-le}
+use Rattle.tree.specs.Bends.{howMany}
 use Rattle.feed.specs.declared.Spot.{Spot}
 use Rattle.feed.specs.declared.Spot.the-variants.{Absent}
 use Rattle.feed.specs.Feeds.{present}
-use Rattle.refusal.specs.Tests.{choose}
 use Rattle.refusal.specs.Refusals.{accepted}
 use Rattle.refusal.proofs.Tests.{choose-yes, choose-no}
 use Rattle.wiring.specs.declared.Wiring.{Wiring}
@@ -61,13 +61,13 @@ pins-more feed pin h =
 -- A pin that is there is counted,
 pub count-there : (feed : List Spot) (pin : ℕ) → pin < length feed → present (getD feed pin Absent) ≡ true
     → pinsThere (drop pin feed) ≡ 1 + pinsThere (drop (pin + 1) feed)
-unfolding pinsThere choose
+unfolding howMany
 count-there feed pin h t = ap pinsThere (front Absent feed pin h) ∙ rw t
 
 -- one that is not is not.
 pub count-absent : (feed : List Spot) (pin : ℕ) → pin < length feed → present (getD feed pin Absent) ≡ false
     → pinsThere (drop pin feed) ≡ pinsThere (drop (pin + 1) feed)
-unfolding pinsThere choose
+unfolding howMany
 count-absent feed pin h t = ap pinsThere (front Absent feed pin h) ∙ rw t (zero-add (pinsThere (drop (pin + 1) feed)))
 
 -- What is printed from the start on, as a piece that others follow.

@@ -21,7 +21,7 @@ use Rattle.wiring.specs.Answer.{shapedRuns, runEntries, legEntries, turnedAway,
 use Rattle.text.specs.Text.{text}
 use Rattle.text.specs.Digits.{digits, integer, placeText}
 use Rattle.script.specs.Answers.{carriedText, toldLine, wiredLine, jobLine, runLine, legLine, drawingLine, pinLine}
-use Rattle.shown.specs.Shown.{shapedLine, lineForEach, legText, spotText, pinsText, pinsThere, wiredText, laidText, jobText, mapText, drawnText}
+use Rattle.shown.specs.Shown.{entryLine, lineForEach, legText, spotText, pinsText, wiredText, laidText, jobText, mapText, drawnText}
 
 -- W3: (0,0), (4,2), (4,-2).
 abbrev w3 : Laid
@@ -34,7 +34,7 @@ unfolding wiringOf wiringFavouring wiringWith wiringVerdict answerWith turnedAwa
     anyOf stepsOfAll stepsOf smaller stepsUp stepsAcross sameStep legsOf lowerCorner upperCorner isStraight noTwo clash common isEnd
     boxesShare overlap under belowBoth runsOf pinsOf runsAmong grown nextRun earliestOf earliest runsBetween runsFrom without pinsFrom keptIf sooner
     pairAt comesBefore byPart byNumber pairOf weightOf distanceOf difference larger sameNumber accepted turn both either choose digits jobLine runLine
-    shapedLine lineForEach jobText mapText
+    entryLine lineForEach jobText mapText
 map-of-w3 = refl
 
 -- W3 with its legs.
@@ -44,7 +44,7 @@ unfolding wiringOf wiringFavouring wiringWith wiringVerdict answerWith turnedAwa
     anyOf stepsOfAll stepsOf smaller stepsUp stepsAcross sameStep legsOf lowerCorner upperCorner isStraight noTwo clash common isEnd
     boxesShare overlap under belowBoth runsOf pinsOf runsAmong grown nextRun earliestOf earliest runsBetween runsFrom without pinsFrom keptIf sooner
     pairAt comesBefore byPart byNumber pairOf weightOf distanceOf difference larger sameNumber accepted turn both either choose digits integer
-    placeText wiredLine runLine legLine shapedLine lineForEach legText wiredText laidText
+    placeText wiredLine runLine legLine entryLine lineForEach legText wiredText laidText
 laid-w3 = refl
 
 -- Refused maps: of a wrong length, and with a record of another job.
@@ -58,5 +58,5 @@ two = Absent ∷ At (record { x = pos 1; y = negsuc 0 }) ∷ At (record { x = po
 
 -- It is printed with its two pins counted and a line for each.
 pub drawn-two : drawnText 7 two 2 1 ≡ text "job 7 pins 2 standing 2 taken 1\npin 1 1 -1\npin 2 20000 -20000\n"
-unfolding choose digits integer placeText drawingLine pinLine spotText pinsText pinsThere drawnText
+unfolding choose digits integer placeText drawingLine pinLine spotText pinsText howMany drawnText
 drawn-two = refl

@@ -2,6 +2,7 @@
 use mathlib.Core.List.{List, [], _∷_, _++_}
 use Prim.Native.Nat.{ℕ, suc, _+_}
 use lib.ListN.{take}
+use Rattle.tree.specs.Bends.{howMany}
 use Rattle.refusal.specs.Tests.{choose}
 use Rattle.refusal.specs.Refusals.{accepted}
 use Rattle.feed.specs.declared.Spot.{Spot}
@@ -23,8 +24,8 @@ shapeWord Lower = text "lower"
 shapeWord Upper = text "upper"
 
 -- The line of a run: near, far, shape.
-unfoldable pub shapedLine : RunEntry → List ℕ
-shapedLine run = runLine (run .near) (run .far) (shapeWord (run .shape))
+unfoldable pub entryLine : RunEntry → List ℕ
+entryLine run = runLine (run .near) (run .far) (shapeWord (run .shape))
 
 -- A line for each of a list, one after the other.
 unfoldable pub lineForEach : {A : Type 0} → (A → List ℕ) → List A → List ℕ
@@ -33,7 +34,7 @@ lineForEach line (a ∷ rest) = line a ++ lineForEach line rest
 
 -- A line for each run.
 abbrev pub runsText : List RunEntry → List ℕ
-runsText runs = lineForEach shapedLine runs
+runsText runs = lineForEach entryLine runs
 
 -- The line of a leg: its two ends.
 unfoldable pub legText : Leg → List ℕ
@@ -54,9 +55,8 @@ pinsText pin [] = []
 pinsText pin (spot ∷ rest) = spotText pin spot ++ pinsText (suc pin) rest
 
 -- How many pins are there.
-unfoldable pub pinsThere : List Spot → ℕ
-pinsThere [] = 0
-pinsThere (spot ∷ rest) = choose (present spot) 1 0 + pinsThere rest
+abbrev pub pinsThere : List Spot → ℕ
+pinsThere feed = howMany present feed
 
 -- An accepted wiring: its line, its runs, its legs.
 unfoldable pub wiredText : Wiring → List Leg → List ℕ

@@ -24,15 +24,15 @@ ghost use lib.Seq.{sets};
 ghost use Rattle.feed.specs.Feeds.{mostPins};
 ghost use Rattle.tree.specs.Trees.{mostRuns};
 ghost use Rattle.wiring.specs.Answer.{mostLegs};
-ghost use Rattle.text.specs.Text.{answerBytes, Holds};
+ghost use Rattle.text.specs.Text.{over, answerBytes};
 ghost use Rattle.script.specs.Answers.{mostRunBytes, mostLegBytes, mostPinBytes};
-ghost use Rattle.shown.specs.Shown.{shapedLine, runsText, legText, legsText, spotText, pinsText, pinsThere, laidText, mapText, drawnText};
+ghost use Rattle.shown.specs.Shown.{entryLine, runsText, legText, legsText, spotText, pinsText, pinsThere, laidText, mapText, drawnText};
 
 // A run, from a position on.
-fn put_shaped(run: RunEntry, out: &mut [u8; ANSWER_BYTES], at: usize) -> usize
+fn put_entry(run: RunEntry, out: &mut [u8; ANSWER_BYTES], at: usize) -> usize
     requires { ⌜ at + mostRunBytes ≤ answerBytes ⌝ }
-    ensures { λ r. ⌜ (r ≡ at + length (shapedLine run)) × (r ≤ at + mostRunBytes) ⌝ }
-    ensures { λ _. ⌜ now (out .exit) ≡ sets (now (out .entry)) at (shapedLine run) ⌝ }
+    ensures { λ r. ⌜ (r ≡ at + length (entryLine run)) × (r ≤ at + mostRunBytes) ⌝ }
+    ensures { λ _. ⌜ now (out .exit) ≡ sets (now (out .entry)) at (entryLine run) ⌝ }
 {
     let shape = run.shape;
     match shape {
@@ -53,7 +53,7 @@ fn put_runs(runs: [RunEntry; RUNS], count: usize, out: &mut [u8; ANSWER_BYTES], 
     let mut i = 0;
     while i < most {
         let run = runs[i];
-        next = put_shaped(run, out, next);
+        next = put_entry(run, out, next);
         i += 1;
     }
     next
@@ -133,7 +133,7 @@ fn pins_there(feed: [Spot; PINS]) -> usize
 
 // Prints the answer of a wiring with its legs, and answers how many bytes that is.
 pub fn print_laid(laid: Laid, out: &mut [u8; ANSWER_BYTES]) -> usize
-    ensures { λ r. ⌜ Holds answerBytes (laidText laid) (now (out .entry)) r (now (out .exit)) ⌝ }
+    ensures { λ r. ⌜ ((r ≡ length (laidText laid)) × (r ≤ answerBytes)) × (now (out .exit) ≡ over (laidText laid) (now (out .entry))) ⌝ }
 {
     let wiring = laid.wiring;
     let verdict = wiring.verdict;
@@ -151,7 +151,7 @@ pub fn print_laid(laid: Laid, out: &mut [u8; ANSWER_BYTES]) -> usize
 
 // Prints the answer of the wiring of a map, and answers how many bytes that is.
 pub fn print_map(job: u16, wiring: Wiring, out: &mut [u8; ANSWER_BYTES]) -> usize
-    ensures { λ r. ⌜ Holds answerBytes (mapText job wiring) (now (out .entry)) r (now (out .exit)) ⌝ }
+    ensures { λ r. ⌜ ((r ≡ length (mapText job wiring)) × (r ≤ answerBytes)) × (now (out .exit) ≡ over (mapText job wiring) (now (out .entry))) ⌝ }
 {
     let outcome = wiring.verdict;
     if !refusal::is_accepted(outcome) {
@@ -172,7 +172,7 @@ pub fn print_drawn(
     taken: usize,
     out: &mut [u8; ANSWER_BYTES],
 ) -> usize
-    ensures { λ r. ⌜ Holds answerBytes (drawnText job feed standing taken) (now (out .entry)) r (now (out .exit)) ⌝ }
+    ensures { λ r. ⌜ ((r ≡ length (drawnText job feed standing taken)) × (r ≤ answerBytes)) × (now (out .exit) ≡ over (drawnText job feed standing taken) (now (out .entry))) ⌝ }
 {
     let pins = pins_there(feed);
     let next = print_drawing(job as usize, pins, standing, taken, out);

@@ -94,6 +94,7 @@ unfolding choose
 count-within true h = omega arith
 count-within false h = omega arith
 
+-- A position one byte on is one more, at most.
 count-after : (t : Bool) {m n : ℕ} → m ≤ n → indexAfter t m ≤ suc n
 unfolding indexAfter
 count-after true h = omega arith
@@ -166,6 +167,7 @@ unfolding pieces indexOf
 after-piece s [] h = absurd (omega arith)
 after-piece s (b ∷ rest) h = after-by s b rest (eqb b s) (after-piece s rest) h
 
+-- One byte before the last piece, by whether it is the separator.
 last-by : (s b : ℕ) (rest : List ℕ) (t : Bool) → (length rest ≤ indexOf s rest → drop 1 (pieces s rest) ≡ [])
     → suc (length rest) ≤ indexAfter t (indexOf s rest)
     → drop 1 (choose t ([] ∷ pieces s rest) (beforeFirst b (pieces s rest))) ≡ []
@@ -185,6 +187,7 @@ unfolding beforeFirst
 some-longer b [] = omega arith
 some-longer b (p ∷ ps) = omega arith
 
+-- There is a piece, by whether the first byte is the separator.
 some-by : (s b : ℕ) (rest : List ℕ) (t : Bool) → 0 < length (choose t ([] ∷ pieces s rest) (beforeFirst b (pieces s rest)))
 unfolding choose
 some-by s b rest true = omega arith
@@ -210,6 +213,7 @@ unfolding pieces indexOf indexAfter choose nonEmpty wordsOf
 rest-by b rest true e ih = rw (e, e)
 rest-by b rest false e ih = rw (e, rest-longer b (pieces space rest)) ih
 
+-- The words after the first space are those of what follows it.
 rest-filled : (l : List ℕ) → nonEmpty (drop 1 (pieces space l)) ≡ wordsOf (drop (indexOf space l) l)
 unfolding pieces indexOf nonEmpty wordsOf
 rest-filled [] = refl
@@ -222,6 +226,7 @@ unfolding pieces choose nonEmpty wordsOf spacesOf
 skip-by b rest true e ih = rw e ih
 skip-by b rest false e ih = rw (e, e)
 
+-- Leading spaces change no word.
 words-skip : (l : List ℕ) → wordsOf l ≡ wordsOf (drop (spacesOf l) l)
 unfolding spacesOf
 words-skip [] = refl
@@ -234,6 +239,7 @@ unfolding choose spacesOf
 done-by b rest true e ih = rw e ih
 done-by b rest false e ih = rw (e, e)
 
+-- Past its leading spaces a text begins with none.
 spaces-done : (l : List ℕ) → spacesOf (drop (spacesOf l) l) ≡ 0
 unfolding spacesOf
 spaces-done [] = refl
@@ -245,6 +251,7 @@ pub record Begun (l : List ℕ) : Type 0 where
   pub rest : drop 1 (wordsOf l) ≡ wordsOf (drop (indexOf space l) l)
   pub some : min 1 (indexOf space l) ≡ min 1 (length (wordsOf l))
 
+-- Where a text begins with no space, its first word begins there: one byte more,
 begun-by : (b : ℕ) (rest : List ℕ) (t : Bool) → eqb b space ≡ t → spacesOf (b ∷ rest) ≡ 0 → Begun (b ∷ rest)
 unfolding pieces choose nonEmpty wordsOf spacesOf indexOf indexAfter
 begun-by b rest true e h = absurd (omega (arith, rw e at h))
@@ -255,6 +262,7 @@ begun-by b rest false e h =
       some = rw (e, filled-longer b (pieces space rest)) (omega arith);
     }
 
+-- and any text.
 begun : (l : List ℕ) → spacesOf l ≡ 0 → Begun l
 unfolding pieces nonEmpty wordsOf indexOf
 begun [] h = record { first = refl; rest = refl; some = refl }

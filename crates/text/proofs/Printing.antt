@@ -41,6 +41,7 @@ more-by k n ih h (inl s) =
     ∙ digits-step (suc k) n s
 more-by k n ih h (inr s) = sym (digits-small k n s) ∙ digits-small (suc k) n s
 
+-- Room for one digit more changes nothing where there is room already.
 digits-more : (k n : ℕ) → n < 10 ^ suc k → digits (suc k) n ≡ digits (suc (suc k)) n
 digits-more zero n h = sym (digits-small 0 n (omega (arith, pow-suc 10 0))) ∙ digits-small 1 n (omega (arith, pow-suc 10 0))
 digits-more (suc k) n h = more-by (suc k) n (digits-more k (n / 10)) h (order 10 n)

@@ -13,7 +13,7 @@ use Rattle.bytes.specs.Bytes.{indexOf}
 use mir.Syntax.{w32}
 use mir.Val.{toZ}
 use borrow.Author.Tests.{lt-leb, le-leb, lt-ltb, le-ltb, eq-eqb, ne-eqb, leb-true}
-use Rattle.refusal.specs.Tests.{both, either, choose}
+use Rattle.refusal.specs.Tests.{both, either, choose, eachOf}
 use Rattle.refusal.proofs.Tests.{opposite, both-left, both-right}
 use Rattle.grid.proofs.Flat.{order}
 use Rattle.text.specs.Text.{same, over}
@@ -43,23 +43,24 @@ between-is low high b h = (leb-true low b (both-left _ _ h), leb-true b high (bo
 module _ (w : List ℕ) (i : ℕ) where
   -- A digit leaves it to the bytes after it whether all are digits,
   pub digits-next : i < length w → between 48 57 (getD w i 0) ≡ true → allDigits (drop i w) ≡ allDigits (drop (i + 1) w)
-  unfolding allDigits both
+  unfolding eachOf both
   digits-next h e = rw (front 0 w i h, e)
 
   -- any other byte settles that they are not,
   pub digits-stop : i < length w → between 48 57 (getD w i 0) ≡ false → allDigits (drop i w) ≡ false
-  unfolding allDigits both
+  unfolding eachOf both
   digits-stop h e = rw (front 0 w i h, e)
 
   -- and at the end of the word they are.
   pub digits-end : length w ≤ i → allDigits (drop i w) ≡ true
-  unfolding allDigits
+  unfolding eachOf
   digits-end h = rw (drop-of-length-le w h)
 
 -- Beyond all ranges one value is as good as another.
 capped : (v d : ℕ) → min (min v beyond * 10 + d) beyond ≡ min (v * 10 + d) beyond
 capped v d = omega arith
 
+-- A value that is cut at the bound on the way is cut there in the end.
 value-capped : (w : List ℕ) (v : ℕ) → min (valueFrom (min v beyond) w) beyond ≡ min (valueFrom v w) beyond
 unfolding valueFrom
 value-capped [] v = omega arith
@@ -83,22 +84,22 @@ module _ (w : List ℕ) (i v : ℕ) where
 -- A word that is no number, and one that is.
 module _ (top : ℕ) (w : List ℕ) where
   -- An empty word is no number,
-  pub number-empty : length w ≡ 0 → Number.NotOne ≡ numberOf top w
+  pub number-empty : length w ≡ 0 → Number.Unread ≡ numberOf top w
   unfolding numberOf isNumber both choose
   number-empty h = rw (le-ltb 0 (length w) (omega arith))
 
   -- nor is one with a byte that is no digit,
-  pub number-undigits : allDigits w ≡ false → Number.NotOne ≡ numberOf top w
+  pub number-undigits : allDigits w ≡ false → Number.Unread ≡ numberOf top w
   unfolding numberOf isNumber both choose
   number-undigits h = undigits (ltb 0 (length w)) h
     where
       undigits : (t : Bool) → allDigits w ≡ false
-          → Number.NotOne ≡ choose (both t (both (allDigits w) (leb (valueOf w) top))) (Number.Of (valueOf w)) Number.NotOne
+          → Number.Unread ≡ choose (both t (both (allDigits w) (leb (valueOf w) top))) (Number.Of (valueOf w)) Number.Unread
       undigits true e = rw e
       undigits false e = refl
 
   -- nor one that comes to more than its range allows;
-  pub number-above : (length w ≡ 0 → ⊥) → allDigits w ≡ true → top < min (valueOf w) beyond → Number.NotOne ≡ numberOf top w
+  pub number-above : (length w ≡ 0 → ⊥) → allDigits w ≡ true → top < min (valueOf w) beyond → Number.Unread ≡ numberOf top w
   unfolding numberOf isNumber both choose
   number-above n d h = rw (lt-ltb 0 (length w) (omega arith), d, lt-leb (valueOf w) top (omega arith))
 
@@ -118,7 +119,7 @@ module _ (top : ℕ) (w : List ℕ) where
       (p .0, cc)
 
   -- and one that was not read is none.
-  pub number-unread : Number.NotOne ≡ numberOf top w → isNumber top w ≡ false
+  pub number-unread : Number.Unread ≡ numberOf top w → isNumber top w ≡ false
   unfolding numberOf choose
   number-unread e = unpicked (isNumber top w) (λ q. opposite {t = true} refl cc) e
 
@@ -253,7 +254,7 @@ module _ (w : List ℕ) where
       rw (h, r .0, r .1)
 
   -- and not read where no number follows.
-  pub below-unread : hasMinus w ≡ true → Number.NotOne ≡ numberOf mostBelow (drop 1 w) → Coordinate.Unread ≡ coordinateOf w
+  pub below-unread : hasMinus w ≡ true → Number.Unread ≡ numberOf mostBelow (drop 1 w) → Coordinate.Unread ≡ coordinateOf w
   unfolding coordinateOf isCoordinate choose
   below-unread h e = rw (h, number-unread mostBelow (drop 1 w) e)
 
@@ -265,7 +266,7 @@ module _ (w : List ℕ) where
       rw (h, r .0, r .1)
 
   -- and not read where it is none.
-  pub plain-unread : hasMinus w ≡ false → Number.NotOne ≡ numberOf mostAbove w → Coordinate.Unread ≡ coordinateOf w
+  pub plain-unread : hasMinus w ≡ false → Number.Unread ≡ numberOf mostAbove w → Coordinate.Unread ≡ coordinateOf w
   unfolding coordinateOf isCoordinate choose
   plain-unread h e = rw (h, number-unread mostAbove w e)
 
@@ -368,19 +369,19 @@ judged-start w =
 
 -- a piece that is no number settles that it is none,
 pub judged-stop : (count : ℕ) (p : List ℕ) (ps : List (List ℕ)) → isCoordinate p ≡ false → judged count (p ∷ ps) ≡ false
-unfolding judged allCoordinates both
+unfolding judged eachOf both
 judged-stop count p ps h = rw h
 
 -- a number leaves it to the pieces after it, with one more counted,
 pub judged-next : (count : ℕ) (p : List ℕ) (ps : List (List ℕ)) → isCoordinate p ≡ true → judged count (p ∷ ps) ≡ judged (count + 1) ps
-unfolding judged allCoordinates both
+unfolding judged eachOf both
 judged-next count p ps h =
     let e : count + suc (length ps) ≡ count + 1 + length ps = omega arith in
     rw (h, e)
 
 -- and at the end the count decides.
 pub judged-end : (count : ℕ) → leb count mostNumbers ≡ judged count []
-unfolding judged allCoordinates both
+unfolding judged eachOf both
 judged-end count =
     let e : count ≡ count + 0 = omega arith in
     ap (λ (n : ℕ). leb n mostNumbers) e
@@ -401,7 +402,7 @@ row-numbers w h =
 
 -- where all are numbers, the first is one and so are the others.
 pub coordinates-next : (p : List ℕ) (ps : List (List ℕ)) → allCoordinates (p ∷ ps) ≡ true → (isCoordinate p ≡ true) × (allCoordinates ps ≡ true)
-unfolding allCoordinates
+unfolding eachOf
 coordinates-next p ps h = (both-left _ _ h, both-right _ _ h)
 
 -- The piece of a row from a position up to the next comma:

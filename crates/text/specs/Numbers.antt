@@ -5,7 +5,7 @@ use Prim.Native.Nat.{ℕ, _+_, _-_, _*_}
 use lib.IntN.{ℤ, pos, negℤ}
 use lib.Dec.{leb, ltb, eqb}
 use lib.ListN.{length, drop, getD}
-use Rattle.refusal.specs.Tests.{both, either, choose}
+use Rattle.refusal.specs.Tests.{both, either, choose, eachOf}
 use Rattle.text.specs.Text.{text, same}
 use Rattle.text.specs.Words.{minus, comma, pieces}
 use Rattle.text.specs.declared.Number.{Number}
@@ -48,9 +48,8 @@ abbrev pub isDigit : ℕ → Bool
 isDigit b = between 48 57 b
 
 -- Every byte of a word is a digit.
-unfoldable pub allDigits : List ℕ → Bool
-allDigits [] = true
-allDigits (b ∷ rest) = both (isDigit b) (allDigits rest)
+abbrev pub allDigits : List ℕ → Bool
+allDigits w = eachOf isDigit w
 
 -- What digits come to, after a value that stands before them; leading zeros allowed.
 unfoldable pub valueFrom : ℕ → List ℕ → ℕ
@@ -67,7 +66,7 @@ isNumber top w = both (ltb 0 (length w)) (both (allDigits w) (leb (valueOf w) to
 
 -- A word read as a number, where it is one.
 unfoldable pub numberOf : ℕ → List ℕ → Number
-numberOf top w = choose (isNumber top w) (Number.Of (valueOf w)) Number.NotOne
+numberOf top w = choose (isNumber top w) (Number.Of (valueOf w)) Number.Unread
 
 -- One minus stands before the word.
 unfoldable pub hasMinus : List ℕ → Bool
@@ -90,9 +89,8 @@ abbrev pub noneWord : List ℕ
 noneWord = text "-"
 
 -- Every one of some words is such a number.
-unfoldable pub allCoordinates : List (List ℕ) → Bool
-allCoordinates [] = true
-allCoordinates (w ∷ rest) = both (isCoordinate w) (allCoordinates rest)
+abbrev pub allCoordinates : List (List ℕ) → Bool
+allCoordinates words = eachOf isCoordinate words
 
 -- The numbers that a list holds; none where it is a single minus.
 unfoldable pub listed : List ℕ → List ℤ

@@ -30,7 +30,7 @@ pub struct Cut {
 
 // A word read as a number.
 pub enum Number {
-    NotOne,
+    Unread,
     Of(usize),
 }
 

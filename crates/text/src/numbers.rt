@@ -107,14 +107,14 @@ pub fn number(word: &[u8], top: usize) -> Number
     ensures { λ r. ⌜ r ≡ numberOf top (now (word .entry)) ⌝ }
 {
     if word.len() == 0 {
-        return Number::NotOne;
+        return Number::Unread;
     }
     if !all_digits(word) {
-        return Number::NotOne;
+        return Number::Unread;
     }
     let n = value(word);
     if top < n {
-        return Number::NotOne;
+        return Number::Unread;
     }
     Number::Of(n)
 }

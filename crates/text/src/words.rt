@@ -37,7 +37,7 @@ fn start_at(text: &[u8], at: usize) -> usize
     i
 }
 
-// Where the separator after `at` stands, or the text's end.
+// Where the next separator from `at` on stands, or the text's end.
 pub fn stop_at(text: &[u8], at: usize, separator: u8) -> usize
     requires { ⌜ at ≤ length (now text) ⌝ }
     ensures { λ r. ⌜ r ≡ stopAt separator (now (text .entry)) at ⌝ }

@@ -219,7 +219,7 @@ module _ (feed : List Spot) (full : length feed ≡ mostPins) (ok : allWithin fe
   none-meet [] h = refl
   none-meet (s ∷ l) h = both-of (ap not (any-none s (h s (first refl)) l (λ q m. h q (later m)))) (none-meet l (λ q m. h q (later m)))
 
-  -- 18 IS NEVER GIVEN: where there are pins, the answer is their runs.
+  -- 18 IS NEVER GIVEN: no boxes of the runs meet.
   pub never-meet : boxesMeet feed (runsOf feed) ≡ false
   never-meet = ap not (none-meet (runsOf feed) (λ s m. m))
 

@@ -10,6 +10,7 @@ use native.Mathlib.Nat.{max-eq-left, max-eq-right, le-of-lt}
 use mathlib.Core.Logic.{_⊎_, inl, inr}
 use lib.Dec.{eqb}
 use borrow.Author.Tests.{eq-eqb, ne-eqb}
+use Rattle.refusal.proofs.Tests.{opposite}
 use Rattle.grid.proofs.Flat.{order}
 use Rattle.tree.specs.declared.Run.{Run}
 
@@ -140,7 +141,7 @@ pub data Grown (key : ℕ → ℕ → ℕ) (There : ℕ → Type 0) (o : ℕ) : 
   seed : Grown key There o []
   grow : {r : Run} {rs : List Run} → JoinsEarliest key There o r rs → Grown key There o rs → Grown key There o (r ∷ rs)
 
--- The far end of a run is reached,
+-- The far end of a run is reached.
 pub far-reached : (o s t : ℕ) {rs : List Run} → HasRun s t rs → IsReached o t rs
 far-reached o s t (here e f) = new f
 far-reached o s t (further h) = old (far-reached o s t h)
@@ -151,7 +152,7 @@ module _ {There : ℕ → Type 0} {o : ℕ} where
   branching seed = trunk
   branching (grow l g) = branch (l .joins) (branching g)
 
-  -- and so is its near end.
+  -- The near end of a run is reached too.
   pub near-reached : (s t : ℕ) {rs : List Run} → Branching There o rs → HasRun s t rs → IsReached o s rs
   near-reached s t (branch {rs = rs} j w) (here e f) = old (subst (λ (z : ℕ). IsReached o z rs) (sym e) (j .from))
   near-reached s t (branch j w) (further h) = old (near-reached s t w h)
@@ -245,7 +246,7 @@ module _ (key : ℕ → ℕ → ℕ) where
 
 -- No test holds and fails.
 pub differ : {x y : Bool} → x ≡ true → y ≡ false → x ≡ y → ⊥
-differ e f g = let z : _≡_ {A = ℕ} 0 1 = cc in omega arith
+differ e f g = opposite (sym g ∙ e) f
 
 module _ (key : ℕ → ℕ → ℕ) {There : ℕ → Type 0} {o : ℕ} where
   -- A run lies on every way between the pins that hang from it and the others.
@@ -340,7 +341,7 @@ module _ (key : ℕ → ℕ → ℕ) (swap : (a b : ℕ) → key a b ≡ key b a
 
 -- ---- the pins that hang from a run, told by the runs
 module _ {There : ℕ → Type 0} {o : ℕ} where
-  -- The far end of a run hangs from it, the near end does not.
+  -- The far end of a run hangs from it.
   pub far-hangs : {rs : List Run} → Branching There o rs → (s t : ℕ) → HasRun s t rs → hangs rs t t ≡ true
   far-hangs (branch {r = r} {rs = rs} j w) s t (here e f) = hangs-self r rs t t f f
   far-hangs (branch {r = r} {rs = rs} j w) s t (further h) =

@@ -12,7 +12,7 @@ use Rattle.grid.proofs.Flat.{same-or-not}
 use Rattle.tree.specs.declared.Run.{Run}
 use Rattle.feed.specs.Feeds.{mostPins, allWithin}
 use Rattle.tree.specs.Growth.{pinsOf, without, nextRun, grown, runsAmong, runsOf}
-use Rattle.tree.proofs.Membership.{Among, first, later, Distinct, also, without-in, in-without, length-without, distinct-without, pins-there, pins-distinct, distinct-rest}
+use Rattle.tree.proofs.Membership.{Among, first, later, Distinct, also, without-in, in-without, length-without, distinct-without, pins-there, pins-once, distinct-rest}
 use Rattle.tree.specs.Reached.{runAt}
 use Rattle.tree.proofs.Earliest.{Keyed, Earliest, next-earliest}
 use Rattle.tree.proofs.Numbering.{keyAt, keyed}
@@ -172,8 +172,7 @@ listed-grown {key = key} {There = There} {o = o} (taking {reached = reached} {le
 module _ (feed : List Spot) (full : length feed ≡ mostPins) (ok : allWithin feed ≡ true) (f : ℕ) (left : List ℕ) (e : pinsOf feed ≡ f ∷ left) where
   -- No pin is listed twice.
   distinct : Distinct (f ∷ left)
-  unfolding pinsOf
-  distinct = rw e at (pins-distinct 0 feed)
+  distinct = pins-once feed f left e
 
   -- The pins of a feed have numbers below 32.
   pub pins-low : (a : ℕ) → Among a (f ∷ left) → a < mostPins

@@ -13,7 +13,7 @@ use Rattle.feed.specs.declared.Spot.the-variants.{Absent}
 use Rattle.grid.proofs.Flat.{same-or-not}
 use Rattle.tree.specs.declared.Run.{Run}
 use Rattle.feed.specs.Feeds.{present}
-use Rattle.tree.specs.Growth.{run, keptIf, pinsFrom, without, runsFrom, runsBetween}
+use Rattle.tree.specs.Growth.{run, keptIf, pinsFrom, without, runsFrom, runsBetween, pinsOf}
 
 -- a stands in the list.
 pub data Among {A : Type 0} (a : A) : List A → Type 0 where
@@ -155,6 +155,11 @@ unfolding pinsFrom
 pins-distinct i [] = none
 pins-distinct i (s ∷ feed) =
     distinct-kept i (present s) (λ h. let z = pins-there (suc i) feed h in omega (arith, z .1)) (pins-distinct (suc i) feed)
+
+-- No pin of a feed is listed twice.
+pub pins-once : (feed : List Spot) (f : ℕ) (left : List ℕ) → pinsOf feed ≡ f ∷ left → Distinct (f ∷ left)
+unfolding pinsOf
+pins-once feed f left e = rw e at (pins-distinct 0 feed)
 
 -- A number more, at most.
 few-kept : (n : ℕ) (t : Bool) (l : List ℕ) (m : ℕ) → length l ≤ m → length (keptIf t n l) ≤ suc m

@@ -75,12 +75,12 @@ way-home trunk a (start e) = stay e
 way-home (branch {r = r} j w) a (new e) = along r (r .near) (first refl) (inr (e, refl)) (way-more (λ q h. later h) (way-home w (r .near) (j .from)))
 way-home (branch j w) a (old h) = way-more (λ q k. later k) (way-home w a h)
 
--- No other run has the same far end.
+-- The far end of a run is one of the pins left.
 far-among : {key : ℕ → ℕ → ℕ} {reached left : List ℕ} {rs : List Run} → Listed key reached left rs → (q : Run) → Among q rs → Among (q .far) left
 far-among (taking {left = left} {r = r} e l) q (first p) = subst (λ (z : Run). Among (z .far) left) (sym p) (e .to)
 far-among (taking {left = left} {r = r} e l) q (later h) = without-in (r .far) left (far-among l q h) .0
 
--- So it is with the runs that are left without one.
+-- No other run has the same far end.
 other-far : {key : ℕ → ℕ → ℕ} {reached left : List ℕ} {rs : List Run} → Listed key reached left rs → {r : Run} {rest : List Run} → Out r rs rest
     → (q : Run) → Among q rest → r .far ≡ q .far → ⊥
 other-far (taking {left = left} {r = s} e l) top q h p = without-in (s .far) left (far-among l q h) .1 (sym p)
@@ -138,7 +138,7 @@ module _ {feed : List Spot} {key : ℕ → ℕ → ℕ} {pins : List ℕ} {runs 
   side-near : {r : Run} → Among r runs → hangs (t .newest) (r .far) (r .near) ≡ false
   side-near {r} h = near-stays (branching (t .grown)) (r .near) (r .far) (has-run (t .into r h))
 
-  -- A run's key is smaller than that of any other pair across it.
+  -- No pair across a run has a smaller key.
   across : (r : Run) → Among r runs → (a b : ℕ) → Among a pins → Among b pins
       → (hangs (t .newest) (r .far) a ≡ hangs (t .newest) (r .far) b → ⊥) → key (r .near) (r .far) ≤ key a b
   across r h a b ha hb ne =
@@ -162,7 +162,7 @@ module _ {feed : List Spot} {key : ℕ → ℕ → ℕ} {pins : List ℕ} {runs 
       t .keyed .order (r .near) (r .far) a b (t .low (r .near) (facts-join .near-there r h)) (t .low (r .far) (facts-join .far-there r h)) (t .low a ha) (t .low b hb)
       ∙ lt-ltb (key (r .near) (r .far)) (key a b) (omega arith)
 
-  -- Without a run every pin has a way to one of its ends, and none to both.
+  -- Without a run every pin has a way to one of its ends.
   facts-groups : (r : Run) (rest : List Run) → Out r runs rest → (a : ℕ) → Among a pins → Way rest a (r .near) ⊎ Way rest a (r .far)
   facts-groups r rest o a ha = go (part o (facts-join .ways a (r .near) ha (facts-join .near-there r (out-in o))))
     where
@@ -190,7 +190,7 @@ pub record SameRuns (l m : List Run) : Type 0 where
   pub there : (r : Run) → Among r l → EitherWay r m
   pub back : (r : Run) → Among r m → EitherWay r l
 
--- Whether two pins are the ends of a run.
+-- Both of two, or not both.
 two-or : {A B : Type 0} → A ⊎ (A → ⊥) → B ⊎ (B → ⊥) → (A × B) ⊎ (A × B → ⊥)
 two-or (inl a) (inl b) = inl (a, b)
 two-or (inl a) (inr n) = inr (λ z. n (z .1))

@@ -9,9 +9,10 @@ use native.Mathlib.Omega.{arith}
 use native.Mathlib.Decide.{decLt}
 use lib.Dec.{ltb, eqb}
 use lib.ListN.{length, List·getD-eq-default}
-use borrow.Author.Tests.{ltb-true, ltb-false, eq-eqb, ne-eqb, not-true}
+use borrow.Author.Tests.{ltb-true, ltb-false, eq-eqb, not-true}
+use Rattle.tree.proofs.Arms.{next-other, first-other}
 use Rattle.refusal.specs.Tests.{both, choose}
-use Rattle.refusal.proofs.Tests.{opposite, decide, choose-yes, choose-no, both-left, both-right, both-of}
+use Rattle.refusal.proofs.Tests.{opposite, decide, choose-yes, choose-no, both-left, both-right}
 use Rattle.grid.specs.declared.Place.{Place}
 use Rattle.feed.specs.declared.Spot.{Spot}
 use Rattle.grid.specs.Weight.{comesBefore}
@@ -62,13 +63,6 @@ module _ (near : ℕ) (from : Place) (pin : ℕ) (s : Spot) (o : Offer) where
       go (inr e) = absurd (opposite w (ap (λ (p : Offer). p .waits) (choose-no (choose (eqb pin near) noOffer new) o e) ∙ e))
       go (inl e) =
           (e, λ q. opposite w (ap (λ (p : Offer). p .waits) (choose-yes (choose (eqb pin near) noOffer new) o e ∙ choose-yes noOffer new (eq-eqb pin near q))))
-
-  -- Such a pin keeps the earlier of its offer and the new one.
-  next-keeps : o .waits ≡ true → (pin ≡ near → ⊥) → nextOffer near from pin s o ≡ betterOffer o (offerOf near from pin (placeOf s))
-  unfolding nextOffer
-  next-keeps e q =
-      choose-yes (choose (eqb pin near) noOffer (betterOffer o (offerOf near from pin (placeOf s)))) o e
-      ∙ choose-no noOffer (betterOffer o (offerOf near from pin (placeOf s))) (ne-eqb pin near q)
 
 -- The earlier of the offer kept at pin k and that of pin t.
 record Turned (feed : List Spot) (key : ℕ → ℕ → ℕ) (k t : ℕ) (o r : Offer) : Type 0 where
@@ -143,7 +137,7 @@ module _ {feed : List Spot} {key : ℕ → ℕ → ℕ} (keyed : Keyed feed key)
       will : (k : ℕ) → offerAt offers k .waits ≡ true → (k ≡ t → ⊥) → Turned feed key k t (offerAt offers k) (offerAt (after feed t offers) k)
       will k w ne =
           let l = h .short k (h .waiting k w) in
-          rw (at k l ∙ next-keeps t (placeAt feed t) k (spotAt feed k) (offerAt offers k) w ne)
+          rw (at k l ∙ sym (next-other t (placeAt feed t) k (spotAt feed k) (offerAt offers k) w ne))
           (turned keyed k t (offerAt offers k) (omega arith) lt (h .low (offerAt offers k .near) (h .from k w)) w (h .pair k w))
 
       back : (k : ℕ) → offerAt offers k .waits ≡ true → {n : ℕ} → (n ≡ offerAt offers k .near) ⊎ (n ≡ t) → Among n (t ∷ reached)
@@ -241,11 +235,6 @@ module _ {feed : List Spot} {key : ℕ → ℕ → ℕ} (keyed : Keyed feed key)
       )
       go (inr e) = absurd (opposite w (ap (λ (o : Offer). o .waits) (choose-no new noOffer e)))
 
-  -- and each such pin keeps the offer of the first.
-  first-keeps : (f : ℕ) (p : Place) (k : ℕ) (s : Spot) → present s ≡ true → (k ≡ f → ⊥) → firstOffer f p k s ≡ offerOf f p k (placeOf s)
-  unfolding firstOffer
-  first-keeps f p k s e q = choose-yes (offerOf f p k (placeOf s)) noOffer (both-of e (ap not (ne-eqb k f q)))
-
   -- A first offer to pin k.
   offered : (f k : ℕ) → Turned feed key k f (offerOf f (placeAt feed f) k (placeAt feed k))
       (offerOf f (placeAt feed f) k (placeAt feed k))
@@ -322,7 +311,7 @@ module _ {feed : List Spot} {key : ℕ → ℕ → ℕ} (keyed : Keyed feed key)
           → Turned feed key k f (offerOf f (placeAt feed f) k (placeAt feed k)) (offerAt (opening f) k)
       will k p ne =
           let l = short k (later (waiting k (p, ne))) in
-          rw (at k l ∙ first-keeps f (placeAt feed f) k (spotAt feed k) p ne) (offered f k)
+          rw (at k l ∙ sym (first-other f (placeAt feed f) k (spotAt feed k) p ne)) (offered f k)
 
       from : {n : ℕ} → (n ≡ f) ⊎ (n ≡ f) → Among n (f ∷ [])
       from (inl q) = first q

@@ -12,7 +12,7 @@ use Rattle.refusal.specs.declared.Verdict.the-variants.{Accepted, NoPins}
 use Rattle.feed.specs.declared.Spot.{Spot}
 use Rattle.feed.specs.declared.Spot.the-variants.{Absent, At}
 use Rattle.grid.specs.declared.Place.{Place}
-use Rattle.grid.specs.Boards.{minus, boards}
+use Rattle.grid.specs.Boards.{below, boards}
 use Rattle.grid.specs.Place.{place, onBoard, inside, difference, larger}
 use Rattle.grid.specs.Weight.{distanceOf, weightOf, pairOf, byPart, byNumber, comesBefore}
 use Rattle.tree.specs.declared.Run.{Run}
@@ -61,11 +61,11 @@ unfolding boxesShare overlap under belowBoth both choose
 touching = refl
 
 -- these along a side,
-pub sides : boxesShare (place (minus 1) (pos 0)) (place (pos 1) (pos 1)) (place (pos 5) (minus 2)) (place (pos 1) (pos 7)) ≡ true
+pub sides : boxesShare (place (below 1) (pos 0)) (place (pos 1) (pos 1)) (place (pos 5) (below 2)) (place (pos 1) (pos 7)) ≡ true
 unfolding boxesShare overlap under belowBoth both choose
 sides = refl
 
 -- and these, a step apart, do not.
-pub a-step-apart : boxesShare (place (minus 1) (pos 0)) (place (pos 1) (pos 1)) (place (pos 5) (minus 2)) (place (pos 2) (pos 7)) ≡ false
+pub a-step-apart : boxesShare (place (below 1) (pos 0)) (place (pos 1) (pos 1)) (place (pos 5) (below 2)) (place (pos 2) (pos 7)) ≡ false
 unfolding boxesShare overlap under belowBoth both choose
 a-step-apart = refl

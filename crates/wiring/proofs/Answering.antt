@@ -265,9 +265,9 @@ module _ (feed : List Spot) (full : length feed ≡ mostPins) (ok : allWithin fe
       many-is = ap (λ (s : Strip). s .count) strip-is
 
       -- .. and their entries.
-      legs-is : S .legs ≡ legEntries (legsOfChoice feed runs choice)
+      legs-is : S .list ≡ legEntries (legsOfChoice feed runs choice)
       unfolding strip
-      legs-is = ap (λ (s : Strip). s .legs) strip-is
+      legs-is = ap (λ (s : Strip). s .list) strip-is
 
       -- There are pins,
       some : none (pinsOf feed) ≡ false
@@ -289,7 +289,7 @@ module _ (feed : List Spot) (full : length feed ≡ mostPins) (ok : allWithin fe
       pub answer-is : (room : ℕ) → S .count ≤ room
           → record {
             wiring = record { verdict = Accepted; length = f .cost / base; runs = n; entries = E; legs = S .count; weighed = f .weighed };
-            list = S .legs;
+            list = S .list;
           } ≡ wiringFavouring favoured feed room
       unfolding wiringFavouring wiringWith
       answer-is room l =
@@ -324,7 +324,7 @@ module _ (feed : List Spot) (full : length feed ≡ mostPins) (ok : allWithin fe
         abbrev told : Reached
         told = reached feed full ok free favoured t w
 
-        -- What is found, the run entries and the legs, by the tree of the definition.
+        -- What is found, by the tree of the definition.
         found-as : f ≡ leastOfTree (pinPlace told) (nearPin told) favoured (length (runsOf feed))
         unfolding reachedOf
         found-as = rw (eT, w .count, w .runs) at ef
@@ -345,6 +345,6 @@ module _ (feed : List Spot) (full : length feed ≡ mostPins) (ok : allWithin fe
         pub wire-answer : S .count ≤ room
             → record {
               wiring = record { verdict = Accepted; length = f .cost / base; runs = t .count; entries = E; legs = S .count; weighed = f .weighed };
-              list = S .legs;
+              list = S .list;
             } ≡ wiringFavouring favoured feed room
         wire-answer l = rw (w .count) (answer-is feed full ok free favoured t w f found-as E entries-as S strip-as room l)

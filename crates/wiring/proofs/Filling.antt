@@ -215,6 +215,6 @@ module _ (feed : List Spot) (entries : List RunEntry) (long : length entries ≡
 
   -- All of them, with their number.
   pub put-all : (legs : List Leg) (filled i count : ℕ) → count ≤ i → i ≤ count → Put feed entries legs filled i
-      → record { count = filled; legs = legs } ≡ strip (legsOfEntries feed (take count entries))
+      → record { count = filled; list = legs } ≡ strip (legsOfEntries feed (take count entries))
   unfolding strip
   put-all legs filled i count h k p = let e : i ≡ count = omega arith in rw (← e, p .are, p .many)

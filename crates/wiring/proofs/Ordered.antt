@@ -57,7 +57,7 @@ in-shapes {s = a} {c = c} (s ∷ ss) cs (first e) m =
     in-front {l = withShape s cs} (withShapes ss cs) (subst (λ (z : Shape). Among (z ∷ c) (withShape s cs)) (sym e) (in-with s cs m))
 in-shapes (s ∷ ss) cs (later n) m = in-back (withShape s cs) (in-shapes ss cs n m)
 
--- A run has the shape that its bend gives it, and a straight run does not bend upwards.
+-- The one shape of a straight run does not bend upwards.
 only-straight : (s : Shape) → Among s (Straight ∷ []) → (s ≡ Straight) × (isUpper s ≡ false)
 only-straight s (first e) = (e, ap isUpper e)
 

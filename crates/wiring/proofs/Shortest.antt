@@ -116,7 +116,7 @@ take-legs : (legs : List Leg) → take (length legs) (legEntries legs) ≡ legs
 unfolding legEntries
 take-legs legs = padded-first mostLegs noLeg legs refl
 
--- What holds of an answer and of a refused wiring holds of both.
+-- What holds of an answer and of a refused wiring holds of whichever is chosen.
 either-way : (P : Laid → Type 0) (t : Bool) (l m : Laid) → P l → P m → P (choose t l m)
 unfolding choose
 either-way P true l m p q = p

@@ -21,7 +21,7 @@ use Rattle.tree.specs.declared.Run.{Run}
 use Rattle.feed.specs.Feeds.{mostPins, allWithin}
 use Rattle.tree.specs.Growth.{keptIf, without, pinsOf, runsOf}
 use Rattle.tree.specs.Bends.{bent, howMany, bentFrom, bentInto, oneIf}
-use Rattle.tree.proofs.Membership.{Among, first, later, Distinct, also, without-none, distinct-without, pins-distinct, distinct-rest}
+use Rattle.tree.proofs.Membership.{Among, first, later, Distinct, also, without-none, distinct-without, pins-once, distinct-rest}
 use Rattle.tree.proofs.Listing.{Listed, done, taking, Rooted, runs-listed, runs-rooted}
 use Rattle.tree.specs.Reached.{runAt, reachedPin, reachedNear, reachedPlace}
 use Rattle.tree.proofs.Positions.{near-before, near-pin, far-pin, first-pin, reached-once}
@@ -129,11 +129,6 @@ holds-both t s e = rw e
 lone : (at : ℕ → Place) (near : ℕ → ℕ) (feed : List Spot) (f : ℕ) → asked.weighedBelow at near 0 0 ≡ sum (map (weighedAt feed []) (f ∷ []))
 unfolding asked.weighedBelow asked.weighedFrom asked.isBentInto doubledIf choose sum weighedAt howMany
 lone at near feed f = refl
-
--- No pin is listed twice.
-pins-once : (feed : List Spot) (f : ℕ) (left : List ℕ) → pinsOf feed ≡ f ∷ left → Distinct (f ∷ left)
-unfolding pinsOf
-pins-once feed f left e = rw e at (pins-distinct 0 feed)
 
 module _ (feed : List Spot) (full : length feed ≡ mostPins) (ok : allWithin feed ≡ true) (f : ℕ) (left : List ℕ) (e : pinsOf feed ≡ f ∷ left) where
   abbrev runs : List Run

@@ -62,7 +62,7 @@ legsOfEntries feed (s ∷ entries) = legsOfEntry feed s ++ legsOfEntries feed en
 
 -- Legs with their number.
 unfoldable pub strip : List Leg → Strip
-strip legs = record { count = length legs; legs = legEntries legs }
+strip legs = record { count = length legs; list = legEntries legs }
 
 -- The shapes of the runs, where `upper` says how each bends if it does.
 unfoldable pub shapesBy : List Spot → (ℕ → Bool) → List Run → List Shape

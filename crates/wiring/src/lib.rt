@@ -44,10 +44,10 @@ pub struct Laid {
     pub list: [Leg; LEGS],
 }
 
-// Legs with their number.
+// A list of legs, with their number.
 pub struct Strip {
     pub count: usize,
-    pub legs: [Leg; LEGS],
+    pub list: [Leg; LEGS],
 }
 
 // A run entry after the last.
@@ -228,7 +228,7 @@ fn legs_of(feed: [Spot; PINS], entries: [RunEntry; RUNS], count: usize) -> Strip
     }
     Strip {
         count: filled,
-        legs,
+        list: legs,
     }
 }
 
@@ -271,7 +271,7 @@ fn wire_favouring(feed: [Spot; PINS], room: usize, favoured: bool) -> Laid
     if room < strip.count {
         return refused(Verdict::RoomTooSmall);
     }
-    let list = strip.legs;
+    let list = strip.list;
     let wiring = Wiring {
         verdict: Verdict::Accepted,
         length: found.cost / least::BASE,

@@ -3,6 +3,7 @@ use mathlib.Core.Path.{_≡_, sym, _∙_, ap}
 use Prim.Native.Nat.{_≤_, _+_, _-_}
 use native.Mathlib.Omega.{arith}
 use lib.ListN.{drop, drop-of-length-le}
+use Rattle.tree.specs.Bends.{howMany}
 use Rattle.shown.proofs.Lines.{count-there, count-absent}
 use Rattle.shown.specs.Shown.{pinsThere}
 use Rattle.feed.specs.Feeds.{mostPins}
@@ -53,7 +54,7 @@ loop-again-2 c =
     ((omega arith, omega arith), omega (arith, l .loop .inv .1, count-absent (l .before .args .t1) (l .loop .pin) (omega arith) t))
 
 returns : tie.Need-returns Inv-loop μ-loop
-unfolding pinsThere
+unfolding howMany
 returns c =
     let s = c .before .before .args in
     let q = c .before .loop in

@@ -5,7 +5,7 @@ use native.Mathlib.Omega.{arith}
 use lib.ListN.{take, getD}
 use Rattle.text.proofs.Printing.{Put, then-put, put-as}
 use Rattle.shown.proofs.Lines.{lines-more, first-all}
-use Rattle.shown.specs.Shown.{shapedLine, lineForEach}
+use Rattle.shown.specs.Shown.{entryLine, lineForEach}
 use Rattle.copper.specs.declared.Shape.the-variants.{Straight}
 use Rattle.tree.specs.Trees.{mostRuns}
 use Rattle.wiring.specs.Answer.{runEntry}
@@ -15,7 +15,7 @@ use Rattle.shown.proofs.put_runs.Statement.{statement}
 use Rattle.shown.proofs.put_runs.Tie as tie
 
 abbrev Inv-loop : tie.InvT-loop
-Inv-loop count out₀ at runs most next₀ i₀ out next i = ((i ≤ most) × (next ≤ at + i * mostRunBytes)) × Put out₀ at (lineForEach shapedLine (take i runs)) next out
+Inv-loop count out₀ at runs most next₀ i₀ out next i = ((i ≤ most) × (next ≤ at + i * mostRunBytes)) × Put out₀ at (lineForEach entryLine (take i runs)) next out
 
 abbrev μ-loop : tie.MeasureT-loop
 μ-loop count out₀ at runs most next₀ i₀ out next i = most - i
@@ -33,8 +33,8 @@ mul-run c = search needs
 array-copy-out-run : tie.Need-array-copy-out-run Inv-loop μ-loop
 array-copy-out-run c = search needs
 
-put-shaped-requires : tie.Need-put-shaped-requires Inv-loop μ-loop
-put-shaped-requires c κs = search needs
+put-entry-requires : tie.Need-put-entry-requires Inv-loop μ-loop
+put-entry-requires c κs = search needs
 
 add-i : tie.Need-add-i Inv-loop μ-loop
 add-i c = search needs
@@ -46,10 +46,10 @@ loop-again : tie.Need-loop-again Inv-loop μ-loop
 loop-again c =
     let s = c .before .before .before .before .before .before .args in
     let q = c .before .before .before .before .loop in
-    let e = c .put-shaped .ensures in
+    let e = c .put-entry .ensures in
     let a = getD (s .t1) (q .i) (runEntry 0 0 Straight) in
-    let h = then-put (s .out .now) (s .at) (lineForEach shapedLine (take (q .i) (s .t1))) (shapedLine a) (q .inv .1) (e .0 .0, e .1) in
-    ((omega arith, omega (arith, e .0 .1)), put-as (s .out .now) (s .at) (lines-more shapedLine (runEntry 0 0 Straight) (s .t1) (q .i) (omega arith)) h)
+    let h = then-put (s .out .now) (s .at) (lineForEach entryLine (take (q .i) (s .t1))) (entryLine a) (q .inv .1) (e .0 .0, e .1) in
+    ((omega arith, omega (arith, e .0 .1)), put-as (s .out .now) (s .at) (lines-more entryLine (runEntry 0 0 Straight) (s .t1) (q .i) (omega arith)) h)
 
 returns : tie.Need-returns Inv-loop μ-loop
 returns c =
@@ -57,7 +57,7 @@ returns c =
     let q = c .before .loop in
     let n = c .before .before .smaller .ensures in
     let e = first-all (s .t1) (s .count) mostRuns (q .i) (omega arith) (omega (arith, n)) in
-    let h = put-as (s .out .now) (s .at) (ap (lineForEach shapedLine) e) (q .inv .1) in
+    let h = put-as (s .out .now) (s .at) (ap (lineForEach entryLine) e) (q .inv .1) in
     ((h .0, omega (arith, n)), h .1)
 
 pub put-runs-spec : {M : Type 1} → statement M
@@ -70,7 +70,7 @@ put-runs-spec =
     loop-holds
     mul-run
     array-copy-out-run
-    put-shaped-requires
+    put-entry-requires
     add-i
     loop-less
     loop-again

@@ -1,8 +1,8 @@
--- `shown::put_shaped` meets its contract. Assumes nothing.
-use Rattle.shown.specs.Shown.{shapedLine}
+-- `shown::put_entry` meets its contract. Assumes nothing.
+use Rattle.shown.specs.Shown.{entryLine}
 use borrow.Author.Needs.{needs}
-use Rattle.shown.proofs.put_shaped.Statement.{statement}
-use Rattle.shown.proofs.put_shaped.Tie as tie
+use Rattle.shown.proofs.put_entry.Statement.{statement}
+use Rattle.shown.proofs.put_entry.Tie as tie
 
 enum-told : tie.Need-enum-told
 enum-told c = search needs
@@ -32,19 +32,19 @@ print-run-requires-3 : tie.Need-print-run-requires-3
 print-run-requires-3 c κs = search needs
 
 returns : tie.Need-returns
-unfolding shapedLine
+unfolding entryLine
 returns c = rw (c .before .before .before .enum-told .given .1) (c .print-run .ensures)
 
 returns-2 : tie.Need-returns-2
-unfolding shapedLine
+unfolding entryLine
 returns-2 c = rw (c .before .before .before .enum-told2 .given .1) (c .print-run2 .ensures)
 
 returns-3 : tie.Need-returns-3
-unfolding shapedLine
+unfolding entryLine
 returns-3 c = rw (c .before .before .before .enum-told3 .given .1) (c .print-run3 .ensures)
 
-pub put-shaped-spec : {M : Type 1} → statement M
-put-shaped-spec =
+pub put-entry-spec : {M : Type 1} → statement M
+put-entry-spec =
     tie.close
     (tie.spec
     enum-told
