@@ -112,7 +112,7 @@ lent-matching name a b c =
     (λ f. let k = lists-read a b c f in
     ((rw (g, f), list-short b (both-left (isList b) (isList c) k)), (rw (g, f), list-short c (both-right (isList b) (isList c) k))))) (λ g. tt))
 
--- Only calls of four words have a map or lists.
+-- So too where map and lists are chosen by a test that holds.
 four-matching : (t : Bool) (name a b c : List ℕ) → t ≡ true
     → Matching (choose t (mapIn name a b c) []) (choose t (listIn name a b c b) []) (choose t (listIn name a b c c) []) (lentCall name a b c)
 unfolding choose

@@ -9,7 +9,7 @@ use Rattle.bare.specs.Bare.{feedOfLists, bareVerdict, bareOf}
 use Rattle.bare.proofs.Feeds.{feed-many}
 use Rattle.bare.proofs.Verdicts.{lengths-right, well}
 
--- The legs of an answer are at most 62, and at most the room; a refused answer has none.
+-- The legs of bare wiring are at most 62, and at most the room.
 pub bare-fits : (xs ys : List ℤ) (room : ℕ) → Fits room (bareOf xs ys room)
 unfolding bareOf
 bare-fits xs ys room =

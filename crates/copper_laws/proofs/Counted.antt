@@ -14,7 +14,7 @@ use Rattle.copper.specs.Length.{Step, across, up, sameStep, among, different}
 use Rattle.copper_laws.proofs.Numbers.{Low, back, back-off, same-back}
 use Rattle.copper_laws.proofs.Sums.{oneIf, sumBelow, sum-same, sum-none, sum-only}
 use Rattle.copper_laws.proofs.Cover.{Stride, along, rise, over}
-use Rattle.copper_laws.proofs.Star.{over-same, over-add}
+use Rattle.copper_laws.proofs.Star.{over-same, over-add, over-none}
 
 -- A step, moved,
 unfoldable pub strideOf : Step → Stride
@@ -123,15 +123,10 @@ module _ (m : ℕ) (f : Stride → Bool) (τ : Stride) where
       go σ true q = rw (ap f (same-stride σ τ q) ∙ e)
       go σ false q = omega arith
 
--- No steps count nothing.
-no-steps : (m : ℕ) → over m (λ σ. oneIf (among (stepAt σ) [])) ≡ 0
-unfolding over anyOf
-no-steps m = sum-none m (λ x. sumBelow m (λ y. 0 + 0)) (λ x k. sum-none m (λ y. 0 + 0) (λ y j. refl))
-
 -- The count of different steps is the sum over the grid.
 pub counted : {m : ℕ} {ts : List Step} → Each m ts → different ts ≡ over m (λ σ. oneIf (among (stepAt σ) ts))
 unfolding different anyOf choose
-counted {m} none = sym (no-steps m)
+counted {m} none = sym (over-none m)
 counted {m} (more {t = t} {ts = ts} p q h) = go (among t ts) refl (counted h)
   where
     f : Stride → Bool

@@ -272,14 +272,14 @@ module _ (at : ℕ → Site) (near : ℕ → ℕ) where
         let d = laid .distant r q (c .i) (c .j) (c .k) l m (c .one) (c .two) (c .apart) in
         straights (at (c .i)) (at (c .j)) (at (c .k)) (d .0) (d .1) (straight-on r (c .i) (c .j) σ e (c .one) h) (straight-on q (c .i) (c .k) σ f (c .two) k)
 
-    -- The longest arms of a pin cover a stride where some leg that leaves it does.
+    -- Where the first arms of a pin cover a stride, some leg that leaves it does.
     pin-start : (i : ℕ) (σ : Stride) → i < suc n → star (at i) (startArms i (entered s i)) σ ≡ true → (r : ℕ) × (r < n) × Arm r i σ
     unfolding startArms
     pin-start zero σ l e = absurd (star-none (at 0) σ e)
     pin-start (suc r) σ l e =
         (r, omega arith, enters refl (on-of (at (suc r)) (tipFar (s r) r) σ (sym (star-arm-is (at (suc r)) (tipFar (s r) r) σ) ∙ e)))
 
-    -- So it is when some runs lead on.
+    -- So it is with its arms when some runs lead on.
     pin-true : (i m : ℕ) (σ : Stride) → i < suc n → m < suc n → star (at i) (armsAt m s i) σ ≡ true → (r : ℕ) × (r < n) × Arm r i σ
     unfolding armsAt shown addArms
     pin-true i zero σ l k e = pin-start i σ l e
@@ -344,7 +344,7 @@ module _ (at : ℕ → Site) (near : ℕ → ℕ) where
         go true e ih = subst (λ (z : ℕ). star (at (near r)) (armsAt (suc z) s (near r)) σ ≡ true) (eqb-true r m e) (new-arm r σ h)
         go false e ih = let ne : r ≡ m → ⊥ = eqb-false r m e in grows (near r) m σ (ih (omega (arith, ne)))
 
-    -- So every arm at a pin is among its longest.
+    -- So what an arm at a pin covers, its longest arms cover.
     pin-is : (r i : ℕ) (σ : Stride) → r < n → Arm r i σ → star (at i) (armsAt n s i) σ ≡ true
     pin-is r i σ l (leaves e h) = rw e (far-on r n σ l h)
     pin-is r i σ l (enters e h) = rw e (old-arm r n σ h)
@@ -486,7 +486,7 @@ module _ (at : ℕ → Site) (near : ℕ → ℕ) where
         ∙ sym (star-arm-is a b σ)
 
     module _ (m : ℕ) (inside : (i : ℕ) → i < suc n → Within m (at i)) where
-      -- All arms stay on the grid.
+      -- The near pin of a run is on the grid.
       near-in : (r : ℕ) → r < n → Within m (at (near r))
       near-in r l = inside (near r) (omega (arith, laid .grown r l))
 

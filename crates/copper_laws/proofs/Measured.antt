@@ -9,7 +9,7 @@ use native.Mathlib.Omega.{arith}
 use lib.IntN.{ℤ, pos, _+ℤ_}
 use lib.Dec.{eqb, leb, ltb}
 use borrow.Author.Tests.{eqb-true, eqb-false, leb-true, le-leb, ltb-true, lt-ltb}
-use Rattle.refusal.proofs.Anyone.{any-append}
+use Rattle.refusal.proofs.Anyone.{any-append, any-end}
 use Rattle.refusal.specs.Tests.{both, either, choose, anyOf}
 use Rattle.refusal.proofs.Tests.{fails-if, both-left, both-right, both-of, both-none, both-swap, either-which, same-test}
 use Rattle.grid.specs.declared.Place.{Place}
@@ -154,11 +154,6 @@ module _ (a b : Site) where
         ltb-true y (max (a .y) (b .y)) (both-right (leb (min (a .y) (b .y)) y) (ltb y (max (a .y) (b .y))) u),
       ))
 
--- No step is among none.
-among-none : (t : Step) → among t [] ≡ false
-unfolding anyOf
-among-none t = refl
-
 -- The steps of a leg are those that it covers.
 module _ (a b : Place) (p : PlaceI32 a) (q : PlaceI32 b) where
   -- The numbers from the smaller x on, as many as the difference, are those between,
@@ -216,9 +211,9 @@ module _ (a b : Place) (p : PlaceI32 a) (q : PlaceI32 b) where
       ∙ ap (λ (z : Bool). both (eqb v (off (a .x))) z) (from-y w)
       ∙ sym (column-on (site a) (site b) v w (eqb-true (off (a .x)) (off (b .x)) f))
   in-steps (along v w) false false e f =
-      among-none (stepAt (along v w)) ∙ sym (row-off (site a) (site b) v w (eqb-false (off (a .y)) (off (b .y)) e))
+      any-end refl (sameStep (stepAt (along v w))) ∙ sym (row-off (site a) (site b) v w (eqb-false (off (a .y)) (off (b .y)) e))
   in-steps (rise v w) false false e f =
-      among-none (stepAt (rise v w)) ∙ sym (column-off (site a) (site b) v w (eqb-false (off (a .x)) (off (b .x)) f))
+      any-end refl (sameStep (stepAt (rise v w))) ∙ sym (column-off (site a) (site b) v w (eqb-false (off (a .x)) (off (b .x)) f))
 
   -- A step is one of a leg's where the leg covers it.
   pub leg-steps : (σ : Stride) → among (stepAt σ) (stepsOf (record { from = a; to = b })) ≡ covers (site a) (site b) σ
@@ -296,7 +291,7 @@ anyLeg ls σ = anyOf (λ (l : Leg). covers (site (l .from)) (site (l .to)) σ) l
 -- A step is one of the legs' where one of them covers it.
 legs-steps : {m : ℕ} {ls : List Leg} → HeldLegs m ls → (σ : Stride) → among (stepAt σ) (stepsOfAll ls) ≡ anyLeg ls σ
 unfolding stepsOfAll anyOf
-legs-steps no-legs σ = among-none (stepAt σ)
+legs-steps no-legs σ = any-end refl (sameStep (stepAt σ))
 legs-steps (more-legs {l = l} {ls = ls} p h) σ =
     any-append (sameStep (stepAt σ)) (stepsOf l) (stepsOfAll ls)
     ∙ ap₂ either (leg-steps (l .from) (l .to) (p .from-held) (p .to-held) σ) (legs-steps h σ)

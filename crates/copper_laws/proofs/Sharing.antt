@@ -1,5 +1,5 @@
 -- Legs of runs that leave one pin: which of them can cover the same stride. The neighbours of a pin are assumed to be at least as far from
--- each other as from the pin; nothing else is.
+-- each other as from the pin, and for `tips` the ends of a run not to be one site; nothing else is.
 use mathlib.Core.Path.{_≡_, refl, sym, _∙_}
 use mathlib.Core.Bool.{Bool, true, false, cond}
 use mathlib.Core.Logic.{_⊎_, inl, inr}

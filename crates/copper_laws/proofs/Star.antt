@@ -58,12 +58,12 @@ unfolding star
 star-holds p a (row-star {x = x} {y = y} e f g) = three-hold y (p .y) (p .x) (x + a .west) x (p .x + a .east) e f g
 star-holds p a (column-star {x = x} {y = y} e f g) = three-hold x (p .x) (p .y) (y + a .south) y (p .y + a .north) e f g
 
--- One leg by itself: its arm reaches where the leg does.
+-- One leg by itself: where its arm reaches, the leg does.
 arm-line : (p t x : ℕ) (b : Bool) → p ≤ x + cond b (p - t) 0 → x < p + cond b (t - p) 0 → (b ≡ true) × (min p t ≤ x) × (x < max p t)
 arm-line p t x true l h = (refl, omega arith, omega arith)
 arm-line p t x false l h = absurd (omega arith)
 
--- And the leg reaches where its arm does.
+-- And where the leg reaches, its arm does.
 line-arm : (p t x : ℕ) (b : Bool) → b ≡ true → min p t ≤ x → x < max p t → (p ≤ x + cond b (p - t) 0) × (x < p + cond b (t - p) 0)
 line-arm p t x true e l h = (omega arith, omega arith)
 line-arm p t x false e l h = absurd (opposite e refl)
@@ -94,7 +94,7 @@ star-arm-is p t s =
     same-test (star p (armTo p t) s) (covers p t s) (λ e. on-covers p t (star-arm p t (star-of p (armTo p t) s e)))
     (λ e. star-holds p (armTo p t) (arm-star p t (on-of p t s e)))
 
--- The longest arms cover what either does.
+-- In one line: what the longest arms cover, the one or the other covers.
 line-or : (p x w e w' e' : ℕ) → p ≤ x + max w w' → x < p + max e e' → ((p ≤ x + w) × (x < p + e)) ⊎ ((p ≤ x + w') × (x < p + e'))
 line-or p x w e w' e' l h = go (order p x) (order e e') (order w w')
   where

@@ -1,5 +1,5 @@
--- The length of the legs of a tree's runs: it is a sum over the pins, it is what is made least pin by pin, and the shape given to a straight
--- run does not matter. Pins are numbered by when they were reached: 0 is the first, suc r the far pin of run r, `near r` the near pin of run r,
+-- The length of the legs of a tree's runs: it is a sum over the pins, it is what is made least pin by pin, and the first of the shortest is found.
+-- Pins are numbered by when they were reached: 0 is the first, suc r the far pin of run r, `near r` the near pin of run r,
 -- `at i` the place of pin i; s gives each run its shape, false for lower and true for upper.
 -- Assumes that the places are held by i32 and that the tree is laid as `Spaced` says.
 use mathlib.Core.Path.{_≡_, refl, sym, ap, ap₂, _∙_}
@@ -8,7 +8,7 @@ use mathlib.Core.List.{List, [], _++_, append-assoc, append-nil}
 use mathlib.Core.Logic.{_⊎_}
 use Prim.Native.Nat.{ℕ, zero, suc, _+_, _*_, _≤_, _<_}
 use native.Mathlib.Omega.{arith}
-use Rattle.refusal.proofs.Anyone.{any-append}
+use Rattle.refusal.proofs.Anyone.{any-append, any-end}
 use Rattle.refusal.specs.Tests.{either, choose, anyOf}
 use Rattle.refusal.proofs.Tests.{either-none, either-swap}
 use Rattle.grid.specs.declared.Place.{Place}
@@ -118,10 +118,7 @@ module _ (at : ℕ → Place) (near : ℕ → ℕ) where
   runs-any : (s : ℕ → Bool) (n : ℕ) → ((r : ℕ) → r < n → near r ≤ r) → ((i : ℕ) → i < suc n → PlaceI32 (at i)) → (σ : Stride)
       → anyLeg (legsOfRuns at near s n) σ ≡ covered sites near n s σ
   unfolding legsOfRuns covered some
-  runs-any s zero g h σ = none σ
-    where
-      none : (σ : Stride) → anyLeg [] σ ≡ false
-      none σ = unfold anyOf in refl
+  runs-any s zero g h σ = any-end refl (λ (l : Leg). covers (site (l .from)) (site (l .to)) σ)
   runs-any s (suc n) g h σ =
       let a : Place = at (near n) in
       let b : Place = at (suc n) in

@@ -65,7 +65,7 @@ unmade-is l (Placed p h) = refl
 unmade-is l (Moved p a b) = refl
 unmade-is l (Removed p h) = refl
 
--- An edit that names no pin of these leaves them as they are.
+-- Taking back an edit that names no pin of these leaves them as they are.
 pub unmade-out : (l : List Pin) (e : Edit) → length l ≤ pinOf e → unmade l e ≡ l
 unmade-out l e h = unmade-is l e ∙ set-out l (pinOf e) (after (was l e) (flipped e)) h
 
@@ -160,7 +160,7 @@ module _ (l : List Pin) (e : Edit) (m : makeable l e ≡ true) where
       rw (unmade-is (made l e) e, made-is l e)
       (there-and-back l (pinOf e) (λ q. after q e) (λ q. after q (flipped e)) (parts l e m .back))
 
-  -- A drawing that keeps the rules keeps them.
+  -- A drawing that keeps the rules keeps them with the edit made.
   pub made-lawful : lawful l ≡ true → lawful (made l e) ≡ true
   made-lawful k = rw (made-is l e) (lawful-set l (pinOf e) (after (was l e) e) k (parts l e m .board) (parts l e m .free))
 

@@ -1,5 +1,5 @@
--- Four bytes and their number: reading what was written gives the number, writing what was read gives the bytes, and what a part of a
--- list holds. Assumes nothing.
+-- Four bytes and their number: reading what was written gives the number, writing what was read gives the bytes; and the complement of a
+-- number's bits. Assumes nothing.
 use mathlib.Core.Path.{_≡_, ap, _∙_}
 use mathlib.Core.List.{List}
 use mathlib.Core.Bool.{true, false}
@@ -31,12 +31,12 @@ split-join a b c d ha hb hc hd =
     let f : Fits w32 (joined a b c d) = omega arith in
     rw (ofZ-toZ f) (omega arith)
 
--- Each of a number's four bytes is a byte.
+-- The first byte of a number that an i32 holds is below 256,
 pub first-byte : (z : ℤ) → SFits w32 z → firstByte z < 256
 unfolding firstByte
 first-byte z h = omega (arith, fits-ofZ h)
 
--- The second byte is below 256,
+-- and so are the second,
 pub second-byte : (z : ℤ) → secondByte z < 256
 unfolding secondByte
 second-byte z = omega arith
@@ -119,6 +119,6 @@ unfolding off
 plain (pos n) f e = toZ-ofZ f
 plain (negsuc n) f e = absurd (omega (arith, lt-no {b = pos 0} f (sfits-lit tt) e))
 
--- Twice the complement is the number.
+-- The complement of the complement is the number.
 pub twice : (n : ℕ) → n < 4294967296 → toZ w32 (4294967295 - (4294967295 - n)) ≡ toZ w32 n
 twice n h = let e : 4294967295 - (4294967295 - n) ≡ n = omega arith in ap (toZ w32) e

@@ -208,6 +208,7 @@ fits {a} {b} p =
     }
 
 module _ {a b c d : Place} (p : Parts a b) (q : Parts c d) (r : Bool) where
+  -- To compare two weights by distance is to compare the digits of their keys,
   by-distance : byPart (pos (distanceOf a b)) (pos (distanceOf c d)) r ≡ byNumber (span (site a) (site b)) (span (site c) (site d)) r
   by-distance =
       let e = p .distance in
@@ -215,6 +216,7 @@ module _ {a b c d : Place} (p : Parts a b) (q : Parts c d) (r : Bool) where
       by-off (pos (distanceOf a b)) (pos (distanceOf c d)) (span (site a) (site b)) (span (site c) (site d)) r (fits p .distance) (fits q .distance)
       (λ h. omega arith) (λ h. omega arith) (λ h. omega arith) (λ h. omega arith)
 
+  -- so too by the difference in y,
   by-rise : byPart (negℤ (pos (difference (a .y) (b .y)))) (negℤ (pos (difference (c .y) (d .y)))) r
       ≡ byNumber (down (gap (off (a .y)) (off (b .y)))) (down (gap (off (c .y)) (off (d .y)))) r
   by-rise =
@@ -225,6 +227,7 @@ module _ {a b c d : Place} (p : Parts a b) (q : Parts c d) (r : Bool) where
       (fits p .rise) (fits q .rise)
       (λ h. omega (arith, p .near-rise)) (λ h. omega (arith, q .near-rise)) (λ h. omega (arith, q .near-rise)) (λ h. omega (arith, p .near-rise))
 
+  -- and by the larger x.
   by-right : byPart (negℤ (larger (a .x) (b .x))) (negℤ (larger (c .x) (d .x))) r
       ≡ byNumber (down (max (off (a .x)) (off (b .x)))) (down (max (off (c .x)) (off (d .x)))) r
   by-right =

@@ -161,6 +161,7 @@ unfolding larger
 max-off a b ha hb = max-pick (ltZ a b) a b (sym (ltZ-off a b ha hb))
 
 -- ---- what the code's operations ask: that a result fits. For the list of `search (needs, ..)`
+-- A small number fits an i32.
 pub small-fits : (z : ℤ) → Small z → SFits w32 z
 small-fits z h = record { sfits = small-i32 h }
 

@@ -8,27 +8,27 @@ use Rattle.grid.specs.Number.{numberAt, putAt, firstByte, secondByte, th
 use Rattle.grid.specs.Place.{place, onBoard, tooNear, closer, difference, larger}
 use Rattle.grid.specs.Weight.{weightOf, distanceOf, pairOf, comesBefore, byPart, byNumber}
 
--- FF FF FF FF is -1, 7F FF FF FF the largest, 80 00 00 00 the smallest.
+-- FF FF FF FF is -1.
 bytes-minus-one : numberAt (255 ∷ 255 ∷ 255 ∷ 255 ∷ []) 0 ≡ negsuc 0
 unfolding numberAt
 bytes-minus-one = refl
 
--- The largest.
+-- 7F FF FF FF is the largest.
 bytes-largest : numberAt (127 ∷ 255 ∷ 255 ∷ 255 ∷ []) 0 ≡ pos 2147483647
 unfolding numberAt
 bytes-largest = refl
 
--- The smallest.
+-- 80 00 00 00 is the smallest.
 bytes-smallest : numberAt (128 ∷ 0 ∷ 0 ∷ 0 ∷ []) 0 ≡ negsuc 2147483647
 unfolding numberAt
 bytes-smallest = refl
 
--- 1 and -1 as D3 writes them.
+-- 1 as D3 writes it.
 written-one : putAt (9 ∷ 9 ∷ 9 ∷ 9 ∷ 9 ∷ []) 0 (pos 1) ≡ (0 ∷ 0 ∷ 0 ∷ 1 ∷ 9 ∷ [])
 unfolding putAt firstByte secondByte thirdByte fourthByte
 written-one = refl
 
--- Minus one, written.
+-- -1 as D3 writes it.
 written-minus-one : putAt (9 ∷ 9 ∷ 9 ∷ 9 ∷ 9 ∷ []) 0 (negsuc 0) ≡ (255 ∷ 255 ∷ 255 ∷ 255 ∷ 9 ∷ [])
 unfolding putAt firstByte secondByte thirdByte fourthByte
 written-minus-one = refl
@@ -58,7 +58,7 @@ weight-ends : weightOf (place (negsuc 19999) (negsuc 19999)) (place (pos 20000) 
 unfolding weightOf distanceOf difference larger choose
 weight-ends = refl
 
--- At equal distance the taller pair comes first; where all parts are equal, the lower pin numbers decide.
+-- At equal distance the taller pair comes first.
 taller : comesBefore (pairOf 2 (place (pos 0) (pos 0)) 3 (place (pos 1) (pos 2))) (pairOf 0 (place (pos 5) (pos 0)) 1 (place (pos 7) (pos 1))) ≡ true
 unfolding comesBefore pairOf weightOf distanceOf difference larger choose byPart byNumber
 taller = refl

@@ -21,7 +21,7 @@ abbrev carriedIn : Carried → ℕ
 carriedIn Nothing = 0
 carriedIn (Record r) = 4 * r
 
--- The rank of a refusal: accepted first, then 28, then by record and number.
+-- The rank of a refusal: accepted 0, 28 has 1, any other twice its number, and 4 more for each record before the one it carries.
 unfoldable pub rank : Verdict → ℕ
 rank v = choose (eqb (toldOf v .number) 28) 1 (2 * toldOf v .number) + carriedIn (toldOf v .carried)
 

@@ -1,4 +1,4 @@
--- The theorems about any calls from an empty desk.
+-- The theorems about any calls: from the empty desk, from any sound desk, and on any desk.
 mod Passed
 mod Jobs
 mod Stood

@@ -1,5 +1,5 @@
 -- Maps across desks: a map written from a seat opens under its job, at any seat of any desk that can take it, with the same pins; a map that was opened,
--- written before any accepted edit or closing of its seat, gives the same bytes. From the round trip of pin maps, Refused and Untouched; assumes nothing.
+-- written before any accepted edit or closing of its seat, gives the same bytes. From the round trip of pin maps, Passed and Opened; assumes nothing.
 use mathlib.Core.Path.{_≡_, ap, _∙_}
 use mathlib.Core.Bool.{true}
 use mathlib.Core.List.{List, _++_}
@@ -61,7 +61,7 @@ opens-as : (e : Desk) (t job : ℕ) (map : List ℕ) (l : List Pin) → readMap 
 unfolding step answerOf verdictOf turnedOpening effect NoneHolds turn choose accepted
 opens-as e t job map l r n = rw (r, n .0, n .1 .0, n .1 .1 .0, n .1 .1 .1 .0, n .1 .1 .1 .1 .0)
 
--- The desk can take it: it is sound, and the seat is one of the eight.
+-- A desk that can take it has that seat.
 taking-low : (e : Desk) (t job : ℕ) → NoneHolds (takingRows (lookAt e t) job) → t < length (e .seats)
 unfolding NoneHolds
 taking-low e t job n =

@@ -162,7 +162,7 @@ abbrev whole : Desk → ℕ → Seat × List Edit
 whole d s = (seatOf d s, editsOf d s)
 
 module _ (q : Seat) (o : q .opened ≡ true) (none : q .standing ≡ 0) where
-  -- Undo and redo are refused at a seat without edits (10 and 11), and opening at an open one.
+  -- No accepted call but an edit or a closing changes it: undo and redo are refused without edits (10 and 11), and opening at an open seat.
   keeps-whole : (d : Desk) (c : Call) → whole d (seatIn c) ≡ (q, []) → accepted (step d c .verdict) ≡ true → isEditOrClosing c ≡ false
       → whole (step d c .desk) (seatIn c) ≡ (q, [])
   unfolding step answerOf verdictOf
@@ -188,7 +188,7 @@ same-until-edit calls d s o m e n =
 
 -- ---- closed until an opening
 
--- At a closed seat no call but opening is accepted.
+-- No accepted call but opening opens a closed seat: no other is accepted there.
 keeps-closed : (d : Desk) (c : Call) → seatOf d (seatIn c) .opened ≡ false → accepted (step d c .verdict) ≡ true → isOpening c ≡ false
     → seatOf (step d c .desk) (seatIn c) .opened ≡ false
 unfolding step answerOf verdictOf

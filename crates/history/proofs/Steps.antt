@@ -200,7 +200,7 @@ module _ (d : Desk) (h : List Past) (g : Agrees d h) (f : Sane h) where
         used = u i;
       }
 
-  -- So the answers are the same at one of the eight seats, open or closed.
+  -- So the answers are the same at one of the eight seats, open or closed,
   answer-open : (c : Call) → seatIn c < mostSeats → (b : Bool) → isOpen (pastOf h (seatIn c)) ≡ b → answerOf d c ≡ answerIn h c
   unfolding answerOf answerIn
   answer-open c k true o = ap (λ (l : Look). verdictOf l c) (look-same (seatIn c) k o)
@@ -208,7 +208,7 @@ module _ (d : Desk) (h : List Past) (g : Agrees d h) (f : Sane h) where
       closed-verdict (lookAt d (seatIn c)) (lookIn h (seatIn c)) c unbroken refl refl
       (shown-open _ _ _ (g .holds .at (seatIn c) k) ∙ o) o (jobs-same d h g)
 
-  -- No seat above 7 is open.
+  -- and above 7, where no seat is open.
   answer-above : (c : Call) → mostSeats ≤ seatIn c → answerOf d c ≡ answerIn h c
   unfolding answerOf answerIn
   answer-above c k =

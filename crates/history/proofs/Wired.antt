@@ -61,7 +61,7 @@ records-unlike (suc left) map job number next earlier = records-unlike left _ jo
 other-rows : (rows : List Row) → unlike BoxesMeet rows ≡ true → firstOf rows Accepted ≡ BoxesMeet → ⊥
 other-rows rows u e = never-given BoxesMeet rows (omega arith) u e
 
--- The wiring of an open seat of a sound desk: its pins are on the board, so that no boxes meet.
+-- Wiring a seat is never answered 18: past 28, 1 and 2 its pins are on the board, so that no boxes meet.
 wiring-never-18 : (d : Desk) (s room : ℕ) → step d (wiring s room) .verdict ≡ BoxesMeet → ⊥
 unfolding refusalAt Given
 wiring-never-18 d s room e =

@@ -1,4 +1,4 @@
--- A seat's edits cut into those that stand, the latest first, and those taken back: the cut one edit further on. Assumes nothing.
+-- A seat's edits, the latest first: one more that stands, and an edit counted from the newest. Assumes nothing.
 use mathlib.Core.Path.{_≡_, refl, ap, sym, _∙_}
 use mathlib.Core.List.{List, [], _∷_, reverse, reverse-append}
 use Prim.Native.Nat.{ℕ, _+_, _-_, _<_}

@@ -27,7 +27,7 @@ module _ (j : List Record) (u i : ℕ) (f : u ≤ length j) where
 
 -- Backwards: the records below i, the latest first.
 module _ (j : List Record) (s i : ℕ) (h : 0 < i) (f : i ≤ length j) where
-  -- They are those below i - 1, and then the record i - 1.
+  -- The seat's edits among them are those below i - 1, and then that of the record i - 1, if it is the seat's.
   below : own s (take i j) ≡ own s (take (i - 1) j) ++ own s (getD j (i - 1) blank ∷ [])
   below =
       let w : i ≡ suc (i - 1) = omega arith in

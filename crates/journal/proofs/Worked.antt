@@ -17,7 +17,7 @@ use Rattle.journal.proofs.Seated.{ownedBelow}
 abbrev two : List Record
 two = recorded 0 (placed 0 (place (pos 1) (pos 1))) ∷ recorded 1 (placed 0 (place (pos 2) (pos 2))) ∷ []
 
--- Each seat has its own.
+-- Seat 0 has its own edit alone.
 each-its-own : own 0 two ≡ placed 0 (place (pos 1) (pos 1)) ∷ []
 unfolding own choose
 each-its-own = refl
@@ -37,11 +37,11 @@ each-seat-is-counted : countsOf two ≡ 1 ∷ 1 ∷ replicate 6 0
 unfolding valuesFrom own choose
 each-seat-is-counted = refl
 
--- D2: pin 0 placed and moved, the move undone, then pin 1 placed: the move is gone.
+-- D2: pin 0 placed and moved.
 abbrev moved : List Record
 moved = recorded 0 (placed 0 (place (pos 1) (pos 1))) ∷ recorded 0 (Moved 0 (place (pos 1) (pos 1)) (place (pos 4) (pos 4))) ∷ []
 
--- What seat 0 owns then.
+-- The move undone and pin 1 placed, seat 0 owns the two placings: the move is gone.
 move-is-freed : own 0 (added 0 1 (placed 1 (place (pos 2) (pos 2))) moved) ≡ placed 0 (place (pos 1) (pos 1)) ∷ placed 1 (place (pos 2) (pos 2)) ∷ []
 unfolding own kept choose
 move-is-freed = refl

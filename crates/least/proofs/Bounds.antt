@@ -23,7 +23,7 @@ use Rattle.least.proofs.Stepping.{doubled-none, choices-sum, weighed-sp
 abbrev pub most : ℕ
 most = 8 * limit * base
 
--- The same with the mark of the run that reached it.
+-- The same with the largest mark, that of the first run.
 abbrev pub each : ℕ
 each = most + markAt 0
 

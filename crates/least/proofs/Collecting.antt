@@ -42,7 +42,7 @@ pub record Collecting (tree : Reached) (i : ℕ) (lower upper : List ℕ) (weigh
   pub known : (q : ℕ) → q < r → i ≤ q → nearPin tree q ≡ i → KnownAt tree (record { lower = lower; upper = upper }) q
   pub sum : weighed + weighedFrom (pinPlace tree) (nearPin tree) (tree .count - r) i r 0 ≡ weighedFrom (pinPlace tree) (nearPin tree) (tree .count - i) i i 0
 
--- Before a straight run it does not matter which shape is asked for.
+-- At a pin that no bent run reached it does not matter which shape is asked for.
 one-shape : (at : ℕ → Place) (near : ℕ → ℕ) (i : ℕ) → isBentInto at near i ≡ false → firstTally at near i true ≡ firstTally at near i false
 unfolding isBentInto firstTally isBent reachedBy shapeOf choose
 one-shape at near zero e = refl

@@ -1,4 +1,4 @@
--- A whole tree: it has no more runs than it has, its cost is the least of all choices of shapes at once, and the choices weighed are a sum
+-- A whole tree: no more runs are below its first pin than it has, its cost is the least cost of the laws of copper, and the choices weighed are a sum
 -- over its pins. From the law of least choices. Assumes that near pins are reached first.
 use mathlib.Core.Path.{_≡_, refl, ap}
 use mathlib.Core.Bool.{Bool, true, false, cond}

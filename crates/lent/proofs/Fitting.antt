@@ -28,7 +28,7 @@ use Rattle.wiring.proofs.Filling.{legs-many, leg-small}
 use Rattle.wiring.proofs.Refusing.{legsNeeded}
 
 -- ---- at most two legs a run
--- A run has at most two legs.
+-- The legs of a choice are at most twice as many as the runs.
 legs-few : (feed : List Spot) (runs : List Run) (shapes : List Shape) → length (legsOfChoice feed runs shapes) ≤ 2 * length runs
 unfolding legsOfChoice
 legs-few feed [] shapes = omega arith

@@ -25,7 +25,7 @@ unfolding choose turnedAway
 turned-by true v l h e = h e
 turned-by false v l h e = refl
 
--- An answer that is given is accepted.
+-- An answer that is given is such a one, since it is accepted.
 answer-given : (feed : List Spot) (shapes : List Shape) → Alone (answerWith feed shapes)
 unfolding answerWith accepted
 answer-given feed shapes e = absurd (true≢false e)

@@ -51,15 +51,10 @@ pub two-zeros : (rest : List ℕ) → mapAnswer (0 ∷ 0 ∷ rest) ≡ text "ref
 unfolding jobOfMap toldLine carriedText digits choose
 two-zeros rest = job-zero (0 ∷ 0 ∷ rest) refl
 
--- Under any other job a map that is too long is 13.
-too-long : (input : List ℕ) → eqb (jobOfMap input) 0 ≡ false → mostBytes < length input → mapAnswer input ≡ verdictLine MapLength
-unfolding turn choose either accepted wrongLength readMap
-too-long input e h = printed-refused input {v = MapLength} (opened input ∙ rw (e, lt-ltb mostBytes (length input) h)) refl
-
--- And prints so: more than 384 bytes are 13.
+-- Under any other job more than 384 bytes are 13.
 pub above-384 : (input : List ℕ) → eqb (jobOfMap input) 0 ≡ false → mostBytes < length input → mapAnswer input ≡ text "refused 13\n"
-unfolding toldLine carriedText digits choose
-above-384 input e h = too-long input e h
+unfolding turn choose either accepted wrongLength readMap toldLine carriedText digits
+above-384 input e h = printed-refused input {v = MapLength} (opened input ∙ rw (e, lt-ltb mostBytes (length input) h)) refl
 
 -- The job is read from what is kept.
 job-kept : (input : List ℕ) → jobOfMap (take mostRead input) ≡ jobOfMap input
@@ -77,8 +72,8 @@ longer input h = by (eqb (jobOfMap input) 0) refl
         let z : jobOfMap input ≡ 0 = eqb-true (jobOfMap input) 0 e in
         job-zero (take mostRead input) (job-kept input ∙ z) ∙ sym (job-zero input z)
     by false e =
-        too-long (take mostRead input) (ap (λ (j : ℕ). eqb j 0) (job-kept input) ∙ e) (omega (arith, length-take-le mostRead input (omega arith)))
-        ∙ sym (too-long input e (omega arith))
+        above-384 (take mostRead input) (ap (λ (j : ℕ). eqb j 0) (job-kept input) ∙ e) (omega (arith, length-take-le mostRead input (omega arith)))
+        ∙ sym (above-384 input e (omega arith))
 
 -- CUTTING AN INPUT TO 397 BYTES DOES NOT CHANGE ITS ANSWER.
 pub cut : (input : List ℕ) → mapAnswer (take mostRead input) ≡ mapAnswer input

@@ -35,7 +35,7 @@ pub opened : (map : List ℕ) → openedWith map .verdict ≡ turn (eqb (jobOfMa
 unfolding openedWith step
 opened map = opens (jobOfMap map) map
 
--- What is printed where the opening is refused, and where it is accepted.
+-- Where the opening is refused, its verdict is printed.
 pub printed-refused : (map : List ℕ) {v : Verdict} → openedWith map .verdict ≡ v → accepted v ≡ false → mapAnswer map ≡ verdictLine v
 unfolding mapAnswer choose
 printed-refused map e n = rw (e, n)

@@ -1,4 +1,4 @@
--- Room for 62 legs is never too small, so that the program never prints 19. Assumes nothing.
+-- Room for 62 legs is never too small: the program's wiring is never refused with 19. Assumes nothing.
 use mathlib.Core.Path.{_≡_, refl, sym, _∙_}
 use mathlib.Core.Bool.{Bool, true, false}
 use mathlib.Core.List.{List}

@@ -83,7 +83,7 @@ BackFrom job left =
     (m : List ℕ) (number next : ℕ) (earlier : List Pin) → length m ≡ left * recordSize → Kept next earlier
     → accepted (readFrom left m job number next earlier .verdict) ≡ true → Back job m earlier (readFrom left m job number next earlier)
 
--- A record that is accepted stands at the front of what is read.
+-- If so many records give that back, so do one more, where the first is accepted.
 back-next : (job left : ℕ) → BackFrom job left → (m : List ℕ) (number next : ℕ) (earlier : List Pin) → length m ≡ suc left * recordSize → Kept next earlier
     → accepted (judged job number next earlier (recordOf (take recordSize m))) ≡ true
     → let r : Record = recordOf (take recordSize m) in
@@ -111,7 +111,7 @@ back-next job left rec m number next earlier n s a c =
       rules = g .rules;
     }
 
--- A reading that goes on only where a record is accepted.
+-- A reading that goes on only where a record is accepted gives that back, if what it goes on with does.
 back-by : (job : ℕ) (m : List ℕ) (earlier : List Pin) (t : Bool) (x : Reading) (v : Verdict) → accepted v ≡ t
     → (t ≡ true → accepted (x .verdict) ≡ true → Back job m earlier x)
     → accepted (choose t x (refusedBy v) .verdict) ≡ true → Back job m earlier (choose t x (refusedBy v))

@@ -23,12 +23,12 @@ use Rattle.pinmap.specs.Record.{recordSize, recordOf, recordBytes}
 use Rattle.pinmap.proofs.Faults.{Faultless}
 use Rattle.pinmap.proofs.Written.{record-stored}
 
--- A place of the board has numbers that an i32 holds.
+-- An i32 holds the x of a place of the board,
 x-held : (a : Place) → inside a ≡ true → SFits w32 (a .x)
 unfolding inside
 x-held a e = record { sfits = number-held (a .x) (both-left _ _ e) }
 
--- So is its y.
+-- and its y.
 y-held : (a : Place) → inside a ≡ true → SFits w32 (a .y)
 unfolding inside
 y-held a e = record { sfits = number-held (a .y) (both-right _ _ e) }

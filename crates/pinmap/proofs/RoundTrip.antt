@@ -76,7 +76,7 @@ pub no-pins-lawful : lawful noPins ≡ true
 unfolding lawful both spotOf feedOf eachOf within noTwo anyOf spotsTooNear either
 no-pins-lawful = refl
 
--- A map that opens has a right length, and its records are read.
+-- A reading that goes on only where the length is right gives that back, if what it goes on with does.
 back-length : (job : ℕ) (map : List ℕ) (t : Bool) (x : Reading) → (t ≡ false → accepted (x .verdict) ≡ true → Back job map noPins x)
     → accepted (choose t (refusedBy MapLength) x .verdict) ≡ true → Back job map noPins (choose t (refusedBy MapLength) x)
 unfolding choose accepted

@@ -28,7 +28,7 @@ oneRecord = 0 ∷ 7 ∷ 0 ∷ 0 ∷ 0 ∷ 0 ∷ 0 ∷ 1 ∷ 255 ∷ 255 ∷ 255 
 abbrev given : ℕ → ℕ → ℕ → ℕ → List ℕ
 given job pin byte3 x = 0 ∷ job ∷ pin ∷ byte3 ∷ 0 ∷ 0 ∷ 0 ∷ x ∷ 0 ∷ 0 ∷ 0 ∷ 0 ∷ []
 
--- D3, written and read.
+-- D3 is written with that record.
 D3-written : mapOf 7 onePin ≡ oneRecord
 unfolding mapOf mapFrom pinBytes recordBytes firstByte secondByte thirdByte fourthByte
 D3-written = refl
@@ -38,24 +38,24 @@ D3-read : readMap oneRecord 7 ≡ readAs onePin
 unfolding readMap wrongLength either choose readFrom recordOf numberAt judged turn accepted inside onBoard both anyOf spotsTooNear spotOf feedOf withPinOf
 D3-read = refl
 
--- Written into a buffer of 14 bytes, it leaves the last two; into one of 11, it is refused.
+-- Written into a buffer of 14 bytes, it leaves the last two.
 D3-buffer : bufferAfter onePin 7 (replicate 14 9) ≡ oneRecord ++ (9 ∷ 9 ∷ [])
 unfolding bufferAfter written choose mapOf mapFrom pinBytes recordBytes firstByte secondByte thirdByte fourthByte
 D3-buffer = refl
 
--- 12 bytes are written where there is room, none where there is one byte too few.
+-- 12 bytes are written where there is room; with one byte too few it is 19, and the buffer stays.
 D3-answer : (writeMap onePin 7 (replicate 14 9) ≡ record { verdict = Accepted; bytes = 12 })
     × (writeMap onePin 7 (replicate 11 9) ≡ record { verdict = RoomTooSmall; bytes = 0 })
     × (bufferAfter onePin 7 (replicate 11 9) ≡ replicate 11 9)
 unfolding writeMap bufferAfter written choose mapOf mapFrom pinBytes recordBytes firstByte secondByte thirdByte fourthByte
 D3-answer = (refl, refl, refl)
 
--- An empty map is a drawing without pins, and the other way round.
+-- An empty map is a drawing without pins,
 empty-read : readMap [] 7 ≡ readAs noPins
 unfolding readMap wrongLength either choose readFrom
 empty-read = refl
 
--- and it is written as no bytes.
+-- and a drawing without pins is written as no bytes.
 empty-written : mapOf 7 noPins ≡ []
 unfolding mapOf mapFrom pinBytes
 empty-written = refl
@@ -80,7 +80,7 @@ first-faulty : readMap (given 7 0 0 0 ++ (given 7 1 5 3 ++ given 8 2 0 6)) 7 ≡
 unfolding readMap wrongLength either choose readFrom recordOf numberAt judged turn accepted inside onBoard both anyOf spotsTooNear spotOf feedOf withPinOf
 first-faulty = refl
 
--- A pin that comes twice, one that is not above the one before, and a place that comes twice.
+-- A pin that comes twice is 15.
 not-ascending : readMap (given 7 3 0 0 ++ given 7 3 0 1) 7 ≡ refusedBy (FaultyRecord 1)
 unfolding readMap wrongLength either choose readFrom recordOf numberAt judged turn accepted inside onBoard both anyOf spotsTooNear spotOf feedOf withPinOf
 not-ascending = refl

@@ -29,7 +29,7 @@ cut-once m a b = by (order (length a) m)
 abbrev withLine : Log → List ℕ → Log
 withLine l line = record { desk = l .desk; line = line; lines = l .lines; ended = l .ended; out = l .out }
 
--- A line that goes on for nothing stays, and one that goes on twice goes on for both.
+-- A line that goes on for nothing stays.
 longer-none : (l : Log) → length (l .line) ≤ mostKept → longer l [] ≡ l
 longer-none l h = ap (withLine l) (rw append-nil (take-all mostKept (l .line) h))
 

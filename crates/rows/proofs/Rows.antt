@@ -185,7 +185,7 @@ module _ {A : Type 0} {v t : Verdict} (e : v ≡ t) {x : A} where
 pub number-there : (l : Look) (p : ℕ) → notThere l p ≡ false → p < mostPins
 number-there l p e = leb-false mostPins p (either-false _ _ e .0)
 
--- Where removing is turned away, the journal having room, so is moving.
+-- Where removing is turned away, the journal having room, it is by 28, 1, 2 or 6, and so whatever comes after these.
 pub there-stops : (l : Look) (p : ℕ) {v : Verdict} (rest : Verdict) → full l ≡ false → v ≡ turnedRemoving l p → accepted v ≡ false
     → v ≡ firstOf (thereRows l p) rest
 unfolding turnedRemoving firstOf turn choose accepted

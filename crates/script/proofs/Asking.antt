@@ -25,7 +25,7 @@ use Rattle.script.specs.declared.Placing.{Placing}
 use Rattle.script.specs.declared.Said.{Said}
 use Rattle.text.proofs.Values.{number-read, number-unread}
 
--- In a row of calls, the one whose test holds is what is saidIn for,
+-- In a row of calls, the one whose test holds is what the words say,
 row-yes : {t : Bool} {o p : Said} (q : Said) → t ≡ true → o ≡ p → o ≡ choose t p q
 row-yes q h e = e ∙ sym (choose-yes _ q h)
 

@@ -19,7 +19,7 @@ unfoldable pub saidByEach : List String → List Said
 saidByEach [] = []
 saidByEach (line ∷ rest) = saidBy (text line) ∷ saidByEach rest
 
--- One line of each kind of call, numbers and words spaced and written in several ways.
+-- Lines of each kind of call, numbers and words spaced and written in several ways.
 pub each-call :
     saidByEach
     ("open 00 0007 -" ∷ "open 1 9 0009fF" ∷ "close 7" ∷ "  place   0 0 -0 007  " ∷ "move 3 31 -5 12" ∷ "remove 0 4294967295"

@@ -106,7 +106,7 @@ module _ (l : List Seat) (m : List Record) where
 -- All of it: the lengths are those of the arrays; then the journal's test, the jobs' and the seats'.
 module _ (l : List Seat) (j : List Record) (u : ℕ) (w : length l ≡ mostSeats) (v : length j ≡ mostRecords) {a : Bool}
     (e : a ≡ both (leb u mostRecords) (seated (take u j))) where
-  -- The journal's test is the count's and the records' seats'.
+  -- The journal's test, the jobs' and the seats' together are all of it.
   parts : both (both (leb u mostRecords) (seated (take u j))) (both (jobsApart (jobsIn l)) (soundTo mostSeats l (take u j))) ≡ soundAll l j u
   unfolding soundAll both
   parts = rw (eq-eqb _ _ w, eq-eqb _ _ v) (joined (leb u mostRecords) (seated (take u j)) _)

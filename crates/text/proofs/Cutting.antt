@@ -100,7 +100,7 @@ unfolding indexAfter
 count-after true h = omega arith
 count-after false h = omega arith
 
--- A text has no more spaces than bytes,
+-- A text begins with no more spaces than it has bytes,
 pub spaces-within : (l : List ℕ) → spacesOf l ≤ length l
 unfolding spacesOf
 spaces-within [] = le-refl 0
@@ -232,7 +232,7 @@ unfolding spacesOf
 words-skip [] = refl
 words-skip (b ∷ rest) = skip-by b rest (eqb b space) refl (words-skip rest)
 
--- and after them there are no more spaces.
+-- and right after them stands none.
 done-by : (b : ℕ) (rest : List ℕ) (t : Bool) → eqb b space ≡ t → spacesOf (drop (spacesOf rest) rest) ≡ 0
     → spacesOf (drop (spacesOf (b ∷ rest)) (b ∷ rest)) ≡ 0
 unfolding choose spacesOf

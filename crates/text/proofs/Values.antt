@@ -9,6 +9,7 @@ use lib.IntN.{ℤ, pos, negsuc, negℤ}
 use lib.Dec.{leb, ltb, eqb}
 use lib.ListN.{length, take, drop, getD, set, List·getD-eq-default, length-drop, length-map, drop-of-length-le}
 use lib.Seq.{drop-nil, drop-drop, take-all}
+use Rattle.refusal.proofs.Anyone.{each-first, each-rest}
 use Rattle.bytes.specs.Bytes.{indexOf}
 use mir.Syntax.{w32}
 use mir.Val.{toZ}
@@ -38,23 +39,6 @@ between-from low high b h = rw (le-leb low b h)
 pub between-is : (low high b : ℕ) → between low high b ≡ true → (low ≤ b) × (b ≤ high)
 unfolding between
 between-is low high b h = (leb-true low b (both-left _ _ h), leb-true b high (both-right _ _ h))
-
--- Digits, one by one.
-module _ (w : List ℕ) (i : ℕ) where
-  -- A digit leaves it to the bytes after it whether all are digits,
-  pub digits-next : i < length w → between 48 57 (getD w i 0) ≡ true → allDigits (drop i w) ≡ allDigits (drop (i + 1) w)
-  unfolding eachOf both
-  digits-next h e = rw (front 0 w i h, e)
-
-  -- any other byte settles that they are not,
-  pub digits-stop : i < length w → between 48 57 (getD w i 0) ≡ false → allDigits (drop i w) ≡ false
-  unfolding eachOf both
-  digits-stop h e = rw (front 0 w i h, e)
-
-  -- and at the end of the word they are.
-  pub digits-end : length w ≤ i → allDigits (drop i w) ≡ true
-  unfolding eachOf
-  digits-end h = rw (drop-of-length-le w h)
 
 -- Beyond all ranges one value is as good as another.
 capped : (v d : ℕ) → min (min v beyond * 10 + d) beyond ≡ min (v * 10 + d) beyond
@@ -394,16 +378,11 @@ to-pos n h = rw (lt-ltb n 2147483648 (omega arith))
 pub rest-whole : (w : List ℕ) → take (length w - 1) (drop 1 w) ≡ drop 1 w
 rest-whole w = take-all (length w - 1) (drop 1 w) (omega (arith, length-drop 1 w))
 
--- A row is all numbers, at most forty;
+-- A row is all numbers, at most forty.
 pub row-numbers : (w : List ℕ) → isRow w ≡ true → (allCoordinates (pieces comma w) ≡ true) × (length (map signed (pieces comma w)) ≤ mostNumbers)
 unfolding isRow
 row-numbers w h =
     (both-left _ _ h, omega (arith, leb-true (length (pieces comma w)) mostNumbers (both-right _ _ h), length-map (pieces comma w) signed))
-
--- where all are numbers, the first is one and so are the others.
-pub coordinates-next : (p : List ℕ) (ps : List (List ℕ)) → allCoordinates (p ∷ ps) ≡ true → (isCoordinate p ≡ true) × (allCoordinates ps ≡ true)
-unfolding eachOf
-coordinates-next p ps h = (both-left _ _ h, both-right _ _ h)
 
 -- The piece of a row from a position up to the next comma:
 module _ (w : List ℕ) (at to : ℕ) (h : at ≤ length w) (e : to ≡ stopAt comma w at) where
@@ -422,7 +401,9 @@ module _ (w : List ℕ) (at to : ℕ) (h : at ≤ length w) (e : to ≡ stopAt c
   -- In a row of numbers it is one, and what is left is numbers.
   pub row-coordinates : allCoordinates (rowLeft w at) ≡ true
       → (isCoordinate (take (to - at) (drop at w)) ≡ true) × (allCoordinates (rowLeft w (to + 1)) ≡ true)
-  row-coordinates k = coordinates-next (take (to - at) (drop at w)) (rowLeft w (to + 1)) (sym (ap allCoordinates row-step) ∙ k)
+  row-coordinates k =
+      let e = sym (ap allCoordinates row-step) ∙ k in
+      (each-first isCoordinate (take (to - at) (drop at w)) (rowLeft w (to + 1)) e, each-rest isCoordinate (take (to - at) (drop at w)) (rowLeft w (to + 1)) e)
 
   -- The number of the piece is the next to be stored:
   module _ (old : List ℤ) (count : ℕ) (d : drop count (map signed (pieces comma w)) ≡ map signed (rowLeft w at)) where

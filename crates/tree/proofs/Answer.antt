@@ -1,4 +1,4 @@
--- The three answers of `treeOf`, each just under its condition; its entries; and how many runs there are at most. Assumes nothing.
+-- The three answers of `treeOf`, each under its condition; and how many runs there are at most. Assumes nothing.
 use mathlib.Core.Path.{_≡_, refl, ap}
 use mathlib.Core.Bool.{true, false}
 use mathlib.Core.List.{List, [], _∷_}
@@ -55,7 +55,7 @@ unfolding grown
 grown-many feed zero reached left = refl
 grown-many feed (suc n) reached left = ap suc (grown-many feed n _ _)
 
--- One run fewer than pins.
+-- At most 32 pins have at most 31 runs.
 among-few : (feed : List Spot) (pins : List ℕ) → length pins ≤ mostPins → length (runsAmong feed pins) ≤ mostRuns
 unfolding runsAmong
 among-few feed [] h = omega arith

@@ -104,7 +104,7 @@ module _ (feed : List Spot) (full : length feed ≡ mostPins) (ok : allWithin fe
       key-before (siteAt feed p) p (siteAt feed q) q (siteAt feed r) r (siteAt feed s) s
       (fits feed ok p (low p ip)) (fits feed ok q (low q iq)) (fits feed ok r (low r ir)) (fits feed ok s (low s is)) h
 
-  -- The second run hangs from the first.
+  -- Where the second run hangs from the first, without a common pin, their boxes share no point;
   hanging : (s t s' t' : ℕ) → HasRun s t rs → HasRun s' t' rs → (s ≡ s' → ⊥) → (s ≡ t' → ⊥) → (t ≡ s' → ⊥) → (t ≡ t' → ⊥)
       → hangs rs t t' ≡ true → Shared (siteAt feed s) (siteAt feed t) (siteAt feed s') (siteAt feed t') → ⊥
   hanging s t s' t' h h' n1 n2 n3 n4 b m =
@@ -123,7 +123,7 @@ module _ (feed : List Spot) (full : length feed ≡ mostPins) (ok : allWithin fe
       (before t s s' s it is is' is (omega (arith, k1, keyed feed ok .swap s t)))
       (m .point) (box-turn (m .in-first)) (m .in-second)
 
-  -- Neither hangs from the other.
+  -- nor do they where neither hangs from the other.
   beside : (s t s' t' : ℕ) → HasRun s t rs → HasRun s' t' rs → (s ≡ s' → ⊥) → (s ≡ t' → ⊥) → (t ≡ s' → ⊥) → (t ≡ t' → ⊥)
       → hangs rs t t' ≡ false → hangs rs t' t ≡ false → Shared (siteAt feed s) (siteAt feed t) (siteAt feed s') (siteAt feed t') → ⊥
   beside s t s' t' h h' n1 n2 n3 n4 b b' m =
@@ -156,14 +156,14 @@ module _ (feed : List Spot) (full : length feed ≡ mostPins) (ok : allWithin fe
       go (inr p) (inr q) = beside s t s' t' h h' n1 n2 n3 n4 p q m
 
 -- ---- the theorem
--- Runs without a common pin have four different ends.
+-- No end of one run is an end of the other.
 record FourEnds (r s : Run) : Type 0 where
   near-near : r .near ≡ s .near → ⊥
   near-far : r .near ≡ s .far → ⊥
   far-near : r .far ≡ s .near → ⊥
   far-far : r .far ≡ s .far → ⊥
 
--- The test for a common pin says so.
+-- So it is for runs without a common pin.
 four-ends : (r s : Run) → common r s ≡ false → FourEnds r s
 unfolding common isEnd
 four-ends r s e =

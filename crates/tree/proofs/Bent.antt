@@ -135,6 +135,7 @@ six-bent feed full ok n = go (pinsOf feed) refl
     go (f ∷ left) e = subst (λ (l : List ℕ). bentAt feed (runsAmong feed l) n ≤ 6) e (six-some feed full ok f left e n)
 
 -- ---- leading on, and reaching
+-- A bent run whose ends differ counts at a pin as leading on from it or as reaching it, never both.
 split-go : (n near far : ℕ) (p q b : Bool) → eqb n near ≡ p → eqb n far ≡ q → (near ≡ far → ⊥)
     → oneIf (both (either p q) b) ≡ oneIf (both p b) + oneIf (both q b)
 unfolding both either

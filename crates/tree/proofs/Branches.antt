@@ -244,7 +244,7 @@ module _ (key : ℕ → ℕ → ℕ) where
         apart = λ e. w .apart (sym e);
       }
 
--- No test holds and fails.
+-- A test that holds and one that fails are not the same.
 pub differ : {x y : Bool} → x ≡ true → y ≡ false → x ≡ y → ⊥
 differ e f g = opposite (sym g ∙ e) f
 

@@ -61,7 +61,7 @@ next-many n p i (s ∷ feed) [] e = absurd (omega arith)
 next-many n p i (s ∷ feed) (o ∷ offers) e = ap suc (next-many n p (suc i) feed offers (omega arith))
 
 -- ---- the pin that is reached next
--- Pin k waits, with the pair of the pin that offers and itself.
+-- What pin k keeps is sound: both pins below 32, and the pair of the pin that offers and itself.
 pub record Open (feed : List Spot) (o : Offer) (k : ℕ) : Type 0 where
   pub pin : k < mostPins
   pub near : o .near < mostPins

@@ -1,5 +1,5 @@
 -- Four pins: where the pair of i and j comes before that of k and j, and the pair of k and l before that of i and l, the boxes of the two pairs share no
--- point. Places are taken as sites, in ℕ. Nothing is asked of the pins: that they differ follows from the two comparisons.
+-- point. Places are taken as sites, in ℕ. Nothing else is asked of the pins.
 use mathlib.Core.Path.{_≡_, sym}
 use mathlib.Core.Logic.{_⊎_, inl, inr}
 use Prim.Native.Nat.{ℕ, _+_, _<_, _≤_, min, max}
@@ -128,11 +128,11 @@ module _ (a : Site) (i : ℕ) (b : Site) (j : ℕ) (c : Site) (k : ℕ) (d : Sit
       let f2 = cd .distance in
       omega arith
 
-  -- Each of the differences in y is at least the other, so a and c are as far from p in y, and in x.
+  -- Each of the differences in y is at least the other, so a and c are as far from p in y,
   far-y : gap (a .y) (p .y) ≡ gap (c .y) (p .y)
   far-y = omega (arith, y-ab, y-cd, even .y-ad, even .y-cb, ab .rise (even .span-ab), cd .rise (even .span-cd))
 
-  -- And in x.
+  -- and in x.
   far-x : gap (a .x) (p .x) ≡ gap (c .x) (p .x)
   far-x = omega (arith, far-y, even .sum)
 

@@ -1,4 +1,4 @@
--- What is left to do at a turn of each loop: one turn more, and none. Assumes nothing.
+-- The loops that look for the earliest offer and for the lowest pin: one turn, and the end. Assumes nothing.
 use mathlib.Core.Path.{_≡_}
 use mathlib.Core.Bool.{true, false}
 use mathlib.Core.List.{List}
@@ -16,7 +16,7 @@ use Rattle.tree.specs.Offers.{noOffer, earlierNext, nextFrom, firstFrom}
 
 -- ---- the earliest offer
 module _ (c : Next) (offers : List Offer) (i : ℕ) where
-  -- The earliest from pin i on is found at pin i or above.
+  -- The earliest of c and those from pin i on: pin i is compared, then those from i + 1 on.
   pub earliest-turn : i < length offers → nextFrom c i (drop i offers) ≡ nextFrom (earlierNext c i (getD offers i noOffer)) (i + 1) (drop (i + 1) offers)
   unfolding nextFrom
   earliest-turn h = rw (front noOffer offers i h, add-one)

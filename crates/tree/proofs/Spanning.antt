@@ -36,7 +36,7 @@ CutBefore feed pins runs =
     → Way rest a (r .near) → Way rest b (r .far) → (EndsAre r a b → ⊥) → comesBefore (pairAt feed (r .near) (r .far)) (pairAt feed a b) ≡ true
 
 -- ---- between the two orders of a list
--- What stands in one of two lists stands in both, the first turned round,
+-- What stands in one of two lists stands in the two joined, the first turned round,
 pub in-turned : {r : Run} (l : List Run) {m : List Run} → Among r l ⊎ Among r m → Among r (reverseAux l m)
 in-turned [] (inr h) = h
 in-turned (q ∷ l) (inl (first e)) = in-turned l (inr (first e))

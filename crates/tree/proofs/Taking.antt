@@ -43,6 +43,7 @@ pub record Linked (feed : List Spot) (key : ℕ → ℕ → ℕ) (reached left :
   pub least : (k : ℕ) → offerAt offers k .waits ≡ true → (a : ℕ) → Among a reached → key (offerAt offers k .near) k ≤ key a k
 
 -- ---- one offer
+-- A pin that waits has an entry among the offers.
 waits-short : (offers : List Offer) (k : ℕ) → offerAt offers k .waits ≡ true → k < length offers
 waits-short offers k w = go (decLt k (length offers))
   where

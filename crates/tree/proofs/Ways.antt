@@ -1,5 +1,5 @@
--- Ways along runs, runs with one taken out, and that a way from one group of pins to another crosses between them on a run without
--- which it falls apart. Assumes nothing.
+-- Ways along runs, runs with one taken out, and that a way from one group of pins to another crosses between them on a run,
+-- without which each end of the way still reaches an end of the run. Assumes nothing.
 use mathlib.Core.Path.{_≡_, refl, sym, ap, _∙_}
 use mathlib.Core.Bool.{Bool, true, false}
 use mathlib.Core.List.{List, [], _∷_}
@@ -116,6 +116,7 @@ part {e} {l} {rest} {s} {t} o (along r m h q w) = go (in-rest o h) (part o w)
     go (inr k) (used x y f u v) = used x y f (along r m k q u) v
 
 -- ---- crossing from one group of pins to the other
+-- A run e from x in one group to y in the other; without it there are still ways from s to x and from y to t.
 pub record Crossing (f : ℕ → Bool) (l : List Run) (s t : ℕ) : Type 0 where
   pub e : Run
   pub rest : List Run
@@ -156,7 +157,7 @@ module _ (f : ℕ → Bool) where
         far = way-more (λ r h. later h) (c .far);
       }
 
-  -- The way goes over q from x to y, both on one side; it crosses before x.
+  -- A way that goes over q from x to y and crosses before x has a crossing;
   early : {q : Run} {l : List Run} {s t x y : ℕ} → ((s t : ℕ) → Way l s t → (f s ≡ f t → ⊥) → Crossing f l s t) → (f s ≡ f t → ⊥)
       → EndsAre q x y → Crossing f l s x → Way l y t → Crossing f (q ∷ l) s t
   early {q} {l} {s} {t} {x} {y} ih ne d c w = go (part (c .out) w)
@@ -183,7 +184,7 @@ module _ (f : ℕ → Bool) where
           turn (inl z) = by (way-more (λ r h. later h) (way-as (sym (z .1)) refl v))
           turn (inr z) = lift (ih s t (way-more (λ r h. rest-in (c .out) h) (way-then (c .near) (way-as (sym (z .0)) refl v))) ne)
 
-  -- It crosses after y.
+  -- so has one that crosses after y.
   late : {q : Run} {l : List Run} {s t x y : ℕ} → ((s t : ℕ) → Way l s t → (f s ≡ f t → ⊥) → Crossing f l s t) → (f s ≡ f t → ⊥)
       → EndsAre q x y → Way l s x → Crossing f l y t → Crossing f (q ∷ l) s t
   late {q} {l} {s} {t} {x} {y} ih ne d w c = go (part (c .out) w)

@@ -75,8 +75,7 @@ module _ (feed : List Spot) (full : length feed ≡ mostPins) (ok : allWithin fe
   abbrev sites : ℕ → Site
   sites i = site (at i)
 
-  -- The runs start at the lowest pin.
-  root : Rooted f left runs
+  abbrev root : Rooted f left runs
   root = runs-rooted feed full ok f left e
 
   -- Where the near pin of a run stands ..

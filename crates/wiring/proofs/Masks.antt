@@ -113,7 +113,7 @@ mask-less favoured j (suc k) upper h =
 pub mask-most : (favoured : Bool) (j : ℕ) (c : List Shape) → j + length c ≤ mostRuns → maskFrom favoured j c < 2 ^ (mostRuns - j)
 mask-most favoured j c h = rw (mask-choice favoured j c) (mask-less favoured j (length c) (bends c) h)
 
--- A digit is read from what stands above and below it.
+-- The topmost digit is read whatever stands below it.
 digit-here : (b P rest : ℕ) → 0 < P → rest < P → b ≤ 1 → (b * P + rest) / P % 2 ≡ b
 digit-here b P rest p l s =
     let z : b * P + rest ≡ rest + b * P = omega arith in

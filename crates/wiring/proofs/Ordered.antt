@@ -225,7 +225,7 @@ module _ (feed : List Spot) (runs : List Run) (mask : List Shape → ℕ) (best 
   abbrev long : List Shape → ℕ
   long = lengthOfChoice feed runs
 
-  -- No choice is shorter than the best, and none as short has a smaller mask.
+  -- The best is ahead of a choice: it is shorter, or as long and its mask is no larger.
   abbrev Ahead : List Shape → Type 0
   Ahead d = (long best < long d) ⊎ ((long best ≡ long d) × (mask best ≤ mask d))
 

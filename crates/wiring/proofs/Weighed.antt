@@ -143,8 +143,7 @@ module _ (feed : List Spot) (full : length feed ≡ mostPins) (ok : allWithin fe
   abbrev near : ℕ → ℕ
   near = reachedNear runs
 
-  -- The runs start at the lowest pin.
-  root : Rooted f left runs
+  abbrev root : Rooted f left runs
   root = runs-rooted feed full ok f left e
 
   -- A run is bent where the definition says so ..

@@ -1,4 +1,4 @@
--- `grid::of_bits` meets its contract: twice the complement is the number. Assumes nothing.
+-- `grid::of_bits` meets its contract: the complement of the complement is the number. Assumes nothing.
 use borrow.Author.Needs.{needs}
 use Rattle.grid.proofs.Bytes.{twice}
 use Rattle.grid.proofs.of_bits.Statement.{statement}

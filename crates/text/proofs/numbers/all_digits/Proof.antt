@@ -3,9 +3,10 @@ use mathlib.Core.Path.{_≡_, refl, sym, _∙_}
 use Prim.Native.Nat.{_≤_, _-_}
 use native.Mathlib.Omega.{arith}
 use borrow.Author.Needs.{needs}
-use lib.ListN.{length, drop}
-use Rattle.text.proofs.Values.{digits-next, digits-stop, digits-end}
-use Rattle.text.specs.Numbers.{allDigits}
+use lib.ListN.{length, drop, drop-of-length-le}
+use Rattle.refusal.proofs.Lists.{front}
+use Rattle.refusal.proofs.Anyone.{each-next, each-stop, each-end}
+use Rattle.text.specs.Numbers.{isDigit, allDigits}
 use borrow.Author.Tests.{not-true, not-false}
 use Rattle.text.proofs.numbers.all_digits.Statement.{statement}
 use Rattle.text.proofs.numbers.all_digits.Tie as tie
@@ -29,9 +30,8 @@ returns : tie.Need-returns Inv-loop μ-loop
 returns c =
     sym
     (c .before .before .before .before .loop .inv .1
-    ∙ digits-stop _ (c .before .before .before .before .loop .i)
-    (c .before .before .before .loop-test .taken)
-    (sym (c .before .is-digit .ensures) ∙ not-true (c .before .is-digit .result) (c .if1 .taken)))
+    ∙ each-stop (front 0 _ (c .before .before .before .before .loop .i) (c .before .before .before .loop-test .taken)) isDigit
+    (c .before .is-digit .ensures) (not-true (c .before .is-digit .result) (c .if1 .taken)))
 
 add-i : tie.Need-add-i Inv-loop μ-loop
 add-i c = omega arith
@@ -43,13 +43,12 @@ loop-again : tie.Need-loop-again Inv-loop μ-loop
 loop-again c = (
   omega arith,
   c .before .before .before .before .loop .inv .1
-      ∙ digits-next _ (c .before .before .before .before .loop .i)
-      (c .before .before .before .loop-test .taken)
-      (sym (c .before .is-digit .ensures) ∙ not-false (c .before .is-digit .result) (c .if1 .left)),
+      ∙ each-next (front 0 _ (c .before .before .before .before .loop .i) (c .before .before .before .loop-test .taken)) isDigit
+      (c .before .is-digit .ensures) (not-false (c .before .is-digit .result) (c .if1 .left)),
 )
 
 returns-2 : tie.Need-returns-2 Inv-loop μ-loop
-returns-2 c = sym (c .before .loop .inv .1 ∙ digits-end (c .before .before .before .args .word .now) (c .before .loop .i) (c .loop-test .left))
+returns-2 c = sym (c .before .loop .inv .1 ∙ each-end (drop-of-length-le (c .before .before .before .args .word .now) (c .loop-test .left)) isDigit)
 
 pub all-digits-spec : {M : Type 1} → statement M
 all-digits-spec =
