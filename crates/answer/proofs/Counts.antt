@@ -18,7 +18,7 @@ use Rattle.text.specs.Words.{withoutReturn, wordsOf, word}
 use Rattle.script.specs.Said.{mostRoom, mostLegsLent, only, seatCall, pairCall, isOpenCall, isBareCall, isPlacing, openCall, bareCall, lentCall, placeCall, callOf, isSkipped, saidIn, isLong, saidBy, mapIn, mapSaid, mapGiven, listIn, listSaid, xsGiven, ysGiven}
 use Rattle.text.proofs.Values.{number-top, map-length, list-row, listed-none, listed-row, row-numbers}
 
--- Its map, its lists and its counts are as a line says.
+-- What a line says counts this map and these lists; these counts, and the room of a writing, are within their most.
 unfoldable pub Matching : List ℕ → List ℤ → List ℤ → Said → Type 0
 Matching m xs ys Said.Skip = Unit {0}
 Matching m xs ys Said.NotACall = Unit {0}

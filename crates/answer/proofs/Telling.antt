@@ -40,7 +40,7 @@ module _ (d : Desk) (old : List ℕ) {n : ℕ} {new : List ℕ} where
   unfolding callText
   called call e h = (h .0 ∙ ap (λ (x : Answered). x .desk) e, rw e at (h .1))
 
-  -- A writing that was accepted: its bytes and the whole buffer are printed.
+  -- A writing that was accepted: how many bytes it wrote and the whole buffer are printed.
   pub write-done : (s : ℕ) (buffer : List ℕ) {w : Written} {after : List ℕ} → w ≡ writtenOf d s buffer → after ≡ bufferOf d s buffer
       → accepted (w .verdict) ≡ true → Holds answerBytes (writtenLine (w .bytes) after) old n new
       → (w .desk ≡ d) × Holds answerBytes (writingText d s buffer) old n new

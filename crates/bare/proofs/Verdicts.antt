@@ -69,7 +69,7 @@ module _ (xs ys : List ℤ) (room : ℕ) where
   unfolding bareOf
   refused e = sym (choose-no _ _ e)
 
-  -- What is turned away with the verdict that the rows give.
+  -- So is what has the verdict that the rows give.
   pub turned : (v : Verdict) → accepted v ≡ false → v ≡ bareVerdict xs ys → turnedAway v ≡ bareOf xs ys room
   turned v n e = ap turnedAway e ∙ refused (ap accepted (sym e) ∙ n)
 

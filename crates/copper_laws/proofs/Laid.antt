@@ -128,7 +128,7 @@ module _ (at : ℕ → Site) (near : ℕ → ℕ) where
   unfoldable pub armsAt : ℕ → (ℕ → Bool) → ℕ → Arms
   armsAt n s i = shown Arms startArms addArms spread near isBentRun (λ r u. 0) n s i
 
-  -- The length of a straight run.
+  -- The length of run r where it is straight, else 0.
   unfoldable pub straightLength : ℕ → ℕ
   straightLength r = cond (isStraightRun r) (span (at (near r)) (at (suc r))) 0
 
@@ -164,7 +164,7 @@ module _ (at : ℕ → Site) (near : ℕ → ℕ) where
     single {r} e (enters a h) (leaves b k) = absurd (one-arm (s r) (at (near r)) (at (suc r)) e k h)
     single {r} e (enters a h) (enters b k) = a ∙ sym b
 
-    -- A run as one of its ends sees it.
+    -- A run as its end i sees it: its leg from i ends at t, the stride is on that leg or between t and j, and that leg, where it covers the stride, is an arm of pin i.
     record View (r i j : ℕ) (σ : Stride) : Type 0 where
       t : Site
       tip : Tip (at i) (at j) t

@@ -235,12 +235,12 @@ module _ (u : Bool) (a b : Site) where
           let w = tip-bend (bend u a b) (z .0) (z .1) (bend-is u a b) in
           (rw (near-bent e) (w .0), rw (far-bent e) (w .1))
 
-  -- A straight run covers what its leg does, and a bent one what its two legs do.
+  -- A straight run covers what its leg does,
   pub run-straight : (σ : Stride) → straight a b ≡ true → runCovers u a b σ ≡ covers a b σ
   unfolding runCovers
   run-straight σ e = rw e
 
-  -- The two legs of a bent run.
+  -- and a bent one what its two legs do.
   run-bent : (σ : Stride) → straight a b ≡ false → runCovers u a b σ ≡ either (covers a (bend u a b) σ) (covers (bend u a b) b σ)
   unfolding runCovers
   run-bent σ e = rw e

@@ -144,7 +144,7 @@ module _ (p : Site) (a b : Arms) where
       back (inl z) = star-holds p (longest a b) (longest-left (star-of p a s z))
       back (inr z) = star-holds p (longest a b) (longest-right (star-of p b s z))
 
--- No arms cover nothing.
+-- Arms of no length cover nothing.
 pub star-none : (p : Site) (s : Stride) → star p noArms s ≡ true → ⊥
 star-none p s e = go (star-of p noArms s e)
   where

@@ -138,7 +138,7 @@ module _ (at : ℕ → Place) (near : ℕ → ℕ) where
       ∙ over-same m (λ σ. oneIf (anyLeg (legsOfRuns at near s n) σ)) (λ σ. oneIf (covered sites near n s σ)) (λ σ. ap oneIf (runs-any s n g h σ))
 
   module _ (n : ℕ) (held : (i : ℕ) → i < suc n → PlaceI32 (at i)) (laid : Spaced sites near n) where
-    -- The sites of the pins are on a grid that holds the board.
+    -- The sites of the pins are on such a grid.
     on-grid : (m : ℕ) → 4294967296 ≤ m → (i : ℕ) → i < suc n → Within m (sites i)
     on-grid m big i l = held-in m big (at i) (held i l)
 

@@ -80,22 +80,22 @@ remade-same l e h =
 
 -- ---- an edit that can be made
 
--- A pin that the test does not find there is absent,
+-- What the test does not find there is absent,
 stand-absent : (s : Stand) → thereIn s ≡ false → s ≡ Absent
 stand-absent Absent e = refl
 stand-absent (There h) e = cc
 
--- A pin that is not there is the absent pin.
+-- and so such a pin is the absent one.
 pin-absent : (q : Pin) → isThere q ≡ false → q ≡ absent
 unfolding isThere
 pin-absent q e = let p : q .stand ≡ Absent = stand-absent (q .stand) e in λ i. record { stand = p i }
 
--- one that it finds at a place stands there, and holds it.
+-- What it finds at a place is there and holds that place,
 stand-there : (s : Stand) (a : Place) → standsIn s a ≡ true → s ≡ There (holding a)
 stand-there Absent a e = cc
 stand-there (There h) a e = let p : h .place ≡ a = place-same (h .place) a e in λ i. There (record { place = p i })
 
--- A pin that stands at a place is there with that place.
+-- and so does such a pin.
 pin-there : (q : Pin) (a : Place) → standsAt q a ≡ true → q ≡ there (holding a)
 unfolding standsAt
 pin-there q a e = let p : q .stand ≡ There (holding a) = stand-there (q .stand) a e in λ i. record { stand = p i }

@@ -31,7 +31,7 @@ difference-is (negsuc a) (negsuc b) = omega (arith, abs-sub (suc b) (suc a))
 difference-turned : (a b : ℤ) → difference a b ≡ difference b a
 difference-turned a b = omega (arith, difference-is a b, difference-is b a)
 
--- Two pins are too near to each other, not one to the other.
+-- Two places are too near to each other, not one to the other.
 pub near-turned : (a b : Place) → tooNear a b ≡ tooNear b a
 unfolding tooNear closer
 near-turned a b = rw (difference-turned (a .x) (b .x), difference-turned (a .y) (b .y))

@@ -36,14 +36,14 @@ unfolding Ascending
 later-ranks n m [] h a = tt
 later-ranks n m (r ∷ rows) h a = (omega (arith, a .0), a .1)
 
--- A verdict whose rank is not above n is none of the rows' refusals,
+-- Each refusal of such rows ranks above n,
 below-at : (n : ℕ) (rows : List Row) (i : ℕ) → Ascending n rows → i < length rows → n < rank (refusalAt rows i)
 unfolding Ascending refusalAt
 below-at n [] i a h = absurd (omega arith)
 below-at n (r ∷ rows) zero a h = a .0
 below-at n (r ∷ rows) (suc i) a h = omega (arith, a .0, below-at (rank (r .refusal)) rows i (a .1) (omega arith))
 
--- nor the answer, unless it is accepted.
+-- so that a verdict above accepted, which they all rank above, is not their answer.
 below-first : (v : Verdict) (rows : List Row) → 0 < rank v → rank Accepted ≡ 0 → Ascending (rank v) rows → v ≡ firstOf rows Accepted → ⊥
 unfolding Ascending firstOf turn choose
 below-first v [] z y a e = omega (arith, ap rank e)

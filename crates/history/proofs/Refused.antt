@@ -103,7 +103,7 @@ rowsOf l (redoing s) = redoingRows l
 rowsOf l (writing s room) = writingRows l room
 rowsOf l (wiring s room) = wiringRows l room
 
--- So are those of any call.
+-- Each refusal of any call exactly under its condition.
 exactly-verdict : (l : Look) (c : Call) → Exactly (rowsOf l c) Accepted (verdictOf l c)
 unfolding verdictOf
 exactly-verdict l (opening s job map) = exactly-opening l job map

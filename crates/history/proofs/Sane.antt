@@ -104,7 +104,7 @@ job-redone (opened job first standing (e ∷ takenBack)) = refl
 -- ---- one call
 
 module _ (h : List Past) (g : Sane h) where
-  -- What the call makes of its own seat.
+  -- What an accepted call makes of its own seat is sane.
   sane-next : (c : Call) → accepted (answerIn h c) ≡ true → sane (next c (pastOf h (seatIn c)))
   unfolding next answerIn verdictOf sane stood
   sane-next (opening s job map) z =

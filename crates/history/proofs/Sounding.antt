@@ -106,7 +106,7 @@ used-more [] t = omega arith
 used-more (r ∷ h) t = omega (arith, used-more h t)
 
 module _ (d : Desk) (h : sound d ≡ true) where
-  -- The edits of the first n seats are the records that these own.
+  -- The edits of the first n seats are as many as the records that these own.
   pasts-used : (n : ℕ) → n ≤ mostSeats → usedIn (pastsBelow n d) ≡ ownedBelow n (inUse d)
   unfolding pastsBelow ownedBelow sum
   pasts-used zero k = refl

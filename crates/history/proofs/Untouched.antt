@@ -1,5 +1,5 @@
--- What a call leaves as it is, on ANY desk, broken or not: the other seats and their edits; the desk itself where the call is refused or writes a map;
--- the journal where the call undoes or redoes. From the definition of a step; assumes nothing.
+-- What a call leaves as it is, on ANY desk, broken or not: the other seats and their edits; the desk itself where the call is refused, writes a map or wires;
+-- the buffer where writing is refused; the journal where the call undoes or redoes. From the definition of a step; assumes nothing.
 use mathlib.Core.Path.{_≡_, refl, ap, _∙_}
 use mathlib.Core.Bool.{Bool, true, false}
 use mathlib.Core.List.{List}

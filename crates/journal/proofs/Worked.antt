@@ -18,9 +18,9 @@ abbrev two : List Record
 two = recorded 0 (placed 0 (place (pos 1) (pos 1))) ∷ recorded 1 (placed 0 (place (pos 2) (pos 2))) ∷ []
 
 -- Seat 0 has its own edit alone.
-each-its-own : own 0 two ≡ placed 0 (place (pos 1) (pos 1)) ∷ []
+seat-0-alone : own 0 two ≡ placed 0 (place (pos 1) (pos 1)) ∷ []
 unfolding own choose
-each-its-own = refl
+seat-0-alone = refl
 
 -- Closing a seat leaves the record of the other.
 closing-leaves-the-other : kept 0 0 two ≡ recorded 1 (placed 0 (place (pos 2) (pos 2))) ∷ []

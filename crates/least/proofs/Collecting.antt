@@ -212,7 +212,7 @@ module _ (tree : Reached) (i : ℕ) where
 
   -- The run that reaches pin i + 1 asks it.
   module _ (a : Askable tree (i + 1)) (f : Asked) (e : f ≡ askedPin at near favoured n (i + 1)) where
-    -- A pin costs at most so much for each of 31 runs.
+    -- A pin costs at most so much for each of 31 runs, and what it owes itself.
     pin-most : (v : Bool) → pinBest at near favoured n (i + 1) v ≤ mostRuns * each + most
     unfolding pinBest
     pin-most v =

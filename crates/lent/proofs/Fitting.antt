@@ -29,14 +29,14 @@ use Rattle.wiring.proofs.Refusing.{legsNeeded}
 
 -- ---- at most two legs a run
 -- The legs of a choice are at most twice as many as the runs.
-legs-few : (feed : List Spot) (runs : List Run) (shapes : List Shape) → length (legsOfChoice feed runs shapes) ≤ 2 * length runs
+choice-few : (feed : List Spot) (runs : List Run) (shapes : List Shape) → length (legsOfChoice feed runs shapes) ≤ 2 * length runs
 unfolding legsOfChoice
-legs-few feed [] shapes = omega arith
-legs-few feed (r ∷ runs) [] = omega arith
-legs-few feed (r ∷ runs) (s ∷ shapes) =
+choice-few feed [] shapes = omega arith
+choice-few feed (r ∷ runs) [] = omega arith
+choice-few feed (r ∷ runs) (s ∷ shapes) =
     let a = nearEnd feed r in
     let b = farEnd feed r in
-    omega (arith, length-append (legsOf s a b) (legsOfChoice feed runs shapes), leg-small s (legs-many s a b), legs-few feed runs shapes)
+    omega (arith, length-append (legsOf s a b) (legsOfChoice feed runs shapes), leg-small s (legs-many s a b), choice-few feed runs shapes)
 
 -- ---- no more than the room
 module _ (feed : List Spot) (shapes : List Shape) (room : ℕ) where
@@ -64,7 +64,7 @@ fits-either false v room l h = (zero-le, zero-le)
 
 -- No feed needs more than 62 legs.
 pub needed-few : (feed : List Spot) → length feed ≡ mostPins → length (legsNeeded feed) ≤ mostLegs
-needed-few feed full = omega (arith, legs-few feed (runsOf feed) (bestChoice false feed (runsOf feed)), runs-few feed full)
+needed-few feed full = omega (arith, choice-few feed (runsOf feed) (bestChoice false feed (runsOf feed)), runs-few feed full)
 
 -- The legs of a wiring are at most 62, and at most the room.
 pub wiring-fits : (feed : List Spot) (room : ℕ) → length feed ≡ mostPins → Fits room (wiringOf feed room)

@@ -19,7 +19,7 @@ use Rattle.lent.specs.Lent.{filledWith}
 abbrev pub Alone : Laid → Type 0
 Alone l = accepted (l .wiring .verdict) ≡ false → l ≡ turnedAway (l .wiring .verdict)
 
--- So is one that may be turned away before it is given ..
+-- One that may be turned away before it is given is so, if what is given is.
 pub turned-by : (t : Bool) (v : Verdict) (l : Laid) → Alone l → Alone (choose t l (turnedAway v))
 unfolding choose turnedAway
 turned-by true v l h e = h e
@@ -30,7 +30,7 @@ answer-given : (feed : List Spot) (shapes : List Shape) → Alone (answerWith fe
 unfolding answerWith accepted
 answer-given feed shapes e = absurd (true≢false e)
 
--- .. and the wiring of a feed.
+-- The wiring of a feed is such a one.
 pub wiring-turned : (feed : List Spot) (room : ℕ) → Alone (wiringOf feed room)
 unfolding wiringOf wiringFavouring wiringWith
 wiring-turned feed room =

@@ -78,7 +78,7 @@ module _ (map : List ℕ) (job : ℕ) (earlier : List Pin) (next number : ℕ) (
           rest = turned ∙ choose-yes _ _ f ∙ rw (e, d);
         }
 
--- The part that the code lends has the bytes of the record.
+-- The bytes that the code lends for record `number`.
 abbrev pub lentAt : List ℕ → ℕ → List ℕ
 lentAt map number = take (number * recordSize + recordSize - number * recordSize) (drop (number * recordSize) map)
 

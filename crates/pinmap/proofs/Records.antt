@@ -67,7 +67,7 @@ record-written part job next earlier n b f =
     ∙ ap (λ (l : List ℕ). putAt l 8 (p .y)) (written-read part 4 b (omega arith))
     ∙ written-read part 8 b (omega arith)
 
--- A list that is written out is one of bytes, byte by byte.
+-- A list written out, each entry below 256.
 data Made : List ℕ → Type 0 where
   none : Made []
   then : {a : ℕ} {m : List ℕ} → a < 256 → Made m → Made (a ∷ m)

@@ -60,7 +60,7 @@ empty-written : mapOf 7 noPins ≡ []
 unfolding mapOf mapFrom pinBytes
 empty-written = refl
 
--- 13 at a length that is odd, at 11, and at 396.
+-- 13 at the lengths 1, 11 and 396.
 lengths : (readMap (7 ∷ []) 7 ≡ refusedBy MapLength) × (readMap (replicate 11 0) 7 ≡ refusedBy MapLength) × (readMap (replicate 396 0) 7 ≡ refusedBy MapLength)
 unfolding readMap wrongLength either choose
 lengths = (refl, refl, refl)

@@ -95,7 +95,7 @@ module _ (job : ℕ) (l : List Pin) (i : ℕ) where
 
 -- ---- how long a map is
 
--- A pin has no bytes or those of a whole record.
+-- A pin's bytes are a multiple of twelve.
 pin-whole : (job pin : ℕ) (q : Pin) → length (pinBytes job pin q) % recordSize ≡ 0
 unfolding pinBytes recordBytes
 pin-whole job pin q = by-stand (q .stand)

@@ -28,7 +28,7 @@ use Rattle.rows.proofs.MapRows.{mapRows}
 abbrev pub namingRows : Look → List Row
 namingRows l = given (l .broken) DeskBroken ∷ given (seatAbove l) SeatAbove ∷ given (not (l .opened)) NotOpen ∷ []
 
--- The desk can take a job at a seat: 28, 1, 3, 4, 5.
+-- Whether the desk can take a job at a seat: 28, 1, 3, 4, 5.
 abbrev pub takingRows : Look → ℕ → List Row
 takingRows l job =
     given (l .broken) DeskBroken

@@ -43,7 +43,7 @@ unfolding saidByEach both either choose same endOf beforeFirst pieces nonEmpty w
     isPlacing placeCall callOf isSkipped saidIn isLong saidBy
 each-call = refl
 
--- What is no call: signs where none may stand, numbers out of range, words missing or over, odd hex digits, lists with a gap.
+-- What is no call: signs where none may stand, numbers out of range, words missing, over or unknown, tabs, wrong or odd hex digits, lists with a gap.
 pub no-calls :
     saidByEach
     ("place 0 1 +5 0" ∷ "place 0 1 - 0" ∷ "place 0 1 --5 0" ∷ "place -0 1 5 0"

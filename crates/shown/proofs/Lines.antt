@@ -1,4 +1,4 @@
--- Lines printed one by one come to the text of a list, and pins counted one by one to their number. Assumes nothing.
+-- Lines printed one by one come to the text of a list, pins counted one by one to their number, and the parts of an answer to the answer. Assumes nothing.
 use mathlib.Core.Path.{_≡_, sym, _∙_, ap}
 use mathlib.Core.Bool.{true, false}
 use mathlib.Core.List.{List, [], _∷_, _++_, append-assoc, append-nil}

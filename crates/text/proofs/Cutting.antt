@@ -1,4 +1,4 @@
--- Words found one after another in a line are the words that it is cut into. Assumes nothing.
+-- Words found one after another in a line are the words that it is cut into; and texts compared byte by byte. Assumes nothing.
 use mathlib.Core.Path.{_≡_, refl, sym, _∙_, ap}
 use mathlib.Core.Bool.{Bool, true, false}
 use mathlib.Core.List.{List, [], _∷_}

@@ -32,7 +32,7 @@ digits-small : (k n : ℕ) → n < 10 → (48 + n) ∷ [] ≡ digits (suc k) n
 unfolding digits choose
 digits-small k n h = rw (lt-ltb n 10 h)
 
--- Room for more digits than a number has changes nothing.
+-- Room for one digit more changes nothing: one step, by whether the number is below ten.
 more-by : (k n : ℕ) → ((n / 10 < 10 ^ k) → digits k (n / 10) ≡ digits (suc k) (n / 10)) → n < 10 ^ suc k → (10 ≤ n) ⊎ (n < 10)
     → digits (suc k) n ≡ digits (suc (suc k)) n
 more-by k n ih h (inl s) =

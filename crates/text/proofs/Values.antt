@@ -222,7 +222,7 @@ module _ (w : List ℕ) (k : ℕ) where
       few (a ∷ []) e = refl
       few (a ∷ b ∷ r) e = absurd (omega arith)
 
--- A minus stands only before a word that is not empty.
+-- A word with a minus is not empty.
 pub minus-some : (w : List ℕ) → hasMinus w ≡ true → 0 < length w
 unfolding hasMinus
 minus-some [] h = let z : _≡_ {A = ℕ} 0 1 = cc in absurd (omega arith)
@@ -276,7 +276,7 @@ module _ (w : List ℕ) where
   unfolding isMap either both
   map-empty h k = rw (h, le-ltb 0 (length w) (omega arith))
 
-  -- nor is one of more than 8,400 hex digits;
+  -- nor is one of more than 8,400 bytes;
   pub map-long : same w noneWord ≡ false → mostPairs * 2 < length w → false ≡ isMap w
   unfolding isMap either both
   map-long h k = rw (h, lt-ltb 0 (length w) (omega arith), lt-leb (length w) (mostPairs * 2) k)
@@ -374,7 +374,7 @@ judged-end count =
 pub to-pos : (n : ℕ) → n ≤ mostAbove → toZ w32 n ≡ pos n
 to-pos n h = rw (lt-ltb n 2147483648 (omega arith))
 
--- What follows the first byte of a word is as long as the word is, but for that byte.
+-- One byte fewer than a word has is all that follows its first byte.
 pub rest-whole : (w : List ℕ) → take (length w - 1) (drop 1 w) ≡ drop 1 w
 rest-whole w = take-all (length w - 1) (drop 1 w) (omega (arith, length-drop 1 w))
 

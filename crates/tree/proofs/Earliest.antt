@@ -40,7 +40,7 @@ pub record Earliest (key : ℕ → ℕ → ℕ) (reached left : List ℕ) (r : R
   pub to : Among (r .far) left
   pub least : (a b : ℕ) → Among a reached → Among b left → keyOf key r ≤ key a b
 
--- Only one run is the earliest, where no reached pin is left.
+-- Only one run is the earliest, where no pin is both reached and left.
 pub one-earliest : {feed : List Spot} {key : ℕ → ℕ → ℕ} {reached left : List ℕ} → Keyed feed key
     → ((a : ℕ) → Among a reached → a < mostPins) → ((a : ℕ) → Among a left → a < mostPins) → ((a : ℕ) → Among a reached → Among a left → ⊥)
     → (r s : Run) → Earliest key reached left r → Earliest key reached left s → r ≡ s

@@ -38,7 +38,7 @@ module _ (f : ℕ) (left : List ℕ) (runs : List Run) (root : Rooted f left run
   first-near : 0 < n → runAt runs 0 .near ≡ f
   first-near l = ⊎-elim (λ e. e) (λ z. absurd (omega (arith, z .1))) (root .near-reached 0 l)
 
-  -- The near pin of a run is reached before the run: it is the first pin, or the far pin of an earlier run.
+  -- The near pin of run r is reached before the run, as number `reachedNear`.
   near-cases : (r : ℕ) → r < n → (reachedNear runs r ≤ r) × (reachedPin runs (reachedNear runs r) ≡ runAt runs r .near)
   unfolding reachedNear reachedPin
   near-cases r l = ⊎-elim at-first at-later (root .near-reached r l)

@@ -174,7 +174,7 @@ module _ {feed : List Spot} {key : ℕ → ℕ → ℕ} {pins : List ℕ} {runs 
       go (spared w) = inl w
       go (used x y d u v) = end x y d u
 
-  -- None has a way to both.
+  -- Its ends have none to each other.
   facts-two : (r : Run) (rest : List Run) → Out r runs rest → Way rest (r .near) (r .far) → ⊥
   facts-two r rest o w = differ (side-far (out-in o)) (side-near (out-in o)) (sym (still o w))
 

@@ -82,12 +82,12 @@ in-rest top (later h) = inr h
 in-rest (under o) (first e) = inr (first e)
 in-rest (under o) (later h) = ⊎-elim (λ e. inl e) (λ k. inr (later k)) (in-rest o h)
 
--- Any run among some can be taken out.
+-- A run taken out of some, and the rest.
 pub record Taken-out (r : Run) (l : List Run) : Type 0 where
   pub rest : List Run
   pub out : Out r l rest
 
--- So it is for every run that stands there.
+-- Any run that stands among some can be taken out.
 pub take-out : {r : Run} {l : List Run} → Among r l → Taken-out r l
 take-out {r} (first {b = q} {l = l} e) = record { rest = l; out = at (sym e) }
   where

@@ -1,4 +1,4 @@
--- The runs of the boards worked by hand, W1 to W8, in the order in which they are taken; computed from the definition. Assumes nothing.
+-- The runs of the boards worked by hand, W1 to W8, in the order in which they are taken; computed from the definition; no pins; boxes that touch. Assumes nothing.
 use mathlib.Core.Path.{_≡_, refl}
 use mathlib.Core.Bool.{true, false}
 use mathlib.Core.List.{List, [], _∷_, map}

@@ -145,7 +145,7 @@ is-apart : (b : Bool) (c a : ℕ) → T (on b (side c a)) → 0 < gap c a
 is-apart true c a t = let l = is-more c a t in omega (arith, gap-up c a (omega arith))
 is-apart false c a t = let l = is-less c a t in omega (arith, gap-down c a (omega arith))
 
--- On one side of c two numbers are as far apart as their gaps from c are.
+-- Above c two numbers are as far apart as their gaps from c are.
 shift-up : (c a b g h : ℕ) → g + c ≡ a → h + c ≡ b → gap a b ≡ gap g h
 unfolding gap
 shift-up c a b g h e f = omega arith

@@ -39,7 +39,7 @@ same-near : (p q : Place) → samePlace p q ≡ true → tooNear p q ≡ true
 unfolding tooNear samePlace
 same-near p q e = both-of (same-closer (p .x) (q .x) (both-left _ _ e)) (same-closer (p .y) (q .y) (both-right _ _ e))
 
--- Two pins that are there at one place meet.
+-- Two pins that are there at one place are too near.
 same-spots : (s t : Spot) → present s ≡ true → present t ≡ true → samePlace (placeOf s) (placeOf t) ≡ true → spotsTooNear s t ≡ true
 unfolding spotsTooNear
 same-spots Absent t a b e = absurd (opposite a refl)

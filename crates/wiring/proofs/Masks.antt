@@ -22,7 +22,7 @@ isUpper Straight = false
 isUpper Lower = false
 isUpper Upper = true
 
--- How the runs of a choice bend.
+-- Whether run r of a choice bends upwards.
 abbrev pub bends : List Shape → ℕ → Bool
 bends [] r = false
 bends (s ∷ c) zero = isUpper s

@@ -46,7 +46,7 @@ own-place-refused = refl
 abbrev pub opened : ℕ → List Pin → ℕ → Seat
 opened job l n = record { opened = true; job = job; pins = drawn l; standing = n }
 
--- A desk with these first seats, the others closed, and these records.
+-- A desk with these first seats, the others closed, these records, and so many said to be in use.
 abbrev pub deskOf : List Seat → List Record → ℕ → Desk
 deskOf l m n = record { seats = padded mostSeats closedSeat l; journal = filled m; used = n }
 
@@ -66,7 +66,7 @@ takenBack = recorded 0 (placed 1 (place (pos 2) (pos 2)))
 abbrev pub whole : Desk
 whole = deskOf (opened 7 (here ∷ []) 1 ∷ []) (stands ∷ takenBack ∷ []) 2
 
--- It is sound, and each of these is broken: job 0; a repeated job; a closed seat with a record; a pin outside the board; two pins at one place;
+-- Broken desks: job 0; a repeated job; a closed seat with a record; a pin outside the board; two pins at one place;
 -- a standing edit that could not have been made; a taken-back one that could not be redone; 257 used records; a record of seat 8; more
 -- standing edits than records.
 abbrev pub broken : List Desk
