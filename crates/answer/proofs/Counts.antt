@@ -9,8 +9,8 @@ use lib.IntN.{ℤ}
 use lib.Dec.{eqb}
 use lib.ListN.{length, take, drop}
 use lib.Seq.{sets-eq, take-at}
-use Rattle.refusal.specs.Tests.{both, choose}
-use Rattle.refusal.proofs.Tests.{both-left, both-right}
+use Rattle.basics.specs.Tests.{both, choose}
+use Rattle.basics.proofs.Tests.{both-left, both-right}
 use Rattle.script.specs.declared.Said.{Said}
 use Rattle.text.specs.Text.{text, same, over}
 use Rattle.text.specs.Numbers.{mostNumber, mostJob, mostPairs, mostNumbers, noneWord, isNumber, listed, isList, bytesOf, isMap}

@@ -6,8 +6,8 @@ use Prim.Native.Nat.{ℕ, _≤_}
 use native.Mathlib.Omega.{arith}
 use Rattle.refusal.specs.Refusals.{accepted}
 use Rattle.refusal.specs.declared.Verdict.{Verdict}
-use Rattle.refusal.proofs.Tests.{choose-yes, choose-no}
-use Rattle.feed.specs.declared.Spot.{Spot}
+use Rattle.basics.proofs.Tests.{choose-yes, choose-no}
+use Rattle.board.specs.declared.Spot.{Spot}
 use Rattle.drawing.specs.Pins.{feedOf}
 use Rattle.journal.specs.Journal.{mostRecords}
 use Rattle.seats.specs.Seats.{takenBackCount}
@@ -19,7 +19,7 @@ use Rattle.text.specs.Text.{answerBytes, Holds}
 use Rattle.desk.specs.Refusals.{turnedNaming, turnedClosing, verdictOf}
 use Rattle.desk.proofs.Sound.{used-within}
 use Rattle.desk.proofs.Found.{foundAt, close-answer, close-there, sound-there, same-there}
-use Rattle.script.specs.Answers.{mostLineBytes, verdictLine, closedLine}
+use Rattle.printed.specs.Answers.{mostLineBytes, verdictLine, closedLine}
 use Rattle.shown.specs.Shown.{drawnText}
 use Rattle.shown.proofs.Lines.{held}
 use Rattle.answer.specs.Answered.{isNotOpen, lookText, seatText}

@@ -6,7 +6,7 @@ use Prim.Native.Nat.{ℕ, zero, suc, _≤_}
 use native.Mathlib.Omega.{arith}
 use lib.IntN.{ℤ}
 use lib.ListN.{take, replicate}
-use Rattle.refusal.specs.Tests.{choose}
+use Rattle.basics.specs.Tests.{choose}
 use Rattle.refusal.specs.Refusals.{accepted}
 use Rattle.wiring.specs.declared.Laid.{Laid}
 use Rattle.bare.specs.Bare.{bareOf}
@@ -18,7 +18,7 @@ use Rattle.desk.specs.Calls.{Call}
 use Rattle.desk.specs.Desk.{step, writtenOf, bufferOf, wiredOf}
 use Rattle.text.specs.Text.{answerBytes, Holds}
 use Rattle.script.specs.Said.{mostRoom}
-use Rattle.script.specs.Answers.{mostLineBytes, verdictLine, writtenLine}
+use Rattle.printed.specs.Answers.{mostLineBytes, verdictLine, writtenLine}
 use Rattle.shown.specs.Shown.{laidText}
 use Rattle.shown.proofs.Lines.{held}
 use Rattle.answer.specs.Answered.{callText, lentBytes, writingText}

@@ -3,12 +3,12 @@ use mathlib.Core.Path.{_≡_, refl}
 use mathlib.Core.List.{List, [], _∷_, _++_}
 use Prim.Native.Nat.{ℕ, _+_}
 use Prim.Native.String.{String}
-use Rattle.tree.specs.Bends.{howMany}
-use Rattle.refusal.specs.Tests.{both, either, choose, anyOf, eachOf, noTwo}
+use Rattle.basics.specs.Sums.{howMany}
+use Rattle.basics.specs.Tests.{both, either, choose, anyOf, eachOf, noTwo}
 use Rattle.refusal.specs.Refusals.{accepted, turn}
-use Rattle.grid.specs.Number.{firstByte, secondByte, thirdByte, fourthByte}
-use Rattle.grid.specs.Place.{onBoard, inside, difference, closer, tooNear, sameNumber, samePlace}
-use Rattle.feed.specs.Feeds.{spotsTooNear, crowded, within, tooNearOther}
+use Rattle.pinmap.specs.Number.{firstByte, secondByte, thirdByte, fourthByte}
+use Rattle.board.specs.Place.{onBoard, inside, difference, closer, tooNear, sameNumber, samePlace}
+use Rattle.board.specs.Spots.{spotsTooNear, crowded, within, tooNearOther}
 use Rattle.drawing.specs.Pins.{isThere, sameHeld, samePin, samePins, lawful, spotOf, feedOf}
 use Rattle.drawing.specs.Edits.{movedPin, made, unmade, standsAt, fits, placeable, movable, makeable, takeable, heldBy}
 use Rattle.pinmap.specs.Record.{recordBytes, pinBytes}
@@ -22,7 +22,7 @@ use Rattle.text.specs.Words.{endOf, beforeFirst, pieces, nonEmpty, wordsOf}
 use Rattle.text.specs.Numbers.{between, valueFrom, isNumber, hasMinus, isCoordinate, signed, isHex, hexValue, allPairs, bytesOf, isMap}
 use Rattle.script.specs.Said.{only, seatCall, pairCall, isOpenCall, openCall, lentCall, isPlacing, placeCall, callOf, isSkipped, saidIn, isLong, saidBy, mapIn, mapSaid, mapGiven}
 use Rattle.text.specs.Digits.{digits, integer, placeText, hexDigit, hex}
-use Rattle.script.specs.Answers.{carriedText, toldLine, hexPart, writtenLine, drawingLine, pinLine, notACallLine}
+use Rattle.printed.specs.Answers.{carriedText, toldLine, hexPart, writtenLine, drawingLine, pinLine, notACallLine}
 use Rattle.shown.specs.Shown.{spotText, pinsText, drawnText}
 use Rattle.answer.specs.Answered.{followed, played, callText, writingText, lookText, seatText, printed, answered}
 

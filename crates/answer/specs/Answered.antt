@@ -5,7 +5,7 @@ use Prim.Native.Nat.{ℕ}
 use lib.Dec.{eqb}
 use lib.IntN.{ℤ}
 use lib.ListN.{replicate}
-use Rattle.refusal.specs.Tests.{choose}
+use Rattle.basics.specs.Tests.{choose}
 use Rattle.refusal.specs.Refusals.{accepted, toldOf}
 use Rattle.refusal.specs.declared.Verdict.{Verdict}
 use Rattle.refusal.specs.declared.Verdict.the-variants.{NotOpen}
@@ -17,7 +17,7 @@ use Rattle.desk.specs.Refusals.{Look, turnedNaming}
 use Rattle.desk.specs.Desk.{lookAt, step, writtenOf, bufferOf, wiredOf}
 use Rattle.script.specs.declared.Said.{Said}
 use Rattle.script.specs.Said.{saidBy, mapGiven, xsGiven, ysGiven}
-use Rattle.script.specs.Answers.{verdictLine, writtenLine, closedLine, notACallLine}
+use Rattle.printed.specs.Answers.{verdictLine, writtenLine, closedLine, notACallLine}
 use Rattle.shown.specs.Shown.{laidText, drawnText}
 
 -- What the desk is after what a line says, with the map of an opening. Writing, wiring and showing leave the desk as it is, and so does

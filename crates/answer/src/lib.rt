@@ -1,13 +1,13 @@
 // One line of a log answered on a desk: the desk that follows, and the text to be printed.
 use desk::Answered;
 use desk::Desk;
+use printed::print_closed;
+use printed::print_not_a_call;
+use printed::print_verdict;
+use printed::print_written;
 use refusal::Verdict;
 use script::MOST_ROOM;
 use script::Said;
-use script::answers::print_closed;
-use script::answers::print_not_a_call;
-use script::answers::print_verdict;
-use script::answers::print_written;
 use shown::print_drawn;
 use shown::print_laid;
 use text::ANSWER_BYTES;
@@ -22,7 +22,7 @@ ghost use Rattle.desk.specs.Desk.{step, wiredOf};
 ghost use Rattle.text.specs.Text.{over, answerBytes, Holds};
 ghost use Rattle.text.specs.Numbers.{mostPairs, mostNumbers};
 ghost use Rattle.script.specs.Said.{mostRoom};
-ghost use Rattle.script.specs.Answers.{verdictLine};
+ghost use Rattle.printed.specs.Answers.{verdictLine};
 ghost use Rattle.shown.specs.Shown.{laidText};
 ghost use Rattle.answer.specs.Answered.{played, callText, lentBytes, writingText, isNotOpen, seatText, answered};
 

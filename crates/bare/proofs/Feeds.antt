@@ -7,11 +7,11 @@ use native.Mathlib.Nat.{not-suc-le-zero, le-of-suc-le-suc}
 use lib.IntN.{ℤ}
 use lib.ListN.{length, getD, set, take, replicate}
 use lib.Seq.{length-take-le, take-all}
-use Rattle.refusal.specs.Lists.{padded}
-use Rattle.refusal.proofs.Lists.{first-more, padded-long, padded-more}
-use Rattle.feed.specs.declared.Spot.{Spot}
-use Rattle.feed.specs.declared.Spot.the-variants.{Absent}
-use Rattle.feed.specs.Feeds.{mostPins}
+use Rattle.basics.specs.Lists.{padded}
+use Rattle.basics.proofs.Lists.{first-more, padded-long, padded-more}
+use Rattle.board.specs.declared.Spot.{Spot}
+use Rattle.board.specs.declared.Spot.the-variants.{Absent}
+use Rattle.board.specs.Spots.{mostPins}
 use Rattle.bare.specs.Bare.{listedPin, spotsOf, feedOfLists}
 
 -- There are as many pins as positions.

@@ -8,12 +8,12 @@ use borrow.Author.Tests.{not-false}
 use lib.IntN.{ℤ}
 use lib.Dec.{eqb, ltb}
 use lib.ListN.{length}
-use Rattle.refusal.specs.Tests.{both, choose}
+use Rattle.basics.specs.Tests.{both, choose}
 use Rattle.refusal.specs.Refusals.{accepted, turn}
 use Rattle.refusal.specs.declared.Verdict.{Verdict}
 use Rattle.refusal.specs.declared.Verdict.the-variants.{Accepted, ListLengths, NoPins, Outside, PlaceTaken, BoxesMeet, RoomTooSmall}
 use Rattle.refusal.proofs.Rows.{Row, given, firstOf, Given, refusalAt, Exactly, exactly, distinct, unlike, miss}
-use Rattle.feed.specs.Feeds.{allWithin, allApart}
+use Rattle.board.specs.Spots.{allWithin, allApart}
 use Rattle.tree.specs.Growth.{keptIf, pinsFrom, pinsOf, runsOf}
 use Rattle.tree.specs.Boxes.{boxesMeet}
 use Rattle.tree.specs.Trees.{none}

@@ -7,13 +7,13 @@ use lib.IntN.{ℤ}
 use lib.Dec.{eqb, ltb}
 use lib.ListN.{length}
 use borrow.Author.Tests.{not-false, eq-eqb, ne-eqb, eqb-true, ltb-false}
-use Rattle.refusal.specs.Tests.{choose}
+use Rattle.basics.specs.Tests.{choose}
 use Rattle.refusal.specs.Refusals.{accepted, turn}
 use Rattle.refusal.proofs.Rows.{passed}
-use Rattle.refusal.proofs.Tests.{either-false, choose-yes, choose-no}
+use Rattle.basics.proofs.Tests.{either-false, choose-yes, choose-no}
 use Rattle.refusal.specs.declared.Verdict.{Verdict}
 use Rattle.refusal.specs.declared.Verdict.the-variants.{Accepted, ListLengths, NoPins, Outside, PlaceTaken}
-use Rattle.feed.specs.Feeds.{mostPins, allWithin, allApart}
+use Rattle.board.specs.Spots.{mostPins, allWithin, allApart}
 use Rattle.wiring.specs.Answer.{turnedAway, wiringOf}
 use Rattle.bare.specs.Bare.{feedOfLists, wrongLengths, bareVerdict, bareOf}
 

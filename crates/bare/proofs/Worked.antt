@@ -3,23 +3,26 @@ use mathlib.Core.Path.{_≡_, refl}
 use mathlib.Core.List.{List, [], _∷_, map}
 use Prim.Native.Nat.{ℕ}
 use lib.ListN.{length}
-use Rattle.refusal.specs.Tests.{both, either, choose, anyOf, eachOf, noTwo}
-use Rattle.refusal.specs.Lists.{padded}
-use Rattle.refusal.specs.Sums.{sum}
+use Rattle.basics.specs.Tests.{both, either, choose, anyOf, eachOf, noTwo}
+use Rattle.basics.specs.Lists.{padded}
+use Rattle.basics.specs.Sums.{sum}
 use Rattle.refusal.specs.Refusals.{accepted, turn}
 use Rattle.refusal.specs.declared.Verdict.the-variants.{Accepted}
-use Rattle.grid.specs.declared.Place.{Place}
-use Rattle.grid.specs.Boards.{boards}
-use Rattle.grid.specs.Place.{difference, larger, sameNumber, onBoard, inside, closer, tooNear, isStraight}
-use Rattle.grid.specs.Weight.{distanceOf, weightOf, pairOf, byPart, byNumber, comesBefore}
-use Rattle.feed.specs.Feeds.{within, spotsTooNear}
+use Rattle.board.specs.declared.Place.{Place}
+use Rattle.board.specs.Boards.{boards}
+use Rattle.board.specs.Place.{difference, larger, sameNumber, onBoard, inside, closer, tooNear, isStraight}
+use Rattle.tree.specs.Weight.{weightOf, pairOf, byPart, byNumber, comesBefore}
+use Rattle.board.specs.Place.{distanceOf}
+use Rattle.board.specs.Spots.{within, spotsTooNear}
 use Rattle.tree.specs.Growth.{pairAt, sooner, keptIf, pinsFrom, without, runsFrom, runsBetween, earliest, earliestOf, nextRun, grown, runsAmong, pinsOf, runsOf}
 use Rattle.tree.specs.Boxes.{belowBoth, under, overlap, boxesShare, isEnd, common, clash}
-use Rattle.tree.specs.Bends.{bent, howMany}
+use Rattle.tree.specs.Bends.{bent}
+use Rattle.basics.specs.Sums.{howMany}
 use Rattle.tree.specs.Trees.{mostRuns}
 use Rattle.copper.specs.declared.Shape.the-variants.{Straight, Lower, Upper}
 use Rattle.copper.specs.Shapes.{lowerCorner, upperCorner, legsOf}
-use Rattle.copper.specs.Length.{sameStep, stepsAcross, stepsUp, smaller, stepsOf, stepsOfAll, different, lengthOf}
+use Rattle.copper.specs.Length.{sameStep, stepsAcross, stepsUp, stepsOf, stepsOfAll, different, lengthOf}
+use Rattle.board.specs.Place.{smaller}
 use Rattle.wiring.specs.declared.RunEntry.{RunEntry}
 use Rattle.wiring.specs.declared.Wiring.{Wiring}
 use Rattle.wiring.specs.Choices.{bentShapes, shapesOf, withShape, withShapes, choicesOf, legsOfChoice, lengthOfChoice, shortest, shortestOf, bestChoice, weighedAt, weighedOf}

@@ -5,15 +5,15 @@ use Prim.Native.Nat.{ℕ}
 use lib.IntN.{ℤ, pos}
 use lib.Dec.{eqb, ltb}
 use lib.ListN.{length, getD}
-use Rattle.refusal.specs.Tests.{either, choose}
-use Rattle.refusal.specs.Lists.{padded}
+use Rattle.basics.specs.Tests.{either, choose}
+use Rattle.basics.specs.Lists.{padded}
 use Rattle.refusal.specs.Refusals.{accepted, turn}
 use Rattle.refusal.specs.declared.Verdict.{Verdict}
 use Rattle.refusal.specs.declared.Verdict.the-variants.{Accepted, ListLengths, NoPins, Outside, PlaceTaken}
-use Rattle.grid.specs.Place.{place}
-use Rattle.feed.specs.declared.Spot.{Spot}
-use Rattle.feed.specs.declared.Spot.the-variants.{Absent, At}
-use Rattle.feed.specs.Feeds.{mostPins, allWithin, allApart}
+use Rattle.board.specs.Place.{place}
+use Rattle.board.specs.declared.Spot.{Spot}
+use Rattle.board.specs.declared.Spot.the-variants.{Absent, At}
+use Rattle.board.specs.Spots.{mostPins, allWithin, allApart}
 use Rattle.wiring.specs.declared.Laid.{Laid}
 use Rattle.wiring.specs.Answer.{turnedAway, wiringOf}
 

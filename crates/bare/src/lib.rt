@@ -1,8 +1,8 @@
 // Bare wiring: lists of x and y as a feed, what is turned away, and the wiring of the rest.
+use board::PINS;
+use board::Place;
+use board::Spot;
 use copper::Leg;
-use feed::PINS;
-use feed::Spot;
-use grid::Place;
 use lent::fill;
 use lent::wiring_of;
 use refusal::Verdict;
@@ -11,7 +11,7 @@ use wiring::Wiring;
 ghost use mathlib.Core.Path.{_≡_};
 ghost use Prim.Native.Nat.{_≤_, _<_};
 ghost use lib.ListN.{length};
-ghost use Rattle.feed.specs.Feeds.{mostPins};
+ghost use Rattle.board.specs.Spots.{mostPins};
 ghost use Rattle.lent.specs.Lent.{filledWith};
 ghost use Rattle.bare.specs.Bare.{listedPin, feedOfLists, wrongLengths, bareOf};
 
@@ -62,10 +62,10 @@ pub fn wire_bare(xs: &[i32], ys: &[i32], room: usize) -> Laid
         return wiring::refused(Verdict::NoPins);
     }
     let feed = feed_of_lists(xs, ys);
-    if !feed::are_within(feed) {
+    if !board::are_within(feed) {
         return wiring::refused(Verdict::Outside);
     }
-    if !feed::are_apart(feed) {
+    if !board::are_apart(feed) {
         return wiring::refused(Verdict::PlaceTaken);
     }
     wiring::wire_feed(feed, room)

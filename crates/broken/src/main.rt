@@ -1,12 +1,12 @@
 // Tries 28 on desks broken by hand, one or more for each way that the rules list: every call on each of them, on the whole desk that they were made from, and on it with its unused parts changed.
+use board::LIMIT;
+use board::Place;
 use desk::Answered;
 use desk::Desk;
 use drawing::Edit;
 use drawing::Held;
 use drawing::Pin;
 use drawing::Stand;
-use grid::LIMIT;
-use grid::Place;
 use journal::RECORDS;
 use journal::Record;
 use pinmap::MOST_BYTES;

@@ -7,7 +7,7 @@ use native.Mathlib.Omega.{arith}
 use borrow.Author.Tests.{not-false}
 use lib.ListN.{length, getD}
 use Rattle.refusal.proofs.Rows.{NoneHolds}
-use Rattle.feed.specs.Feeds.{mostPins}
+use Rattle.board.specs.Spots.{mostPins}
 use Rattle.drawing.specs.Edits.{pinOf}
 use Rattle.journal.specs.Journal.{mostRecords, noEdit}
 use Rattle.seats.specs.declared.Seat.{Seat}

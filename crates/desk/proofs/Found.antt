@@ -7,14 +7,14 @@ use native.Mathlib.Omega.{arith}
 use borrow.Author.Tests.{eqb-false, leb-false, not-false}
 use lib.Dec.{leb}
 use lib.ListN.{length}
-use Rattle.refusal.specs.Tests.{both, choose}
+use Rattle.basics.specs.Tests.{both, choose}
 use Rattle.refusal.specs.Refusals.{accepted, turn}
 use Rattle.refusal.specs.declared.Verdict.{Verdict}
 use Rattle.refusal.specs.declared.Verdict.the-variants.{Accepted, JournalFull}
-use Rattle.refusal.proofs.Tests.{choose-yes, choose-no}
+use Rattle.basics.proofs.Tests.{choose-yes, choose-no}
 use Rattle.refusal.proofs.Rows.{Row, firstOf, NoneHolds, distinct, unlike, behind}
-use Rattle.grid.specs.declared.Place.{Place}
-use Rattle.feed.specs.Feeds.{mostPins}
+use Rattle.board.specs.declared.Place.{Place}
+use Rattle.board.specs.Spots.{mostPins}
 use Rattle.pinmap.specs.declared.Reading.{Reading}
 use Rattle.pinmap.specs.Map.{readMap}
 use Rattle.journal.specs.Journal.{mostSeats, own}

@@ -9,8 +9,8 @@ use lib.ListN.{length, take, drop, getD}
 use lib.Seq.{drop-cons, length-take-le}
 use Rattle.refusal.specs.Refusals.{accepted}
 use Rattle.refusal.proofs.Rows.{NoneHolds}
-use Rattle.refusal.proofs.Tests.{both-left, both-right, choose-yes, choose-no}
-use Rattle.feed.specs.Feeds.{mostPins}
+use Rattle.basics.proofs.Tests.{both-left, both-right, choose-yes, choose-no}
+use Rattle.board.specs.Spots.{mostPins}
 use Rattle.drawing.specs.Pins.{lawful, feedOf}
 use Rattle.drawing.proofs.Rules.{feed-long}
 use Rattle.drawing.specs.Edits.{pinOf, makeable, made, takeable, unmade}

@@ -5,7 +5,7 @@ use mathlib.Core.List.{List, []}
 use Prim.Native.Nat.{ℕ}
 use borrow.Author.Tests.{leb-false, not-false}
 use lib.Dec.{leb}
-use Rattle.refusal.specs.Tests.{choose}
+use Rattle.basics.specs.Tests.{choose}
 use Rattle.refusal.specs.Refusals.{accepted, turn}
 use Rattle.drawing.specs.Pins.{lawful}
 use Rattle.pinmap.specs.declared.Writing.{Writing}

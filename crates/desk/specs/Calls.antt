@@ -1,7 +1,7 @@
 -- The calls that take a desk, as a type: each with the seat that it names and all that it states.
 use mathlib.Core.List.{List}
 use Prim.Native.Nat.{ℕ}
-use Rattle.grid.specs.declared.Place.{Place}
+use Rattle.board.specs.declared.Place.{Place}
 
 -- Opening from a pin map, closing, placing, moving and removing a pin, undo, redo, writing a map into lent room (bytes), and wiring into
 -- lent room (legs).

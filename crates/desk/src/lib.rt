@@ -1,7 +1,7 @@
 // The desk: its seats and its journal, whether it is broken, and the calls that take it as it stands and hand back the desk that follows.
+use board::Place;
 use copper::Leg;
 use drawing::Edit;
-use grid::Place;
 use journal::RECORDS;
 use journal::Record;
 use journal::SEATS;
@@ -13,7 +13,7 @@ use wiring::Wiring;
 ghost use mathlib.Core.Path.{_≡_};
 ghost use mathlib.Core.Bool.{true};
 ghost use Prim.Native.Nat.{_<_, _≤_};
-ghost use Rattle.feed.specs.Feeds.{mostPins};
+ghost use Rattle.board.specs.Spots.{mostPins};
 ghost use Rattle.drawing.specs.Edits.{pinOf};
 ghost use Rattle.journal.specs.Journal.{mostSeats, mostRecords, recorded};
 ghost use Rattle.rows.specs.Found.{foundIn};

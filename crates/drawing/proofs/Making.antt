@@ -8,22 +8,22 @@ use Prim.Native.Nat.{ℕ, _<_, _≤_}
 use borrow.Author.Tests.{not-true, ltb-true, lt-ltb}
 use lib.ListN.{length, getD, set}
 use lib.Seq.{getD-set-same, set-set, set-getD, set-out}
-use Rattle.refusal.proofs.Tests.{both-left, both-right, both-of}
-use Rattle.grid.specs.declared.Place.{Place}
-use Rattle.grid.specs.Place.{inside, samePlace}
-use Rattle.grid.proofs.Flat.{order}
-use Rattle.grid.proofs.Board.{place-same, place-self}
+use Rattle.basics.proofs.Tests.{both-left, both-right, both-of}
+use Rattle.board.specs.declared.Place.{Place}
+use Rattle.board.specs.Place.{inside, samePlace}
+use Rattle.board.proofs.Flat.{order}
+use Rattle.board.proofs.Board.{place-same, place-self}
 use Rattle.drawing.specs.declared.Held.{Held}
 use Rattle.drawing.specs.declared.Stand.{Stand}
 use Rattle.drawing.specs.declared.Stand.the-variants.{Absent, There}
 use Rattle.drawing.specs.declared.Pin.{Pin}
 use Rattle.drawing.specs.declared.Edit.{Edit}
 use Rattle.drawing.specs.declared.Edit.the-variants.{Placed, Moved, Removed}
-use Rattle.feed.specs.declared.Spot.{Spot}
-use Rattle.feed.specs.declared.Spot.the-variants as spot
-use Rattle.feed.specs.Feeds.{mostPins, within, tooNearOther, crowded}
-use Rattle.feed.specs.Settled.{settled}
-use Rattle.feed.proofs.Rules.{absent-clear}
+use Rattle.board.specs.declared.Spot.{Spot}
+use Rattle.board.specs.declared.Spot.the-variants as spot
+use Rattle.board.specs.Spots.{mostPins, within, tooNearOther, crowded}
+use Rattle.board.specs.Settled.{settled}
+use Rattle.board.proofs.Rules.{absent-clear}
 use Rattle.drawing.specs.Pins.{absent, there, holding, thereIn, isThere, samePin, samePins, spotOf, feedOf, lawful}
 use Rattle.drawing.specs.Edits.{pinOf, movedPin, made, unmade, standsIn, standsAt, fits, placeable, movable, makeable, takeable}
 use Rattle.drawing.proofs.Rules.{pin-same, pin-self, pins-same, pins-self, one-changed, lawful-set, settled-lawful}

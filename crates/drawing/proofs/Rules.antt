@@ -6,13 +6,13 @@ use Prim.Native.Nat.{ℕ, zero, suc, _<_}
 use native.Mathlib.Omega.{arith}
 use borrow.Author.Tests.{eqb-true, eq-eqb}
 use lib.ListN.{length, getD, set, length-set, length-map, List·getD-map}
-use Rattle.refusal.proofs.Tests.{both-left, both-right, both-of, both-yes}
-use Rattle.refusal.proofs.Anyone.{each-set}
-use Rattle.refusal.specs.Tests.{both}
-use Rattle.grid.proofs.Board.{place-same, place-self}
-use Rattle.feed.specs.Feeds.{mostPins, spotAt, within, tooNearOther, allWithin, allApart}
-use Rattle.feed.specs.Settled.{settled}
-use Rattle.feed.proofs.Rules.{apart-set, all-settled, settled-set}
+use Rattle.basics.proofs.Tests.{both-left, both-right, both-of, both-yes}
+use Rattle.basics.proofs.Anyone.{each-set}
+use Rattle.basics.specs.Tests.{both}
+use Rattle.board.proofs.Board.{place-same, place-self}
+use Rattle.board.specs.Spots.{mostPins, spotAt, within, tooNearOther, allWithin, allApart}
+use Rattle.board.specs.Settled.{settled}
+use Rattle.board.proofs.Rules.{apart-set, all-settled, settled-set}
 use Rattle.drawing.specs.declared.Held.{Held}
 use Rattle.drawing.specs.declared.Stand.{Stand}
 use Rattle.drawing.specs.declared.Stand.the-variants.{Absent, There}

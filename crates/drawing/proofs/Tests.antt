@@ -7,14 +7,14 @@ use native.Mathlib.Omega.{arith}
 use borrow.Author.Tests.{lt-ltb, le-ltb}
 use lib.Dec.{ltb}
 use lib.ListN.{length, getD}
-use Rattle.refusal.proofs.Tests.{opposite, fails-if, both-no, both-yes}
-use Rattle.grid.specs.declared.Place.{Place}
+use Rattle.basics.proofs.Tests.{opposite, fails-if, both-no, both-yes}
+use Rattle.board.specs.declared.Place.{Place}
 use Rattle.drawing.specs.declared.Held.{Held}
 use Rattle.drawing.specs.declared.Pin.{Pin}
 use Rattle.drawing.specs.declared.Edit.{Edit}
 use Rattle.drawing.specs.declared.Edit.the-variants.{Placed, Moved, Removed}
-use Rattle.feed.specs.Feeds.{mostPins}
-use Rattle.feed.specs.Settled.{settled}
+use Rattle.board.specs.Spots.{mostPins}
+use Rattle.board.specs.Settled.{settled}
 use Rattle.drawing.specs.Pins.{absent, there, samePin, samePins, feedOf, lawful}
 use Rattle.drawing.specs.Edits.{pinOf, made, unmade, placeable, movable, makeable, takeable}
 use Rattle.drawing.proofs.Rules.{lawful-parts, lawful-settled}

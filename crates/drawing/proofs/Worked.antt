@@ -3,11 +3,11 @@ use mathlib.Core.Path.{_≡_, refl}
 use mathlib.Core.Bool.{true, false}
 use mathlib.Core.List.{List, [], _∷_, map}
 use lib.IntN.{pos, negsuc}
-use Rattle.refusal.specs.Tests.{both, either, anyOf, eachOf, noTwo}
-use Rattle.grid.specs.Place.{place, onBoard, inside, difference, closer, tooNear, sameNumber, samePlace}
+use Rattle.basics.specs.Tests.{both, either, anyOf, eachOf, noTwo}
+use Rattle.board.specs.Place.{place, onBoard, inside, difference, closer, tooNear, sameNumber, samePlace}
 use Rattle.drawing.specs.declared.Pin.{Pin}
 use Rattle.drawing.specs.declared.Edit.the-variants.{Placed, Moved, Removed}
-use Rattle.feed.specs.Feeds.{spotsTooNear, crowded, within, tooNearOther}
+use Rattle.board.specs.Spots.{spotsTooNear, crowded, within, tooNearOther}
 use Rattle.drawing.specs.Pins.{holding, isThere, sameHeld, samePin, samePins, lawful, spotOf, feedOf, noPins}
 use Rattle.drawing.specs.Edits.{movedPin, made, unmade, standsAt, fits, placeable, movable, makeable, takeable}
 

@@ -4,17 +4,17 @@ use mathlib.Core.List.{List}
 use Prim.Native.Nat.{ℕ}
 use lib.Dec.{ltb}
 use lib.ListN.{getD, set}
-use Rattle.refusal.specs.Tests.{both}
-use Rattle.grid.specs.declared.Place.{Place}
-use Rattle.grid.specs.Place.{inside, samePlace, middle}
+use Rattle.basics.specs.Tests.{both}
+use Rattle.board.specs.declared.Place.{Place}
+use Rattle.board.specs.Place.{inside, samePlace, middle}
 use Rattle.drawing.specs.declared.Held.{Held}
 use Rattle.drawing.specs.declared.Stand.{Stand}
 use Rattle.drawing.specs.declared.Stand.the-variants.{Absent, There}
 use Rattle.drawing.specs.declared.Pin.{Pin}
 use Rattle.drawing.specs.declared.Edit.{Edit}
 use Rattle.drawing.specs.declared.Edit.the-variants.{Placed, Moved, Removed}
-use Rattle.feed.specs.declared.Spot.{Spot}
-use Rattle.feed.specs.Feeds.{mostPins, crowded}
+use Rattle.board.specs.declared.Spot.{Spot}
+use Rattle.board.specs.Spots.{mostPins, crowded}
 use Rattle.drawing.specs.Pins.{absent, there, holding, isThere, samePin, samePins, feedOf, lawful}
 
 -- The number of the pin that an edit names.

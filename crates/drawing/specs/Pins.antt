@@ -3,16 +3,16 @@ use mathlib.Core.Bool.{Bool, true, false}
 use mathlib.Core.List.{List, [], _∷_, map}
 use lib.Dec.{eqb}
 use lib.ListN.{length, replicate}
-use Rattle.refusal.specs.Tests.{both}
-use Rattle.grid.specs.declared.Place.{Place}
-use Rattle.feed.specs.declared.Spot.{Spot}
-use Rattle.feed.specs.declared.Spot.the-variants as spot
-use Rattle.grid.specs.Place.{samePlace}
+use Rattle.basics.specs.Tests.{both}
+use Rattle.board.specs.declared.Place.{Place}
+use Rattle.board.specs.declared.Spot.{Spot}
+use Rattle.board.specs.declared.Spot.the-variants as spot
+use Rattle.board.specs.Place.{samePlace}
 use Rattle.drawing.specs.declared.Held.{Held}
 use Rattle.drawing.specs.declared.Stand.{Stand}
 use Rattle.drawing.specs.declared.Stand.the-variants.{Absent, There}
 use Rattle.drawing.specs.declared.Pin.{Pin}
-use Rattle.feed.specs.Feeds.{mostPins, allWithin, allApart}
+use Rattle.board.specs.Spots.{mostPins, allWithin, allApart}
 
 -- A pin that is absent holds nothing else.
 abbrev pub absent : Pin

@@ -1,11 +1,11 @@
 // Drawings: the pins of one, the feed that they are, the rules that they keep, and the edits that are made on them and taken back.
-use feed::PINS;
-use feed::Spot;
-use grid::Place;
+use board::PINS;
+use board::Place;
+use board::Spot;
 ghost use mathlib.Core.Path.{_≡_};
 ghost use mathlib.Core.Bool.{true};
 ghost use Prim.Native.Nat.{_<_};
-ghost use Rattle.feed.specs.Feeds.{mostPins, crowded};
+ghost use Rattle.board.specs.Spots.{mostPins, crowded};
 ghost use Rattle.drawing.specs.Pins.{absent, there, isThere, sameHeld, samePin, spotOf, feedOf, lawful, noPins};
 ghost use Rattle.drawing.specs.Edits.{pinOf, movedPin, standsAt, fits, placeable, movable, makeable, made, unmade, takeable, heldBy, placed, moved, removed};
 
@@ -81,7 +81,7 @@ fn same_held(a: Held, b: Held) -> bool
 {
     let p = a.place;
     let q = b.place;
-    grid::same_place(p, q)
+    board::same_place(p, q)
 }
 
 // Whether two pins are the same: both absent, or both there and holding the same.
@@ -135,10 +135,10 @@ pub fn keep_rules(pins: [Pin; PINS]) -> bool
     ensures { λ r. ⌜ r ≡ lawful pins ⌝ }
 {
     let spots = feed_of(pins);
-    if !feed::are_within(spots) {
+    if !board::are_within(spots) {
         return false;
     }
-    feed::are_apart(spots)
+    board::are_apart(spots)
 }
 
 // Whether a pin other than `pin` stands too near to a place.
@@ -147,7 +147,7 @@ pub fn is_crowded(pins: [Pin; PINS], pin: usize, at: Place) -> bool
     ensures { λ r. ⌜ r ≡ crowded (feedOf pins) pin at ⌝ }
 {
     let spots = feed_of(pins);
-    feed::is_crowded(spots, pin, at)
+    board::is_crowded(spots, pin, at)
 }
 
 // The number of the pin that an edit names.
@@ -219,10 +219,10 @@ fn can_stand(spots: [Spot; PINS], number: usize, at: Place) -> bool
     requires { ⌜ number < mostPins ⌝ }
     ensures { λ r. ⌜ r ≡ fits spots number at ⌝ }
 {
-    if !grid::is_inside(at) {
+    if !board::is_inside(at) {
         return false;
     }
-    !feed::is_crowded(spots, number, at)
+    !board::is_crowded(spots, number, at)
 }
 
 // Whether a pin of this number could be placed among these spots.
@@ -245,7 +245,7 @@ fn can_move(pin: Pin, spots: [Spot; PINS], number: usize, from: Place, to: Place
     if !stands_at(pin, from) {
         return false;
     }
-    if grid::same_place(from, to) {
+    if board::same_place(from, to) {
         return false;
     }
     can_stand(spots, number, to)
@@ -260,7 +260,7 @@ pub fn stands_at(pin: Pin, at: Place) -> bool
         Stand::Absent => false,
         Stand::There(h) => {
             let p = h.place;
-            grid::same_place(p, at)
+            board::same_place(p, at)
         }
     }
 }
@@ -300,7 +300,7 @@ fn could_have_been_made(pins: [Pin; PINS], before: [Pin; PINS], edit: Edit) -> b
     if !can_be_made(before, spots, edit) {
         return false;
     }
-    if !feed::is_settled(spots, number) {
+    if !board::is_settled(spots, number) {
         return false;
     }
     let after = make(before, edit);
@@ -329,7 +329,7 @@ fn held_by(pin: Pin) -> Held
     let s = pin.stand;
     match s {
         Stand::Absent => Held {
-            place: grid::middle(),
+            place: board::middle(),
         },
         Stand::There(h) => h,
     }

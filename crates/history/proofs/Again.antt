@@ -8,7 +8,7 @@ use native.Mathlib.Omega.{arith}
 use borrow.Author.Tests.{not-false, ne-eqb, lt-leb}
 use lib.ListN.{length, getD, set}
 use lib.Seq.{getD-set-same, set-set, set-getD}
-use Rattle.refusal.specs.Tests.{choose}
+use Rattle.basics.specs.Tests.{choose}
 use Rattle.refusal.specs.Refusals.{accepted, turn}
 use Rattle.refusal.specs.declared.Verdict.the-variants.{Accepted}
 use Rattle.drawing.specs.declared.Pin.{Pin}

@@ -6,9 +6,9 @@ use mathlib.Core.List.{List, [], _∷_}
 use Prim.Native.Nat.{ℕ, _<_}
 use native.Mathlib.Omega.{arith}
 use lib.ListN.{length-replicate, getD-replicate}
-use Rattle.refusal.specs.Tests.{eachOf}
+use Rattle.basics.specs.Tests.{eachOf}
 use Rattle.journal.specs.Journal.{mostSeats, mostRecords, blank, own}
-use Rattle.refusal.specs.Sums.{sum}
+use Rattle.basics.specs.Sums.{sum}
 use Rattle.desk.specs.declared.Desk.{Desk}
 use Rattle.desk.specs.Calls.{Call}
 use Rattle.desk.specs.Desk.{closedSeat, noSeat, seatOf, editsOf, standingOf, takenBackOf, sound, step, emptyDesk}

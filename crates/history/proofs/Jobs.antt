@@ -6,9 +6,9 @@ use Prim.Native.Nat.{ℕ}
 use borrow.Author.Tests.{eqb-true, eqb-false, ne-eqb}
 use lib.Dec.{eqb}
 use lib.ListN.{set}
-use Rattle.refusal.specs.Tests.{both}
-use Rattle.refusal.proofs.Anyone.{none-ever, none-set, two-set}
-use Rattle.refusal.proofs.Tests.{both-none}
+use Rattle.basics.specs.Tests.{both}
+use Rattle.basics.proofs.Anyone.{none-ever, none-set, two-set}
+use Rattle.basics.proofs.Tests.{both-none}
 use Rattle.desk.specs.Refusals.{sameJob, jobAmong}
 use Rattle.desk.specs.Desk.{jobsApart}
 

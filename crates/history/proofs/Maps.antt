@@ -8,10 +8,10 @@ use native.Mathlib.Omega.{arith}
 use borrow.Author.Tests.{not-false, leb-false}
 use lib.ListN.{length, take, drop}
 use lib.Seq.{getD-set-same, take-append-seam, drop-append-seam}
-use Rattle.refusal.specs.Tests.{choose}
+use Rattle.basics.specs.Tests.{choose}
 use Rattle.refusal.specs.Refusals.{accepted, turn}
 use Rattle.refusal.specs.declared.Verdict.the-variants.{Accepted}
-use Rattle.refusal.proofs.Tests.{choose-yes}
+use Rattle.basics.proofs.Tests.{choose-yes}
 use Rattle.refusal.proofs.Rows.{NoneHolds}
 use Rattle.drawing.specs.declared.Pin.{Pin}
 use Rattle.pinmap.specs.Map.{readAs, readMap, mapOf, written}

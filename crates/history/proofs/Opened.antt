@@ -9,9 +9,9 @@ use borrow.Author.Tests.{not-false, eqb-true, eqb-false}
 use lib.Dec.{eqb}
 use lib.ListN.{length, replicate, take, drop, getD, set}
 use lib.Seq.{getD-set-same}
-use Rattle.refusal.specs.Tests.{both, choose}
+use Rattle.basics.specs.Tests.{both, choose}
 use Rattle.refusal.specs.Refusals.{accepted}
-use Rattle.refusal.proofs.Lists.{empty}
+use Rattle.basics.proofs.Lists.{empty}
 use Rattle.drawing.specs.declared.Pin.{Pin}
 use Rattle.drawing.specs.declared.Edit.{Edit}
 use Rattle.pinmap.specs.Map.{readMap}

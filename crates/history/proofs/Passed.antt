@@ -7,18 +7,18 @@ use Prim.Native.Nat.{ℕ, _<_, _≤_}
 use borrow.Author.Tests.{not-false, eqb-false, leb-false, ltb-false}
 use lib.Dec.{leb}
 use lib.ListN.{length}
-use Rattle.refusal.specs.Tests.{both}
+use Rattle.basics.specs.Tests.{both}
 use Rattle.refusal.specs.Refusals.{accepted}
 use Rattle.refusal.specs.declared.Verdict.the-variants.{Accepted}
 use Rattle.refusal.proofs.Rows.{firstOf, NoneHolds, unlike, none-is}
-use Rattle.refusal.proofs.Tests.{either-false}
-use Rattle.grid.specs.declared.Place.{Place}
-use Rattle.grid.specs.Place.{samePlace}
+use Rattle.basics.proofs.Tests.{either-false}
+use Rattle.board.specs.declared.Place.{Place}
+use Rattle.board.specs.Place.{samePlace}
 use Rattle.drawing.specs.declared.Stand.{Stand}
 use Rattle.drawing.specs.declared.Stand.the-variants.{Absent, There}
 use Rattle.drawing.specs.declared.Pin.{Pin}
 use Rattle.drawing.specs.declared.Edit.{Edit}
-use Rattle.feed.specs.Feeds.{mostPins}
+use Rattle.board.specs.Spots.{mostPins}
 use Rattle.drawing.specs.Pins.{there, thereIn, isThere, feedOf}
 use Rattle.drawing.specs.Edits.{heldIn, heldBy, standsIn, standsAt, makeable, placed, moved, removed}
 use Rattle.drawing.proofs.Making.{placed-makeable, moved-makeable, removed-makeable}

@@ -8,12 +8,12 @@ use Prim.Native.Nat.{ℕ, zero, suc, _+_, _*_, _/_, _<_}
 use native.Mathlib.Omega.{arith}
 use borrow.Author.Tests.{not-true}
 use lib.ListN.{length, drop}
-use Rattle.refusal.specs.Tests.{both, choose}
+use Rattle.basics.specs.Tests.{both, choose}
 use Rattle.refusal.specs.Refusals.{accepted}
 use Rattle.refusal.specs.declared.Verdict.{Verdict}
 use Rattle.refusal.specs.declared.Verdict.the-variants.{Accepted, JournalFull, DeskBroken}
 use Rattle.refusal.proofs.Rows.{Row, firstOf, Given, NoneHolds, refusalAt, unlike, distinct, Exactly, exactly, numberOf, unlike-first}
-use Rattle.grid.specs.declared.Place.{Place}
+use Rattle.board.specs.declared.Place.{Place}
 use Rattle.drawing.specs.declared.Pin.{Pin}
 use Rattle.drawing.specs.Pins.{noPins, feedOf}
 use Rattle.pinmap.specs.Record.{recordSize}

@@ -8,10 +8,10 @@ use Prim.Native.Nat.{ℕ, _<_}
 use native.Mathlib.Omega.{arith}
 use lib.ListN.{length, set, length-set, length-replicate}
 use lib.Seq.{getD-set-same, getD-set-other, map-set-same}
-use Rattle.refusal.specs.Tests.{both, either, choose, anyOf, noTwo}
+use Rattle.basics.specs.Tests.{both, either, choose, anyOf, noTwo}
 use Rattle.refusal.specs.Refusals.{accepted}
-use Rattle.refusal.proofs.Lists.{blank-at}
-use Rattle.grid.proofs.Flat.{same-or-not}
+use Rattle.basics.proofs.Lists.{blank-at}
+use Rattle.board.proofs.Flat.{same-or-not}
 use Rattle.drawing.specs.declared.Pin.{Pin}
 use Rattle.drawing.specs.declared.Edit.{Edit}
 use Rattle.drawing.specs.Pins.{lawful}

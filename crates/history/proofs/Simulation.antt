@@ -8,10 +8,10 @@ use Prim.Native.Nat.{ℕ, zero, suc, _+_, _<_, _≤_}
 use native.Mathlib.Omega.{arith}
 use lib.ListN.{length, getD, set, take, drop, length-set, length-map, length-reverse, length-reverseAux, List·getD-map}
 use lib.Seq.{getD-set-same, getD-set-other, ext-getD, take-at, drop-at, getD-at, take-nil, drop-nil, length-take-le}
-use Rattle.refusal.specs.Sums.{sum}
-use Rattle.refusal.specs.Tests.{choose}
-use Rattle.refusal.proofs.Tests.{choose-yes, choose-no}
-use Rattle.grid.proofs.Flat.{same-or-not}
+use Rattle.basics.specs.Sums.{sum}
+use Rattle.basics.specs.Tests.{choose}
+use Rattle.basics.proofs.Tests.{choose-yes, choose-no}
+use Rattle.board.proofs.Flat.{same-or-not}
 use Rattle.drawing.specs.declared.Pin.{Pin}
 use Rattle.drawing.specs.declared.Edit.{Edit}
 use Rattle.journal.specs.declared.Record.{Record}

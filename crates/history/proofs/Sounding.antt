@@ -8,10 +8,10 @@ use Prim.Native.Nat.{ℕ, zero, suc, _+_, _<_, _≤_}
 use native.Mathlib.Omega.{arith}
 use lib.ListN.{length, take, length-append, length-reverse, take-append-drop, List·getD-append, List·getD-eq-default}
 use lib.Seq.{getD-at, length-take-le}
-use Rattle.refusal.specs.Sums.{sum}
-use Rattle.refusal.specs.Tests.{choose}
-use Rattle.refusal.proofs.Lists.{empty}
-use Rattle.grid.proofs.Flat.{order, same-or-not}
+use Rattle.basics.specs.Sums.{sum}
+use Rattle.basics.specs.Tests.{choose}
+use Rattle.basics.proofs.Lists.{empty}
+use Rattle.board.proofs.Flat.{order, same-or-not}
 use Rattle.journal.specs.Journal.{mostSeats}
 use Rattle.journal.proofs.Seated.{ownedBelow, owned-all}
 use Rattle.desk.specs.declared.Desk.{Desk}

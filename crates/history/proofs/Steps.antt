@@ -9,10 +9,10 @@ use native.Mathlib.Omega.{arith}
 use borrow.Author.Tests.{eq-eqb, ne-eqb, eqb-false, le-leb}
 use lib.ListN.{length, getD, set, take, List·getD-eq-default}
 use lib.Seq.{set-getD}
-use Rattle.refusal.specs.Tests.{choose}
+use Rattle.basics.specs.Tests.{choose}
 use Rattle.refusal.specs.Refusals.{accepted, turn}
-use Rattle.refusal.proofs.Tests.{both-of}
-use Rattle.grid.proofs.Flat.{order}
+use Rattle.basics.proofs.Tests.{both-of}
+use Rattle.board.proofs.Flat.{order}
 use Rattle.drawing.specs.declared.Pin.{Pin}
 use Rattle.drawing.specs.declared.Edit.{Edit}
 use Rattle.drawing.specs.Edits.{made, unmade, placed, moved, removed}

@@ -6,9 +6,9 @@ use mathlib.Core.List.{List}
 use Prim.Native.Nat.{ℕ}
 use lib.ListN.{length}
 use lib.Seq.{getD-set-other}
-use Rattle.refusal.specs.Tests.{choose}
+use Rattle.basics.specs.Tests.{choose}
 use Rattle.refusal.specs.Refusals.{accepted}
-use Rattle.refusal.proofs.Tests.{choose-yes, choose-no, choose-same}
+use Rattle.basics.proofs.Tests.{choose-yes, choose-no, choose-same}
 use Rattle.journal.specs.declared.Record.{Record}
 use Rattle.journal.specs.Journal.{own}
 use Rattle.journal.proofs.Own.{own-other, other-added}

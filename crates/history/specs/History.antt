@@ -3,8 +3,8 @@ use mathlib.Core.Bool.{Bool, true, false}
 use mathlib.Core.List.{List, [], _∷_, map}
 use Prim.Native.Nat.{ℕ, _+_}
 use lib.ListN.{length, replicate, getD, set}
-use Rattle.refusal.specs.Tests.{choose}
-use Rattle.refusal.specs.Sums.{sum}
+use Rattle.basics.specs.Tests.{choose}
+use Rattle.basics.specs.Sums.{sum}
 use Rattle.refusal.specs.Refusals.{accepted}
 use Rattle.refusal.specs.declared.Verdict.{Verdict}
 use Rattle.drawing.specs.declared.Pin.{Pin}

@@ -6,9 +6,9 @@ use Prim.Native.Nat.{ℕ, _+_, _<_, _≤_}
 use native.Mathlib.Omega.{arith}
 use lib.ListN.{length, take, getD, set, replicate, length-append, length-set}
 use lib.Seq.{length-take-le, getD-set-same, getD-set-other, ext-getD}
-use Rattle.refusal.specs.Lists.{valuesFrom}
-use Rattle.refusal.proofs.Lists.{first-more, values-long, value-at}
-use Rattle.grid.proofs.Flat.{same-or-not}
+use Rattle.basics.specs.Lists.{valuesFrom}
+use Rattle.basics.proofs.Lists.{first-more, values-long, value-at}
+use Rattle.board.proofs.Flat.{same-or-not}
 use Rattle.journal.specs.declared.Record.{Record}
 use Rattle.journal.specs.Journal.{mostSeats, blank, own, countsOf}
 use Rattle.journal.proofs.Own.{own-nil, own-here, own-past, own-append, own-length}

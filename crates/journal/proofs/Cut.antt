@@ -5,7 +5,7 @@ use Prim.Native.Nat.{ℕ, _+_, _-_, _<_}
 use native.Mathlib.Omega.{arith}
 use lib.ListN.{length, take, getD, length-reverse}
 use lib.Seq.{drop-cons}
-use Rattle.refusal.proofs.Lists.{first-more}
+use Rattle.basics.proofs.Lists.{first-more}
 use Rattle.journal.proofs.Passing.{turned}
 
 -- One edit more stands than the first n: the edit of number n, counted from 0, is the latest.

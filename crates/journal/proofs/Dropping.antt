@@ -4,7 +4,7 @@ use mathlib.Core.List.{List, [], _∷_, _++_, append-assoc, append-nil}
 use Prim.Native.Nat.{ℕ, suc, _+_, _-_, _<_, _≤_}
 use native.Mathlib.Omega.{arith}
 use lib.ListN.{length, take, drop, getD, set, replicate, length-append}
-use Rattle.refusal.proofs.Lists.{front-of, none-left}
+use Rattle.basics.proofs.Lists.{front-of, none-left}
 use Rattle.journal.specs.declared.Record.{Record}
 use Rattle.journal.specs.declared.Compacted.{Compacted}
 use Rattle.journal.specs.Journal.{mostRecords, blank, kept, filled, compacted}

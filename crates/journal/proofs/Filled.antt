@@ -3,7 +3,7 @@ use mathlib.Core.Path.{_≡_, refl}
 use mathlib.Core.List.{List, [], _∷_, _++_}
 use Prim.Native.Nat.{_<_, _≤_}
 use lib.ListN.{length, take, set, replicate}
-use Rattle.refusal.proofs.Lists.{padded-first, padded-long, padded-more}
+use Rattle.basics.proofs.Lists.{padded-first, padded-long, padded-more}
 use Rattle.journal.specs.declared.Record.{Record}
 use Rattle.journal.specs.Journal.{mostRecords, blank, filled}
 

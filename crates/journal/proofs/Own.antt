@@ -7,8 +7,8 @@ use native.Mathlib.Omega.{arith}
 use borrow.Author.Tests.{eq-eqb, ne-eqb}
 use lib.ListN.{length, take, length-append}
 use lib.Seq.{take-nil}
-use Rattle.refusal.proofs.Tests.{choose-yes, choose-no}
-use Rattle.grid.proofs.Flat.{same-or-not}
+use Rattle.basics.proofs.Tests.{choose-yes, choose-no}
+use Rattle.board.proofs.Flat.{same-or-not}
 use Rattle.drawing.specs.declared.Edit.{Edit}
 use Rattle.journal.specs.declared.Record.{Record}
 use Rattle.journal.specs.Journal.{recorded, own, kept, added}

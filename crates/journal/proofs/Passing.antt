@@ -5,7 +5,7 @@ use Prim.Native.Nat.{ℕ, suc, _+_, _-_, _<_, _≤_}
 use native.Mathlib.Omega.{arith}
 use lib.ListN.{length, take, drop, getD, take-append-drop, length-drop, length-reverse}
 use lib.Seq.{take-suc, drop-at}
-use Rattle.refusal.proofs.Lists.{front-of, none-left}
+use Rattle.basics.proofs.Lists.{front-of, none-left}
 use Rattle.journal.specs.declared.Record.{Record}
 use Rattle.journal.specs.Journal.{blank, own}
 use Rattle.journal.proofs.Own.{own-nil, own-here, own-past, own-append}

@@ -7,8 +7,8 @@ use Prim.Native.Nat.{ℕ, zero, suc, _+_, _<_, _≤_}
 use native.Mathlib.Omega.{arith}
 use borrow.Author.Tests.{ltb-true, lt-ltb}
 use lib.ListN.{length}
-use Rattle.refusal.proofs.Anyone.{each-end, each-first, each-rest, each-more, each-append}
-use Rattle.grid.proofs.Flat.{same-or-not}
+use Rattle.basics.proofs.Anyone.{each-end, each-first, each-rest, each-more, each-append}
+use Rattle.board.proofs.Flat.{same-or-not}
 use Rattle.drawing.specs.declared.Edit.{Edit}
 use Rattle.journal.specs.declared.Record.{Record}
 use Rattle.journal.specs.Journal.{mostSeats, recorded, kept, added, ofDesk, seated, own}

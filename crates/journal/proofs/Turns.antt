@@ -7,7 +7,7 @@ use native.Mathlib.Numerals.{sub-one}
 use native.Mathlib.Omega.{arith}
 use lib.ListN.{drop, getD}
 use lib.Seq.{drop-nil}
-use Rattle.refusal.proofs.Tests.{both-left, both-right, both-of, both-yes, both-no}
+use Rattle.basics.proofs.Tests.{both-left, both-right, both-of, both-yes, both-no}
 use Rattle.drawing.specs.declared.Pin.{Pin}
 use Rattle.drawing.specs.declared.Edit.{Edit}
 use Rattle.journal.specs.Journal.{inTurn}

@@ -4,9 +4,9 @@ use mathlib.Core.Bool.{false}
 use mathlib.Core.List.{List, [], _∷_}
 use lib.IntN.{pos}
 use lib.ListN.{length, replicate}
-use Rattle.refusal.specs.Tests.{both, choose, eachOf}
-use Rattle.grid.specs.Place.{place}
-use Rattle.refusal.specs.Lists.{valuesFrom}
+use Rattle.basics.specs.Tests.{both, choose, eachOf}
+use Rattle.board.specs.Place.{place}
+use Rattle.basics.specs.Lists.{valuesFrom}
 use Rattle.drawing.specs.declared.Edit.the-variants.{Moved}
 use Rattle.drawing.specs.Edits.{placed}
 use Rattle.journal.specs.declared.Record.{Record}

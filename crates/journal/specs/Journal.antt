@@ -4,9 +4,9 @@ use mathlib.Core.List.{List, [], _∷_, _++_}
 use Prim.Native.Nat.{ℕ, zero, suc}
 use lib.Dec.{eqb, ltb}
 use lib.ListN.{length}
-use Rattle.refusal.specs.Tests.{both, choose, eachOf}
-use Rattle.refusal.specs.Lists.{padded, valuesFrom}
-use Rattle.grid.specs.Place.{middle}
+use Rattle.basics.specs.Tests.{both, choose, eachOf}
+use Rattle.basics.specs.Lists.{padded, valuesFrom}
+use Rattle.board.specs.Place.{middle}
 use Rattle.drawing.specs.declared.Pin.{Pin}
 use Rattle.drawing.specs.declared.Edit.{Edit}
 use Rattle.drawing.specs.Edits.{makeable, made, takeable, unmade, placed}

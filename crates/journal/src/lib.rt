@@ -1,7 +1,7 @@
 // The journal: the records of all seats, counting and finding a seat's own, dropping and appending, and whether a seat's edits can be redone and taken back.
+use board::PINS;
 use drawing::Edit;
 use drawing::Pin;
-use feed::PINS;
 ghost use mathlib.Core.Path.{_≡_};
 ghost use Prim.Native.Nat.{_<_, _≤_};
 ghost use mathlib.Core.Bool.{true};
@@ -32,7 +32,7 @@ pub struct Compacted {
 fn no_edit() -> Edit
     ensures { λ r. ⌜ r ≡ noEdit ⌝ }
 {
-    drawing::edit_placing(0, grid::middle())
+    drawing::edit_placing(0, board::middle())
 }
 
 // A record that is not in use.

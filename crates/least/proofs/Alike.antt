@@ -4,11 +4,11 @@ use mathlib.Core.Bool.{Bool, false}
 use Prim.Native.Nat.{ℕ, zero, suc, _+_, _*_, _≤_, _<_}
 use native.Mathlib.Nat.{sub-zero}
 use native.Mathlib.Omega.{arith}
-use Rattle.grid.specs.declared.Place.{Place}
+use Rattle.board.specs.declared.Place.{Place}
 use Rattle.copper.specs.declared.Tally.{Tally}
 use Rattle.copper.specs.Arms.{owed}
 use Rattle.copper.specs.Least.{isBent, firstTally, nextTally}
-use Rattle.copper_laws.proofs.Least.{best-same}
+use Rattle.least.proofs.Choices.{best-same}
 use Rattle.least.specs.Asking.{base, markOf, doubledIf, isBentInto, pinCost, pinBest, weighedFrom, weighedBelow, leastOfTree}
 
 -- Two trees of n runs are told alike.

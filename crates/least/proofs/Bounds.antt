@@ -7,9 +7,9 @@ use native.Mathlib.Nat.{pow-suc, suc-mul, mul-assoc}
 use native.Mathlib.Omega.{arith}
 use lib.Dec.{eqb}
 use lib.Pow.{pow-mono}
-use Rattle.refusal.specs.Tests.{choose}
-use Rattle.grid.specs.declared.Place.{Place}
-use Rattle.grid.specs.Place.{limit, inside}
+use Rattle.basics.specs.Tests.{choose}
+use Rattle.board.specs.declared.Place.{Place}
+use Rattle.board.specs.Place.{limit, inside}
 use Rattle.tree.specs.Trees.{mostRuns}
 use Rattle.copper.specs.declared.Tally.{Tally}
 use Rattle.copper.specs.Least.{lesserOf, best, isBent, firstTally, nextTally}

@@ -11,10 +11,10 @@ use lib.Seq.{getD-set-same, getD-set-other}
 use lib.Dec.{eqb}
 use lib.Pow.{pow-mono}
 use borrow.Author.Tests.{eqb-true, eqb-false, not-true, not-false}
-use Rattle.refusal.specs.Tests.{choose}
-use Rattle.grid.specs.declared.Place.{Place}
-use Rattle.grid.specs.Place.{isStraight}
-use Rattle.feed.specs.Feeds.{mostPins}
+use Rattle.basics.specs.Tests.{choose}
+use Rattle.board.specs.declared.Place.{Place}
+use Rattle.board.specs.Place.{isStraight}
+use Rattle.board.specs.Spots.{mostPins}
 use Rattle.tree.specs.Trees.{mostRuns}
 use Rattle.copper.specs.declared.Tally.{Tally}
 use Rattle.copper.specs.Shapes.{shapeOf}

@@ -1,4 +1,13 @@
--- What is proved of least costs beside the functions' contracts.
+-- What is proved of least costs beside the functions' contracts: the length of a tree of runs as a sum over its pins, and as a least cost asked pin by pin.
+pub mod Choices
+pub mod Sharing
+pub mod Star
+pub mod Laid
+pub mod Cost
+pub mod Moved
+pub mod Tallies
+pub mod Wired
+pub mod Planted
 pub mod Reading
 pub mod Modesty
 pub mod Stepping

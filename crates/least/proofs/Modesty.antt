@@ -4,20 +4,20 @@ use mathlib.Core.Path.{_≡_}
 use mathlib.Core.Bool.{Bool, true, false}
 use Prim.Native.Nat.{ℕ, zero, suc, _*_, _≤_}
 use native.Mathlib.Omega.{arith}
-use Rattle.refusal.specs.Tests.{choose}
-use Rattle.refusal.proofs.Tests.{both-left, both-right}
-use Rattle.grid.specs.declared.Place.{Place}
-use Rattle.grid.specs.Place.{limit, onBoard, inside}
-use Rattle.grid.proofs.Signed.{I32}
-use Rattle.grid.proofs.Flat.{PlaceI32}
-use Rattle.grid.proofs.Board.{Board, board, number-held}
+use Rattle.basics.specs.Tests.{choose}
+use Rattle.basics.proofs.Tests.{both-left, both-right}
+use Rattle.board.specs.declared.Place.{Place}
+use Rattle.board.specs.Place.{limit, onBoard, inside}
+use Rattle.board.proofs.Signed.{I32}
+use Rattle.board.proofs.Flat.{PlaceI32}
+use Rattle.board.proofs.Board.{Board, board, number-held}
 use Rattle.copper.specs.declared.Shape.{Shape}
 use Rattle.copper.specs.declared.Shape.the-variants.{Straight, Lower, Upper}
 use Rattle.copper.specs.declared.Tally.{Tally}
 use Rattle.copper.specs.Shapes.{crossing, lowerCorner, upperCorner, cornerOf, shapeOf}
 use Rattle.copper.specs.Arms.{armsTo, spread, owed, Short, Fair}
 use Rattle.copper.specs.Least.{firstTally, nextTally}
-use Rattle.copper_laws.proofs.Tallies.{arms-short, bounded-reached, bounded-leading}
+use Rattle.least.proofs.Tallies.{arms-short, bounded-reached, bounded-leading}
 use Rattle.least.specs.Asking.{Modest}
 
 -- A place of the board.

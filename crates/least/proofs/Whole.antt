@@ -6,13 +6,13 @@ use Prim.Native.Nat.{ℕ, zero, suc, _+_, _-_, _≤_, _<_}
 use native.Mathlib.Nat.{sub-zero}
 use native.Mathlib.Omega.{arith}
 use lib.Dec.{eqb}
-use Rattle.refusal.specs.Tests.{choose}
-use Rattle.grid.specs.declared.Place.{Place}
+use Rattle.basics.specs.Tests.{choose}
+use Rattle.board.specs.declared.Place.{Place}
 use Rattle.tree.specs.Trees.{mostRuns}
 use Rattle.copper.specs.Least.{best, isBent, firstTally}
-use Rattle.copper_laws.proofs.Sums.{sumBelow, sum-same, sum-none}
-use Rattle.copper_laws.proofs.Least.{shown, total, best-least, best-reached}
-use Rattle.copper_laws.proofs.Tallies.{leastOf}
+use Rattle.copper.proofs.Sums.{sumBelow, sum-same, sum-none}
+use Rattle.least.proofs.Choices.{shown, total, best-least, best-reached}
+use Rattle.least.proofs.Tallies.{leastOf}
 use Rattle.least.specs.declared.Reached.{Reached}
 use Rattle.least.specs.Asking.{base, nearPin, markOf, doubledIf, isBentInto, pinCost, pinBest, weighedFrom, weighedBelow, sizeFrom, Grown, Askable}
 

@@ -7,9 +7,9 @@ use Prim.Native.Nat.{ℕ, zero, suc, _+_, _-_, _*_, _^_, _≤_, _<_, min}
 use lib.IntN.{pos}
 use lib.Dec.{eqb}
 use lib.ListN.{getD}
-use Rattle.refusal.specs.Tests.{choose}
-use Rattle.grid.specs.declared.Place.{Place}
-use Rattle.grid.specs.Place.{limit, inside, place}
+use Rattle.basics.specs.Tests.{choose}
+use Rattle.board.specs.declared.Place.{Place}
+use Rattle.board.specs.Place.{limit, inside, place}
 use Rattle.tree.specs.Trees.{mostRuns}
 use Rattle.copper.specs.declared.Tally.{Tally}
 use Rattle.copper.specs.Arms.{owed, Bounded}

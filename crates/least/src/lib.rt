@@ -1,12 +1,12 @@
 // The least cost of a tree's shapes: what a pin costs is asked of the runs below it, and what a run costs of the pin at its far end.
 // Pins are numbered by when they were reached: run r reaches pin r + 1 from pin near[r]. A shape is a bool: false is lower, true is upper.
+use board::PINS;
+use board::Place;
 use copper::Tally;
-use feed::PINS;
-use grid::Place;
 use tree::RUNS;
 ghost use mathlib.Core.Path.{_≡_};
 ghost use Prim.Native.Nat.{_+_, _-_, _≤_, _<_, min};
-ghost use Rattle.feed.specs.Feeds.{mostPins};
+ghost use Rattle.board.specs.Spots.{mostPins};
 ghost use Rattle.tree.specs.Trees.{mostRuns};
 ghost use Rattle.least.specs.Asking.{base, pinPlace, nearPin, markOf, endsOf, isBentInto, owedAlone, withRun, lesserFound, askedPin, askedRun, leastFrom, leastOfTree, ownFrom, Modest, Grown, Weighable, Collected, Askable};
 ghost use Rattle.copper.specs.Least.{isBent, firstTally, nextTally};

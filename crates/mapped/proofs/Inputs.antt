@@ -10,10 +10,10 @@ use lib.Dec.{eqb}
 use lib.ListN.{length, take}
 use lib.Seq.{take-all, length-take-le}
 use borrow.Author.Tests.{lt-ltb, eqb-true}
-use Rattle.refusal.specs.Tests.{both, either, choose, anyOf, eachOf, noTwo}
+use Rattle.basics.specs.Tests.{both, either, choose, anyOf, eachOf, noTwo}
 use Rattle.refusal.specs.Refusals.{accepted, turn}
 use Rattle.refusal.specs.declared.Verdict.the-variants.{JobZero, MapLength}
-use Rattle.feed.specs.Feeds.{spotsTooNear, within}
+use Rattle.board.specs.Spots.{spotsTooNear, within}
 use Rattle.drawing.specs.Pins.{lawful, spotOf, feedOf}
 use Rattle.tree.specs.Growth.{keptIf, pinsFrom, pinsOf}
 use Rattle.wiring.specs.Answer.{turnedAway, wiringVerdict, wiringWith, wiringFavouring, wiringOf}
@@ -23,8 +23,8 @@ use Rattle.desk.specs.Refusals.{sameJob, turnedOpening, turnedClosing, verdictO
 use Rattle.desk.specs.Desk.{jobOf, soundOpen, soundClosed, soundSeat, soundTo, sound, effect, answerOf, step, emptyDesk, wiredOf}
 use Rattle.text.specs.Text.{text}
 use Rattle.text.specs.Digits.{digits}
-use Rattle.script.specs.Answers.{carriedText, toldLine, verdictLine}
-use Rattle.grid.proofs.Flat.{order}
+use Rattle.printed.specs.Answers.{carriedText, toldLine, verdictLine}
+use Rattle.board.proofs.Flat.{order}
 use Rattle.shown.specs.Shown.{mapText}
 use Rattle.mapped.specs.Mapped.{mostRead, jobOfMap, openedWith, wiredWith, mapAnswer}
 use Rattle.mapped.proofs.Opening.{opened, printed-refused}

@@ -4,7 +4,7 @@ use mathlib.Core.Bool.{Bool, true, false}
 use mathlib.Core.List.{List}
 use Prim.Native.Nat.{ℕ}
 use lib.Dec.{eqb}
-use Rattle.refusal.specs.Tests.{both, either, choose, anyOf, eachOf, noTwo}
+use Rattle.basics.specs.Tests.{both, either, choose, anyOf, eachOf, noTwo}
 use Rattle.refusal.specs.Refusals.{accepted, turn}
 use Rattle.refusal.specs.declared.Verdict.{Verdict}
 use Rattle.refusal.specs.declared.Verdict.the-variants.{JobZero}
@@ -16,7 +16,7 @@ use Rattle.desk.specs.declared.Wired.{Wired}
 use Rattle.desk.specs.Calls.{opening}
 use Rattle.desk.specs.Refusals.{sameJob, turnedOpening, verdictOf}
 use Rattle.desk.specs.Desk.{jobOf, soundClosed, soundSeat, soundTo, sound, answerOf, step, emptyDesk, wiredOf}
-use Rattle.script.specs.Answers.{verdictLine}
+use Rattle.printed.specs.Answers.{verdictLine}
 use Rattle.shown.specs.Shown.{mapText}
 use Rattle.wiring.specs.Answer.{mostLegs}
 use Rattle.mapped.specs.Mapped.{jobOfMap, openedWith, wiredWith, mapAnswer}

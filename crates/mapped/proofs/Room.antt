@@ -6,12 +6,12 @@ use Prim.Native.Nat.{ℕ}
 use native.Mathlib.Omega.{arith}
 use lib.ListN.{length}
 use borrow.Author.Tests.{ltb-true}
-use Rattle.refusal.specs.Tests.{both, choose}
+use Rattle.basics.specs.Tests.{both, choose}
 use Rattle.refusal.specs.Refusals.{accepted}
 use Rattle.refusal.specs.declared.Verdict.the-variants.{Accepted, RoomTooSmall}
 use Rattle.refusal.proofs.Rows.{firstOf, Given, refusalAt, unlike, distinct, unlike-first, only-given}
-use Rattle.feed.specs.declared.Spot.{Spot}
-use Rattle.feed.specs.Feeds.{mostPins}
+use Rattle.board.specs.declared.Spot.{Spot}
+use Rattle.board.specs.Spots.{mostPins}
 use Rattle.drawing.specs.Pins.{feedOf}
 use Rattle.wiring.specs.Answer.{mostLegs, turnedAway, wiringOf}
 use Rattle.lent.proofs.Fitting.{needed-few}

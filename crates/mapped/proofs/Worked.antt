@@ -2,20 +2,23 @@
 use mathlib.Core.Path.{_≡_, refl}
 use mathlib.Core.List.{List, [], _∷_, _++_, map}
 use Prim.Native.Nat.{ℕ}
-use Rattle.refusal.specs.Tests.{both, either, choose, anyOf, eachOf, noTwo}
-use Rattle.refusal.specs.Sums.{sum}
+use Rattle.basics.specs.Tests.{both, either, choose, anyOf, eachOf, noTwo}
+use Rattle.basics.specs.Sums.{sum}
 use Rattle.refusal.specs.Refusals.{accepted, turn}
 use Rattle.refusal.specs.declared.Verdict.the-variants.{OtherJob, FaultyRecord}
-use Rattle.grid.specs.Number.{numberAt}
-use Rattle.grid.specs.Place.{difference, larger, sameNumber, samePlace, onBoard, inside, closer, tooNear, isStraight}
-use Rattle.grid.specs.Weight.{distanceOf, weightOf, pairOf, byPart, byNumber, comesBefore}
-use Rattle.feed.specs.Feeds.{spotsTooNear, crowded, within, tooNearOther}
+use Rattle.pinmap.specs.Number.{numberAt}
+use Rattle.board.specs.Place.{difference, larger, sameNumber, samePlace, onBoard, inside, closer, tooNear, isStraight}
+use Rattle.tree.specs.Weight.{weightOf, pairOf, byPart, byNumber, comesBefore}
+use Rattle.board.specs.Place.{distanceOf}
+use Rattle.board.specs.Spots.{spotsTooNear, crowded, within, tooNearOther}
 use Rattle.drawing.specs.Pins.{isThere, lawful, spotOf, feedOf}
 use Rattle.tree.specs.Growth.{pairAt, sooner, keptIf, pinsFrom, without, runsFrom, runsBetween, earliest, earliestOf, nextRun, grown, runsAmong, pinsOf, runsOf}
 use Rattle.tree.specs.Boxes.{belowBoth, under, overlap, boxesShare, isEnd, common, clash}
-use Rattle.tree.specs.Bends.{bent, howMany}
+use Rattle.tree.specs.Bends.{bent}
+use Rattle.basics.specs.Sums.{howMany}
 use Rattle.copper.specs.Shapes.{lowerCorner, upperCorner, legsOf}
-use Rattle.copper.specs.Length.{sameStep, stepsAcross, stepsUp, smaller, stepsOf, stepsOfAll, different, lengthOf}
+use Rattle.copper.specs.Length.{sameStep, stepsAcross, stepsUp, stepsOf, stepsOfAll, different, lengthOf}
+use Rattle.board.specs.Place.{smaller}
 use Rattle.wiring.specs.Choices.{bentShapes, shapesOf, withShape, withShapes, choicesOf, legsOfChoice, lengthOfChoice, shortest, shortestOf, bestChoice, weighedAt, weighedOf}
 use Rattle.wiring.specs.Answer.{shapedRuns, runEntries, legEntries, turnedAway, answerWith, wiringVerdict, wiringWith, wiringFavouring, wiringOf}
 use Rattle.journal.specs.Journal.{own, filled, inTurn}
@@ -25,7 +28,7 @@ use Rattle.desk.specs.Refusals.{sameJob, turnedOpening, turnedClosing, verdictO
 use Rattle.desk.specs.Desk.{jobOf, soundOpen, soundClosed, soundSeat, soundTo, sound, effect, answerOf, step, emptyDesk, wiredOf}
 use Rattle.text.specs.Text.{text}
 use Rattle.text.specs.Digits.{digits}
-use Rattle.script.specs.Answers.{carriedText, toldLine, jobLine, runLine}
+use Rattle.printed.specs.Answers.{carriedText, toldLine, jobLine, runLine}
 use Rattle.shown.specs.Shown.{entryLine, lineForEach, jobText, mapText}
 use Rattle.mapped.specs.Mapped.{jobOfMap, openedWith, wiredWith, mapAnswer}
 use Rattle.mapped.proofs.Opening.{opened, printed-refused}

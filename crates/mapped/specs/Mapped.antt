@@ -1,7 +1,7 @@
 -- The program wiremap: the job of a map, and what is printed for it.
 use mathlib.Core.List.{List, [], _∷_}
 use Prim.Native.Nat.{ℕ}
-use Rattle.refusal.specs.Tests.{choose}
+use Rattle.basics.specs.Tests.{choose}
 use Rattle.refusal.specs.Refusals.{accepted}
 use Rattle.pinmap.specs.Record.{jobAt}
 use Rattle.desk.specs.declared.Answered.{Answered}
@@ -9,7 +9,7 @@ use Rattle.desk.specs.Calls.{opening}
 use Rattle.desk.specs.Desk.{emptyDesk, step, wiredOf}
 use Rattle.wiring.specs.declared.Wiring.{Wiring}
 use Rattle.wiring.specs.Answer.{mostLegs}
-use Rattle.script.specs.Answers.{verdictLine}
+use Rattle.printed.specs.Answers.{verdictLine}
 use Rattle.shown.specs.Shown.{mapText}
 
 -- The job in the first two bytes of a map. Empty input: job 1. A single byte is opened under job 1 too, and refused with 13.

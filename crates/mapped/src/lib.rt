@@ -1,6 +1,6 @@
 // What the program wiremap answers to its input, as bytes in a lent buffer.
 use desk::Desk;
-use script::answers::print_verdict;
+use printed::print_verdict;
 use shown::print_map;
 use text::ANSWER_BYTES;
 use wiring::LEGS;

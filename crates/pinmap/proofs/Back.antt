@@ -9,16 +9,16 @@ use native.Mathlib.Omega.{arith}
 use lib.ListN.{length, getD, take, drop, set, length-take, length-drop, take-append-drop, List·getD-eq-default}
 use lib.Seq.{getD-set-other, getD-take, getD-drop}
 use Rattle.refusal.specs.declared.Verdict.{Verdict}
-use Rattle.refusal.specs.Tests.{choose}
+use Rattle.basics.specs.Tests.{choose}
 use Rattle.refusal.specs.Refusals.{accepted}
-use Rattle.refusal.proofs.Tests.{opposite}
-use Rattle.refusal.proofs.Lists.{empty}
-use Rattle.grid.proofs.Flat.{order}
+use Rattle.basics.proofs.Tests.{opposite}
+use Rattle.basics.proofs.Lists.{empty}
+use Rattle.board.proofs.Flat.{order}
 use Rattle.drawing.specs.declared.Held.{Held}
 use Rattle.drawing.specs.declared.Pin.{Pin}
-use Rattle.feed.specs.declared.Spot.the-variants.{At}
-use Rattle.feed.specs.Feeds.{within}
-use Rattle.feed.proofs.Rules.{clear-other}
+use Rattle.board.specs.declared.Spot.the-variants.{At}
+use Rattle.board.specs.Spots.{within}
+use Rattle.board.proofs.Rules.{clear-other}
 use Rattle.drawing.specs.Pins.{absent, there, holding, lawful, spotOf, feedOf}
 use Rattle.drawing.proofs.Rules.{lawful-parts, lawful-set}
 use Rattle.pinmap.specs.declared.Record.{Record}

@@ -7,9 +7,9 @@ use borrow.Author.Tests.{leb-false, ltb-false, eqb-true, not-false, eq-eqb, lt-l
 use Rattle.refusal.specs.declared.Verdict.the-variants.{Accepted, OtherJob, FaultyRecord}
 use Rattle.refusal.specs.Refusals.{accepted}
 use Rattle.refusal.proofs.Rows.{passed, miss}
-use Rattle.grid.specs.Place.{inside}
+use Rattle.board.specs.Place.{inside}
 use Rattle.drawing.specs.declared.Pin.{Pin}
-use Rattle.feed.specs.Feeds.{mostPins}
+use Rattle.board.specs.Spots.{mostPins}
 use Rattle.pinmap.specs.declared.Record.{Record}
 use Rattle.pinmap.specs.Record.{otherJob, pinAbove, outside, notAbove, placeTaken, judged, notZero}
 

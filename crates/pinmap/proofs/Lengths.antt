@@ -5,7 +5,7 @@ use mathlib.Core.List.{List}
 use Prim.Native.Nat.{ℕ, _%_, _<_, _≤_}
 use lib.ListN.{length}
 use borrow.Author.Tests.{lt-ltb, le-ltb, ltb-false, eq-eqb, ne-eqb, eqb-true, not-false}
-use Rattle.refusal.proofs.Tests.{choose-yes, choose-no, either-left, either-right, either-false}
+use Rattle.basics.proofs.Tests.{choose-yes, choose-no, either-left, either-right, either-false}
 use Rattle.refusal.specs.declared.Verdict.the-variants.{MapLength}
 use Rattle.drawing.specs.Pins.{noPins}
 use Rattle.pinmap.specs.Record.{recordSize}

@@ -1,4 +1,5 @@
 -- The laws of the pin map that other crates cite.
+pub mod Bytes
 pub mod Faults
 mod Lengths
 mod Progress
@@ -8,3 +9,4 @@ pub mod Opening
 pub mod Back
 pub mod RoundTrip
 mod Worked
+mod Signs

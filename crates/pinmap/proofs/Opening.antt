@@ -8,20 +8,20 @@ use Prim.Native.Nat.{ℕ, zero, suc, _+_, _/_, _<_, _≤_}
 use native.Mathlib.Omega.{arith}
 use lib.ListN.{length, getD, take, drop, set, length-append, length-set}
 use lib.Seq.{getD-set-same, getD-set-other, ext-getD, take-at, drop-at}
-use Rattle.refusal.specs.Tests.{choose}
-use Rattle.refusal.proofs.Lists.{blank-at}
-use Rattle.refusal.proofs.Anyone.{none-by}
+use Rattle.basics.specs.Tests.{choose}
+use Rattle.basics.proofs.Lists.{blank-at}
+use Rattle.basics.proofs.Anyone.{none-by}
 use Rattle.refusal.specs.Refusals.{accepted}
-use Rattle.grid.specs.Place.{inside}
-use Rattle.grid.proofs.Flat.{order}
+use Rattle.board.specs.Place.{inside}
+use Rattle.board.proofs.Flat.{order}
 use Rattle.drawing.specs.declared.Held.{Held}
 use Rattle.drawing.specs.declared.Stand.{Stand}
 use Rattle.drawing.specs.declared.Stand.the-variants.{Absent, There}
 use Rattle.drawing.specs.declared.Pin.{Pin}
-use Rattle.feed.specs.Feeds.{mostPins, spotAt, within, allApart, spotsTooNear, tooNearAny}
+use Rattle.board.specs.Spots.{mostPins, spotAt, within, allApart, spotsTooNear, tooNearAny}
 use Rattle.drawing.specs.Pins.{absent, there, lawful, spotOf, feedOf, noPins}
-use Rattle.feed.specs.declared.Spot.the-variants as spot
-use Rattle.feed.proofs.Rules.{spots-turned, apart-pair, within-at}
+use Rattle.board.specs.declared.Spot.the-variants as spot
+use Rattle.board.proofs.Rules.{spots-turned, apart-pair, within-at}
 use Rattle.drawing.proofs.Rules.{lawful-parts, feed-at}
 use Rattle.pinmap.specs.Record.{recordSize, recordBytes, pinBytes}
 use Rattle.pinmap.specs.Map.{readAs, withPinOf, readFrom, mapFrom}

@@ -8,9 +8,9 @@ use lib.ListN.{length, take, drop, set, length-set, length-take, length-drop}
 use lib.Seq.{drop-drop}
 use Rattle.refusal.specs.declared.Verdict.{Verdict}
 use Rattle.refusal.specs.Refusals.{accepted}
-use Rattle.refusal.proofs.Tests.{choose-yes, choose-no}
+use Rattle.basics.proofs.Tests.{choose-yes, choose-no}
 use Rattle.drawing.specs.declared.Pin.{Pin}
-use Rattle.feed.specs.Feeds.{mostPins}
+use Rattle.board.specs.Spots.{mostPins}
 use Rattle.drawing.specs.Pins.{noPins, there, holding}
 use Rattle.pinmap.specs.declared.Record.{Record}
 use Rattle.pinmap.specs.Record.{recordSize, recordOf, judged}

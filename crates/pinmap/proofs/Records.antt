@@ -10,12 +10,12 @@ use lib.ListN.{length, getD, set}
 use lib.Seq.{set-getD}
 use mir.Syntax.{w32}
 use mir.Val.{SFits}
-use Rattle.refusal.proofs.Tests.{both-left, both-right}
-use Rattle.grid.specs.declared.Place.{Place}
-use Rattle.grid.specs.Number.{numberAt, firstByte, secondByte, thirdByte, fourthByte, putAt}
-use Rattle.grid.specs.Place.{inside}
-use Rattle.grid.proofs.Bytes.{join-split, first-byte, second-byte, third-byte, fourth-byte, written-read}
-use Rattle.grid.proofs.Board.{number-held}
+use Rattle.basics.proofs.Tests.{both-left, both-right}
+use Rattle.board.specs.declared.Place.{Place}
+use Rattle.pinmap.specs.Number.{numberAt, firstByte, secondByte, thirdByte, fourthByte, putAt}
+use Rattle.board.specs.Place.{inside}
+use Rattle.pinmap.proofs.Bytes.{join-split, first-byte, second-byte, third-byte, fourth-byte, written-read}
+use Rattle.board.proofs.Board.{number-held}
 use Rattle.drawing.specs.declared.Held.{Held}
 use Rattle.drawing.specs.declared.Pin.{Pin}
 use Rattle.drawing.specs.Pins.{holding}

@@ -9,13 +9,13 @@ use lib.ListN.{length, take, drop}
 use lib.Seq.{take-append-seam}
 use Rattle.refusal.specs.declared.Verdict.{Verdict}
 use Rattle.refusal.specs.declared.Verdict.the-variants.{Accepted, MapLength, RoomTooSmall}
-use Rattle.refusal.specs.Tests.{both, either, choose, anyOf, eachOf, noTwo}
+use Rattle.basics.specs.Tests.{both, either, choose, anyOf, eachOf, noTwo}
 use Rattle.refusal.specs.Refusals.{accepted}
-use Rattle.refusal.proofs.Tests.{both-left, both-right}
+use Rattle.basics.proofs.Tests.{both-left, both-right}
 use Rattle.drawing.specs.declared.Stand.{Stand}
 use Rattle.drawing.specs.declared.Stand.the-variants.{Absent, There}
 use Rattle.drawing.specs.declared.Pin.{Pin}
-use Rattle.feed.specs.Feeds.{mostPins, within, allWithin, spotsTooNear}
+use Rattle.board.specs.Spots.{mostPins, within, allWithin, spotsTooNear}
 use Rattle.drawing.specs.Pins.{spotIn, lawful, spotOf, feedOf, noPins}
 use Rattle.drawing.proofs.Rules.{lawful-parts}
 use Rattle.pinmap.specs.declared.Reading.{Reading}

@@ -6,12 +6,12 @@ use Prim.Native.Nat.{ℕ}
 use lib.IntN.{pos, negsuc}
 use lib.ListN.{replicate}
 use Rattle.refusal.specs.declared.Verdict.the-variants.{Accepted, MapLength, OtherJob, FaultyRecord, RoomTooSmall}
-use Rattle.refusal.specs.Tests.{both, either, choose, anyOf}
+use Rattle.basics.specs.Tests.{both, either, choose, anyOf}
 use Rattle.refusal.specs.Refusals.{turn, accepted}
-use Rattle.grid.specs.Number.{numberAt, firstByte, secondByte, thirdByte, fourthByte}
-use Rattle.grid.specs.Place.{onBoard, inside, difference, closer, tooNear}
+use Rattle.pinmap.specs.Number.{numberAt, firstByte, secondByte, thirdByte, fourthByte}
+use Rattle.board.specs.Place.{onBoard, inside, difference, closer, tooNear}
 use Rattle.drawing.specs.declared.Pin.{Pin}
-use Rattle.feed.specs.Feeds.{spotsTooNear}
+use Rattle.board.specs.Spots.{spotsTooNear}
 use Rattle.drawing.specs.Pins.{absent, there, holding, spotOf, feedOf, noPins}
 use Rattle.pinmap.specs.Record.{recordOf, recordBytes, pinBytes, judged}
 use Rattle.pinmap.specs.Map.{refusedBy, readAs, withPinOf, readFrom, wrongLength, readMap, mapFrom, mapOf, written, writeMap, bufferAfter}

@@ -11,14 +11,14 @@ use lib.Seq.{sets, sets-eq, length-sets, drop-drop}
 use borrow.Rule.Slice.PartMut.{putMid}
 use borrow.Author.Tests.{lt-ltb, le-ltb}
 use Rattle.refusal.specs.declared.Verdict.the-variants.{Accepted, RoomTooSmall}
-use Rattle.refusal.proofs.Tests.{choose-yes, choose-no}
-use Rattle.refusal.proofs.Lists.{front, sets-append}
-use Rattle.grid.specs.Number.{putAt}
+use Rattle.basics.proofs.Tests.{choose-yes, choose-no}
+use Rattle.basics.proofs.Lists.{front, sets-append}
+use Rattle.pinmap.specs.Number.{putAt}
 use Rattle.drawing.specs.declared.Held.{Held}
 use Rattle.drawing.specs.declared.Stand.{Stand}
 use Rattle.drawing.specs.declared.Stand.the-variants.{Absent, There}
 use Rattle.drawing.specs.declared.Pin.{Pin}
-use Rattle.feed.specs.Feeds.{mostPins}
+use Rattle.board.specs.Spots.{mostPins}
 use Rattle.drawing.specs.Pins.{absent}
 use Rattle.pinmap.specs.Record.{recordSize, recordBytes, bytesIn, pinBytes}
 use Rattle.pinmap.specs.Map.{mapFrom, mapOf, written, noRoom, writeMap, bufferAfter}

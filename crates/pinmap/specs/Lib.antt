@@ -1,3 +1,4 @@
 -- What the words of the pin map mean.
+pub mod Number
 pub mod Record
 pub mod Map

@@ -7,14 +7,14 @@ use lib.ListN.{getD}
 use Rattle.refusal.specs.declared.Verdict.{Verdict}
 use Rattle.refusal.specs.declared.Verdict.the-variants.{Accepted, OtherJob, FaultyRecord}
 use Rattle.refusal.specs.Refusals.{turn}
-use Rattle.grid.specs.Number.{numberAt, firstByte, secondByte, thirdByte, fourthByte}
-use Rattle.grid.specs.Place.{inside}
+use Rattle.pinmap.specs.Number.{numberAt, firstByte, secondByte, thirdByte, fourthByte}
+use Rattle.board.specs.Place.{inside}
 use Rattle.drawing.specs.declared.Held.{Held}
 use Rattle.drawing.specs.declared.Stand.{Stand}
 use Rattle.drawing.specs.declared.Stand.the-variants.{Absent, There}
 use Rattle.drawing.specs.declared.Pin.{Pin}
-use Rattle.feed.specs.declared.Spot.the-variants.{At}
-use Rattle.feed.specs.Feeds.{mostPins, tooNearAny}
+use Rattle.board.specs.declared.Spot.the-variants.{At}
+use Rattle.board.specs.Spots.{mostPins, tooNearAny}
 use Rattle.drawing.specs.Pins.{feedOf}
 use Rattle.pinmap.specs.declared.Record.{Record}
 

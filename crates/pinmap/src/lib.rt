@@ -1,16 +1,18 @@
 // The pin map: a record read from its own part of the map, reading a map, and writing one.
+mod numbers;
+
+use board::PINS;
+use board::Place;
+use board::Spot;
 use drawing::Held;
 use drawing::Pin;
 use drawing::Stand;
-use feed::PINS;
-use feed::Spot;
-use grid::Place;
 use refusal::Verdict;
 ghost use mathlib.Core.Path.{_≡_};
 ghost use Prim.Native.Nat.{ℕ, _+_, _<_, _≤_, _/_};
 ghost use lib.ListN.{length};
 ghost use lib.Seq.{sets};
-ghost use Rattle.feed.specs.Feeds.{mostPins};
+ghost use Rattle.board.specs.Spots.{mostPins};
 ghost use Rattle.drawing.specs.Pins.{noPins};
 ghost use Rattle.pinmap.specs.Record.{recordSize, jobAt, recordOf, recordBytes, pinBytes, otherJob, pinAbove, notZero, outside, notAbove, placeTaken, judged};
 ghost use Rattle.pinmap.specs.Map.{refusedBy, readFrom, readMap, mapOf, writeMap, bufferAfter, written};
@@ -58,8 +60,8 @@ fn read_record(part: &[u8]) -> Record
     let pin = part[2] as usize;
     let byte3 = part[3];
     let place = Place {
-        x: grid::read_number(part, 4),
-        y: grid::read_number(part, 8),
+        x: numbers::read_number(part, 4),
+        y: numbers::read_number(part, 8),
     };
     Record {
         job,
@@ -95,7 +97,7 @@ fn is_outside(given: Record) -> bool
     ensures { λ r. ⌜ r ≡ outside given ⌝ }
 {
     let at = given.place;
-    !grid::is_inside(at)
+    !board::is_inside(at)
 }
 
 // Whether a record's pin number is not above the one before: `next` is one more than that.
@@ -111,7 +113,7 @@ fn has_place_taken(given: Record, earlier: [Pin; PINS]) -> bool
 {
     let at = given.place;
     let spots = drawing::feed_of(earlier);
-    feed::too_near_any(Spot::At(at), spots, 0)
+    board::too_near_any(Spot::At(at), spots, 0)
 }
 
 // What a record comes to, as the one of this number after those that were read.
@@ -201,8 +203,8 @@ fn write_record(part: &mut [u8], job: u16, pin: usize, held: Held)
     part[1] = (job % 256) as u8;
     part[2] = pin as u8;
     part[3] = 0;
-    grid::write_number(part, 4, place.x);
-    grid::write_number(part, 8, place.y);
+    numbers::write_number(part, 4, place.x);
+    numbers::write_number(part, 8, place.y);
 }
 
 // How many bytes a map has for a pin, under any job and number.

@@ -6,7 +6,7 @@ use Prim.Native.Nat.{ℕ}
 use Rattle.desk.specs.declared.Desk.{Desk}
 use Rattle.desk.specs.Desk.{emptyDesk}
 use Rattle.play.specs.declared.Session.{Session}
-use Rattle.refusal.specs.Tests.{choose}
+use Rattle.basics.specs.Tests.{choose}
 use Rattle.play.specs.Log.{Log, logOf, heard, lastHeard, logAfter, ComesOf}
 use Rattle.play.specs.Lines.{Played}
 use Rattle.play.proofs.Hearing.{heard-parts, heard-ended, last-ended}

@@ -10,10 +10,10 @@ use lib.ListN.{length, take, drop, length-take, length-drop}
 use lib.Seq.{take-all, take-at, take-append-le, length-take-le, drop-drop}
 use borrow.Author.Tests.{lt-ltb, le-ltb}
 use Rattle.bytes.specs.Bytes.{indexOf, indexAfter}
-use Rattle.refusal.specs.Tests.{choose}
+use Rattle.basics.specs.Tests.{choose}
 use Rattle.text.specs.Words.{newline, stopAt}
-use Rattle.script.specs.Said.{mostKept}
-use Rattle.grid.proofs.Flat.{order}
+use Rattle.play.specs.Log.{mostKept}
+use Rattle.board.proofs.Flat.{order}
 use Rattle.play.specs.Log.{Log, nextLine, longer, stretched, heard, stopped, lastHeard}
 
 -- Cut and gone on with, then cut, is gone on with and cut.

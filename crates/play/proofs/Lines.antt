@@ -7,10 +7,10 @@ use native.Mathlib.Nat.{mod-add-mod}
 use native.Mathlib.Omega.{arith}
 use lib.Dec.{eqb, eqb·suc-zero}
 use lib.ListN.{length, take}
-use Rattle.refusal.specs.Tests.{both, choose}
+use Rattle.basics.specs.Tests.{both, choose}
 use Rattle.text.specs.Words.{newline, beforeFirst, pieces}
-use Rattle.script.specs.Said.{mostKept}
-use Rattle.script.proofs.Clipping.{clipped-said, clipped-map, clipped-across, clipped-up}
+use Rattle.play.specs.Log.{mostKept}
+use Rattle.play.proofs.Clipping.{clipped-said, clipped-map, clipped-across, clipped-up}
 use Rattle.desk.specs.declared.Desk.{Desk}
 use Rattle.answer.specs.Answered.{played, answered}
 use Rattle.play.specs.Log.{Log, nextLine, longer, heard, stopped, lastHeard, logAfter}

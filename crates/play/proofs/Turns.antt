@@ -8,11 +8,11 @@ use lib.Dec.{ltb}
 use lib.ListN.{length, take, drop, length-take, drop-of-length-le}
 use lib.Seq.{sets, length-sets, length-take-le}
 use borrow.Author.Tests.{lt-ltb, le-ltb, ne-eqb}
-use Rattle.refusal.specs.Tests.{choose}
+use Rattle.basics.specs.Tests.{choose}
 use Rattle.text.specs.Text.{over}
 use Rattle.text.specs.Words.{newline, stopAt}
-use Rattle.script.specs.Said.{mostKept}
-use Rattle.script.proofs.Clipping.{keeping}
+use Rattle.play.specs.Log.{mostKept}
+use Rattle.play.proofs.Clipping.{keeping}
 use Rattle.desk.specs.declared.Desk.{Desk}
 use Rattle.answer.specs.Answered.{played, answered}
 use Rattle.play.specs.declared.Session.{Session}

@@ -5,13 +5,16 @@ use mathlib.Core.List.{List, [], _∷_, _++_}
 use Prim.Native.Nat.{ℕ, _+_, _%_, _^_}
 use lib.Dec.{eqb}
 use lib.ListN.{length, take}
-use Rattle.refusal.specs.Tests.{choose}
+use Rattle.basics.specs.Tests.{choose}
 use Rattle.text.specs.Text.{over}
 use Rattle.text.specs.Words.{newline}
-use Rattle.script.specs.Said.{mostKept}
 use Rattle.desk.specs.declared.Desk.{Desk}
 use Rattle.answer.specs.Answered.{played, answered}
 use Rattle.play.specs.declared.Session.{Session}
+
+-- Of a longer line it is enough to keep so many bytes: with or without a carriage return they are too many.
+abbrev pub mostKept : ℕ
+mostKept = 16386
 
 -- The log after some input: the desk as it stands, what is kept of the line that is being read, how many lines were played,
 -- whether the input has ended, and the buffer that each answer is put into.

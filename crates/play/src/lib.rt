@@ -1,9 +1,11 @@
 // A log of calls played on one desk: the input taken in window by window, each line answered where it ends, and its answer sent.
+mod windows;
+
+use crate::windows::MOST_KEPT;
+use crate::windows::keep;
+use crate::windows::newline;
 use answer::answer_line;
 use desk::Desk;
-use script::windows::MOST_KEPT;
-use script::windows::keep;
-use script::windows::newline;
 use text::ANSWER_BYTES;
 ghost use mathlib.Core.Path.{_≡_};
 ghost use mathlib.Core.Bool.{false};
@@ -11,9 +13,8 @@ ghost use Prim.Native.Nat.{_-_, _≤_};
 ghost use lib.Dec.{ltb};
 ghost use lib.ListN.{length, take, drop};
 ghost use Rattle.text.specs.Text.{over, answerBytes};
-ghost use Rattle.script.specs.Said.{mostKept};
 ghost use Rattle.answer.specs.Answered.{played, answered};
-ghost use Rattle.play.specs.Log.{logOf, nextLine, stretched, heard, lastHeard, ComesOf};
+ghost use Rattle.play.specs.Log.{mostKept, logOf, nextLine, stretched, heard, lastHeard, ComesOf};
 ghost use Rattle.play.specs.Lines.{Played};
 
 // A log in play: the desk as it stands, how many bytes of the line that is being read are kept, how many lines were played,

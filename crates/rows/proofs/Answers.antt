@@ -5,11 +5,11 @@ use mathlib.Core.Bool.{Bool, true, false}
 use mathlib.Core.List.{List, []}
 use Prim.Native.Nat.{ℕ}
 use lib.ListN.{length}
-use Rattle.refusal.specs.Tests.{choose, both}
+use Rattle.basics.specs.Tests.{choose, both}
 use Rattle.refusal.specs.Refusals.{accepted, turn}
 use Rattle.refusal.specs.declared.Verdict.{Verdict}
 use Rattle.refusal.specs.declared.Verdict.the-variants.{Accepted, RoomTooSmall}
-use Rattle.refusal.proofs.Tests.{choose-yes, choose-no}
+use Rattle.basics.proofs.Tests.{choose-yes, choose-no}
 use Rattle.refusal.proofs.Rows.{firstOf, unlike, none-is}
 use Rattle.drawing.specs.Pins.{noPins}
 use Rattle.pinmap.specs.declared.Writing.{Writing}

@@ -5,15 +5,15 @@ use mathlib.Core.List.{List, [], _∷_, _++_}
 use Prim.Native.Nat.{ℕ, _<_}
 use borrow.Author.Tests.{not-true, not-false, leb-false, eqb-true, eq-eqb}
 use lib.Dec.{eqb, leb}
-use Rattle.refusal.specs.Tests.{both, either, choose}
+use Rattle.basics.specs.Tests.{both, either, choose}
 use Rattle.refusal.specs.Refusals.{accepted, turn}
 use Rattle.refusal.specs.declared.Verdict.{Verdict}
 use Rattle.refusal.specs.declared.Verdict.the-variants.{Accepted, SeatAbove, NotOpen, OpenAlready, JobZero, JobElsewhere, NoSuchPin, PinThere, Outside, PlaceTaken, NothingStands, NothingTakenBack, JournalFull, RoomTooSmall, DeskBroken}
-use Rattle.refusal.proofs.Tests.{both-left, both-right, either-false, choose-yes, choose-no}
+use Rattle.basics.proofs.Tests.{both-left, both-right, either-false, choose-yes, choose-no}
 use Rattle.refusal.proofs.Rows.{Row, given, firstOf, NoneHolds, numberOf, unlike, none-is}
-use Rattle.grid.specs.declared.Place.{Place}
-use Rattle.grid.specs.Place.{inside}
-use Rattle.feed.specs.Feeds.{mostPins, crowded}
+use Rattle.board.specs.declared.Place.{Place}
+use Rattle.board.specs.Place.{inside}
+use Rattle.board.specs.Spots.{mostPins, crowded}
 use Rattle.drawing.specs.Pins.{isThere, feedOf}
 use Rattle.drawing.specs.Edits.{standsAt}
 use Rattle.pinmap.specs.Map.{wrongLength, readFrom, readMap, noRoom}

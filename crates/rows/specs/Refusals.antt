@@ -4,14 +4,14 @@ use mathlib.Core.List.{List}
 use Prim.Native.Nat.{ℕ, _-_}
 use lib.Dec.{eqb, leb}
 use lib.ListN.{getD}
-use Rattle.refusal.specs.Tests.{either}
+use Rattle.basics.specs.Tests.{either}
 use Rattle.refusal.specs.Refusals.{turn}
 use Rattle.refusal.specs.declared.Verdict.{Verdict}
 use Rattle.refusal.specs.declared.Verdict.the-variants.{Accepted, SeatAbove, NotOpen, OpenAlready, JobZero, JobElsewhere, NoSuchPin, PinThere, Outside, PlaceTaken, NothingStands, NothingTakenBack, JournalFull, RoomTooSmall, DeskBroken}
-use Rattle.grid.specs.declared.Place.{Place}
-use Rattle.grid.specs.Place.{inside}
+use Rattle.board.specs.declared.Place.{Place}
+use Rattle.board.specs.Place.{inside}
 use Rattle.drawing.specs.declared.Pin.{Pin}
-use Rattle.feed.specs.Feeds.{mostPins, crowded}
+use Rattle.board.specs.Spots.{mostPins, crowded}
 use Rattle.drawing.specs.Pins.{absent, isThere, feedOf}
 use Rattle.drawing.specs.Edits.{standsAt}
 use Rattle.pinmap.specs.Map.{readMap, noRoom}

@@ -1,6 +1,6 @@
 // Rows of refusals: what a call finds at the seat that it names, for each call its row in document 01's order over that, and what opening reads, writing writes and wiring answers.
-use feed::PINS;
-use grid::Place;
+use board::PINS;
+use board::Place;
 use journal::RECORDS;
 use journal::Record;
 use journal::SEATS;
@@ -84,7 +84,7 @@ pub fn turned_placing(found: Found, pin: usize, at: Place) -> Verdict
     if drawing::is_there(there) {
         return Verdict::PinThere;
     }
-    if !grid::is_inside(at) {
+    if !board::is_inside(at) {
         return Verdict::Outside;
     }
     if drawing::is_crowded(pins, pin, at) {
@@ -123,7 +123,7 @@ pub fn turned_moving(found: Found, pin: usize, to: Place) -> Verdict
     if !refusal::is_accepted(verdict) {
         return verdict;
     }
-    if !grid::is_inside(to) {
+    if !board::is_inside(to) {
         return Verdict::Outside;
     }
     let s = found.state;

@@ -9,15 +9,15 @@ use lib.Dec.{eqb}
 use lib.ListN.{length, take, getD}
 use lib.Seq.{length-take-le}
 use borrow.Author.Tests.{eq-eqb, ne-eqb, lt-ltb, le-ltb}
-use Rattle.refusal.specs.Tests.{both, either, choose}
-use Rattle.refusal.proofs.Tests.{opposite, fails-if, both-no, both-yes, choose-yes, choose-no, choose-same}
-use Rattle.grid.specs.declared.Place.{Place}
+use Rattle.basics.specs.Tests.{both, either, choose}
+use Rattle.basics.proofs.Tests.{opposite, fails-if, both-no, both-yes, choose-yes, choose-no, choose-same}
+use Rattle.board.specs.declared.Place.{Place}
 use Rattle.text.specs.Text.{text, same, over}
 use Rattle.text.specs.Numbers.{mostNumber, mostJob, valueOf, isNumber, numberOf, isCoordinate, signed, listed, isList, bytesOf, isMap}
 use Rattle.script.specs.Said.{mostLine, mostRoom, mostLegsLent, only, seatCall, pairCall, isOpenCall, isBareCall, openCall, bareCall, lentCall, isPlacing, placeRead, placingOf, placeCall, callOf, isSkipped, saidIn, isLong, saidBy, mapIn, listIn, mapSaid, listSaid, mapGiven, xsGiven, ysGiven}
 use Rattle.text.specs.Words.{hash, endOf, withoutReturn, wordsOf, word, partOf, cutOf}
 use Rattle.text.specs.declared.Cut.{Cut}
-use Rattle.grid.proofs.Signed.{eqb-same}
+use Rattle.board.proofs.Signed.{eqb-same}
 use Rattle.text.proofs.Steps.{picked, unpicked, over-none, over-as}
 use Rattle.text.proofs.Cutting.{word-is, same-is}
 use Rattle.text.specs.declared.Number.{Number}

@@ -1,5 +1,3 @@
--- What is proved of lines and answers beside the functions' contracts.
+-- What is proved of lines beside the functions' contracts.
 pub mod Asking
-pub mod Telling
-pub mod Clipping
 pub mod Worked

@@ -1,3 +1,2 @@
--- What the lines of a log mean, and how answers are printed.
+-- What the lines of a log mean.
 pub mod Said
-pub mod Answers

@@ -5,9 +5,9 @@ use Prim.Native.Nat.{ℕ}
 use lib.IntN.{ℤ}
 use lib.Dec.{ltb, eqb}
 use lib.ListN.{length, getD}
-use Rattle.grid.specs.Place.{place}
-use Rattle.refusal.specs.Tests.{both, either, choose}
-use Rattle.grid.specs.declared.Place.{Place}
+use Rattle.board.specs.Place.{place}
+use Rattle.basics.specs.Tests.{both, either, choose}
+use Rattle.board.specs.declared.Place.{Place}
 use Rattle.text.specs.Text.{text, same}
 use Rattle.text.specs.Words.{hash, withoutReturn, wordsOf, word}
 use Rattle.text.specs.Numbers.{mostNumber, mostJob, valueOf, isNumber, isCoordinate, signed, listed, isList, bytesOf, isMap}
@@ -17,10 +17,6 @@ use Rattle.script.specs.declared.Placing.{Placing}
 -- A line of more bytes is not a call.
 abbrev pub mostLine : ℕ
 mostLine = 16384
-
--- Of a longer line it is enough to keep so many bytes: with or without a carriage return they are too many.
-abbrev pub mostKept : ℕ
-mostKept = 16386
 
 -- The most bytes that a call lends.
 abbrev pub mostRoom : ℕ

@@ -2,7 +2,7 @@
 use crate::MOST_ROOM;
 use crate::Placing;
 use crate::Said;
-use grid::Place;
+use board::Place;
 use text::Coordinate;
 use text::MOST_NUMBERS;
 use text::MOST_PAIRS;
@@ -18,7 +18,7 @@ use text::words::same;
 ghost use mathlib.Core.Path.{_≡_};
 ghost use mathlib.Core.List.{[]};
 ghost use lib.Dec.{eqb};
-ghost use Rattle.refusal.specs.Tests.{choose};
+ghost use Rattle.basics.specs.Tests.{choose};
 ghost use Rattle.text.specs.Text.{over};
 ghost use Rattle.text.specs.Numbers.{mostNumber, isNumber, valueOf, bytesOf, listed};
 ghost use Rattle.script.specs.Said.{mostRoom, mostLegsLent, only, seatCall, pairCall, isOpenCall, isBareCall, openCall, bareCall, lentCall, placingOf, placeCall, callOf, isSkipped as skipped, mapIn, listIn};

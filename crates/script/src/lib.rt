@@ -1,11 +1,9 @@
-// The lines of a log read into calls, and answers printed, over bytes.
-pub mod answers;
+// The lines of a log read into calls, over bytes.
 mod calls;
-pub mod windows;
 
+use board::Place;
 use calls::is_skipped;
 use calls::read_call;
-use grid::Place;
 use text::MOST_NUMBERS;
 use text::MOST_PAIRS;
 use text::words::cut;

@@ -4,7 +4,7 @@ use mathlib.Core.Bool.{not}
 use Prim.Native.Nat.{ℕ}
 use borrow.Author.Tests.{eq-eqb, ne-eqb}
 use lib.Dec.{eqb}
-use Rattle.refusal.specs.Tests.{both}
+use Rattle.basics.specs.Tests.{both}
 use Rattle.seats.specs.Seats.{sameJob}
 
 -- 0 is no seat's job;

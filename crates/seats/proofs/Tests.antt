@@ -8,8 +8,8 @@ use native.Mathlib.Omega.{arith}
 use borrow.Author.Tests.{eq-eqb, ne-eqb, eqb-true, eqb-false, le-leb, lt-leb, leb-true}
 use lib.Dec.{eqb, leb}
 use lib.ListN.{length, take, getD}
-use Rattle.refusal.specs.Tests.{both}
-use Rattle.refusal.proofs.Tests.{both-left, both-right, both-arm, both-stop, choose-yes, choose-no}
+use Rattle.basics.specs.Tests.{both}
+use Rattle.basics.proofs.Tests.{both-left, both-right, both-arm, both-stop, choose-yes, choose-no}
 use Rattle.drawing.specs.declared.Edit.{Edit}
 use Rattle.drawing.specs.Pins.{lawful}
 use Rattle.journal.specs.declared.Record.{Record}

@@ -4,7 +4,7 @@ use mathlib.Core.List.{List, reverse}
 use Prim.Native.Nat.{ℕ, zero, suc}
 use lib.Dec.{eqb, leb}
 use lib.ListN.{length, take, drop, getD}
-use Rattle.refusal.specs.Tests.{both, choose}
+use Rattle.basics.specs.Tests.{both, choose}
 use Rattle.drawing.specs.declared.Edit.{Edit}
 use Rattle.drawing.specs.Pins.{lawful}
 use Rattle.journal.specs.declared.Record.{Record}

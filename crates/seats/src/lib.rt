@@ -1,7 +1,7 @@
 // Seats: the drawing at one and how many of its edits stand, the jobs that are open, whether seats and the journal that they share are sound, and what undo, redo and a new edit make of a seat.
+use board::PINS;
 use drawing::Edit;
 use drawing::Pin;
-use feed::PINS;
 use journal::RECORDS;
 use journal::Record;
 use journal::SEATS;
@@ -9,8 +9,8 @@ ghost use mathlib.Core.Path.{_≡_};
 ghost use Prim.Native.Nat.{_-_, _<_, _≤_};
 ghost use lib.Dec.{leb};
 ghost use lib.ListN.{length, take, drop, getD};
-ghost use Rattle.refusal.specs.Tests.{both};
-ghost use Rattle.feed.specs.Feeds.{mostPins};
+ghost use Rattle.basics.specs.Tests.{both};
+ghost use Rattle.board.specs.Spots.{mostPins};
 ghost use Rattle.drawing.specs.Edits.{pinOf};
 ghost use Rattle.journal.specs.Journal.{mostRecords, mostSeats, noEdit, own, countsOf, seated};
 ghost use Rattle.seats.specs.Seats.{closedSeat, openSeat, takenBackCount, editedSeat, undoneSeat, redoneSeat, jobOf, jobsIn, sameJob, jobAmong, jobsApart};

@@ -7,16 +7,16 @@ use native.Mathlib.Nat.{add-zero, zero-add}
 use native.Mathlib.Omega.{arith}
 use lib.ListN.{length, take, drop, getD}
 use lib.Seq.{length-take-le}
-use Rattle.tree.specs.Bends.{howMany}
-use Rattle.feed.specs.declared.Spot.{Spot}
-use Rattle.feed.specs.declared.Spot.the-variants.{Absent}
-use Rattle.feed.specs.Feeds.{present}
+use Rattle.basics.specs.Sums.{howMany}
+use Rattle.board.specs.declared.Spot.{Spot}
+use Rattle.board.specs.declared.Spot.the-variants.{Absent}
+use Rattle.board.specs.Spots.{present}
 use Rattle.refusal.specs.Refusals.{accepted}
-use Rattle.refusal.proofs.Tests.{choose-yes, choose-no}
+use Rattle.basics.proofs.Tests.{choose-yes, choose-no}
 use Rattle.wiring.specs.declared.Wiring.{Wiring}
 use Rattle.wiring.specs.declared.Laid.{Laid}
 use Rattle.text.specs.Text.{over, answerBytes, Holds}
-use Rattle.script.specs.Answers.{verdictLine, wiredLine, jobLine}
+use Rattle.printed.specs.Answers.{verdictLine, wiredLine, jobLine}
 use Rattle.text.proofs.Printing.{Put, take-smaller}
 use Rattle.text.proofs.Steps.{front, first-more}
 use Rattle.shown.specs.Shown.{lineForEach, runsText, legsText, spotText, pinsText, pinsThere, wiredText, laidText, jobText, mapText}

@@ -2,25 +2,28 @@
 use mathlib.Core.Path.{_≡_, refl}
 use mathlib.Core.List.{List, [], _∷_, _++_}
 use lib.IntN.{pos, negsuc}
-use Rattle.refusal.specs.Tests.{both, either, choose, anyOf, noTwo}
-use Rattle.refusal.specs.Sums.{sum}
+use Rattle.basics.specs.Tests.{both, either, choose, anyOf, noTwo}
+use Rattle.basics.specs.Sums.{sum}
 use Rattle.refusal.specs.Refusals.{accepted, turn}
 use Rattle.refusal.specs.declared.Verdict.the-variants.{MapLength, OtherJob}
-use Rattle.feed.specs.declared.Spot.{Spot}
-use Rattle.feed.specs.declared.Spot.the-variants.{Absent, At}
-use Rattle.grid.specs.Place.{difference, larger, sameNumber, isStraight}
-use Rattle.grid.specs.Weight.{distanceOf, weightOf, pairOf, byPart, byNumber, comesBefore}
+use Rattle.board.specs.declared.Spot.{Spot}
+use Rattle.board.specs.declared.Spot.the-variants.{Absent, At}
+use Rattle.board.specs.Place.{difference, larger, sameNumber, isStraight}
+use Rattle.tree.specs.Weight.{weightOf, pairOf, byPart, byNumber, comesBefore}
+use Rattle.board.specs.Place.{distanceOf}
 use Rattle.tree.specs.Growth.{pairAt, sooner, keptIf, pinsFrom, without, runsFrom, runsBetween, earliest, earliestOf, nextRun, grown, runsAmong, pinsOf, runsOf}
 use Rattle.tree.specs.Boxes.{belowBoth, under, overlap, boxesShare, isEnd, common, clash}
-use Rattle.tree.specs.Bends.{bent, howMany}
+use Rattle.tree.specs.Bends.{bent}
+use Rattle.basics.specs.Sums.{howMany}
 use Rattle.copper.specs.Shapes.{lowerCorner, upperCorner, legsOf}
-use Rattle.copper.specs.Length.{sameStep, stepsAcross, stepsUp, smaller, stepsOf, stepsOfAll, different, lengthOf}
+use Rattle.copper.specs.Length.{sameStep, stepsAcross, stepsUp, stepsOf, stepsOfAll, different, lengthOf}
+use Rattle.board.specs.Place.{smaller}
 use Rattle.wiring.specs.declared.Laid.{Laid}
 use Rattle.wiring.specs.Choices.{bentShapes, shapesOf, withShape, withShapes, choicesOf, legsOfChoice, lengthOfChoice, shortest, shortestOf, bestChoice, weighedAt, weighedOf}
 use Rattle.wiring.specs.Answer.{shapedRuns, runEntries, legEntries, turnedAway, answerWith, wiringVerdict, wiringWith, wiringFavouring, wiringOf}
 use Rattle.text.specs.Text.{text}
 use Rattle.text.specs.Digits.{digits, integer, placeText}
-use Rattle.script.specs.Answers.{carriedText, toldLine, wiredLine, jobLine, runLine, legLine, drawingLine, pinLine}
+use Rattle.printed.specs.Answers.{carriedText, toldLine, wiredLine, jobLine, runLine, legLine, drawingLine, pinLine}
 use Rattle.shown.specs.Shown.{entryLine, lineForEach, legText, spotText, pinsText, wiredText, laidText, jobText, mapText, drawnText}
 
 -- W3: (0,0), (4,2), (4,-2).

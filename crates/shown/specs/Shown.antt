@@ -2,12 +2,12 @@
 use mathlib.Core.List.{List, [], _∷_, _++_}
 use Prim.Native.Nat.{ℕ, suc, _+_}
 use lib.ListN.{take}
-use Rattle.tree.specs.Bends.{howMany}
-use Rattle.refusal.specs.Tests.{choose}
+use Rattle.basics.specs.Sums.{howMany}
+use Rattle.basics.specs.Tests.{choose}
 use Rattle.refusal.specs.Refusals.{accepted}
-use Rattle.feed.specs.declared.Spot.{Spot}
-use Rattle.feed.specs.declared.Spot.the-variants.{Absent, At}
-use Rattle.feed.specs.Feeds.{present}
+use Rattle.board.specs.declared.Spot.{Spot}
+use Rattle.board.specs.declared.Spot.the-variants.{Absent, At}
+use Rattle.board.specs.Spots.{present}
 use Rattle.copper.specs.declared.Shape.{Shape}
 use Rattle.copper.specs.declared.Shape.the-variants.{Straight, Lower, Upper}
 use Rattle.copper.specs.declared.Leg.{Leg}
@@ -15,7 +15,7 @@ use Rattle.wiring.specs.declared.RunEntry.{RunEntry}
 use Rattle.wiring.specs.declared.Wiring.{Wiring}
 use Rattle.wiring.specs.declared.Laid.{Laid}
 use Rattle.text.specs.Text.{text}
-use Rattle.script.specs.Answers.{verdictLine, wiredLine, jobLine, runLine, legLine, drawingLine, pinLine}
+use Rattle.printed.specs.Answers.{verdictLine, wiredLine, jobLine, runLine, legLine, drawingLine, pinLine}
 
 -- The word of a shape.
 abbrev pub shapeWord : Shape → List ℕ

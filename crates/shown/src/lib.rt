@@ -1,16 +1,16 @@
 // Answers of several lines printed into a lent buffer: a wiring, the wiring of a map, a drawing.
+use basics::smaller;
+use board::PINS;
+use board::Spot;
 use copper::Leg;
 use copper::Shape;
-use feed::PINS;
-use feed::Spot;
-use script::answers::print_drawing;
-use script::answers::print_job;
-use script::answers::print_leg;
-use script::answers::print_pin;
-use script::answers::print_run;
-use script::answers::print_verdict;
-use script::answers::print_wired;
-use script::windows::smaller;
+use printed::print_drawing;
+use printed::print_job;
+use printed::print_leg;
+use printed::print_pin;
+use printed::print_run;
+use printed::print_verdict;
+use printed::print_wired;
 use text::ANSWER_BYTES;
 use tree::RUNS;
 use wiring::LEGS;
@@ -21,11 +21,11 @@ ghost use mathlib.Core.Path.{_≡_};
 ghost use Prim.Native.Nat.{_+_, _*_, _≤_};
 ghost use lib.ListN.{length, take};
 ghost use lib.Seq.{sets};
-ghost use Rattle.feed.specs.Feeds.{mostPins};
+ghost use Rattle.board.specs.Spots.{mostPins};
 ghost use Rattle.tree.specs.Trees.{mostRuns};
 ghost use Rattle.wiring.specs.Answer.{mostLegs};
 ghost use Rattle.text.specs.Text.{over, answerBytes};
-ghost use Rattle.script.specs.Answers.{mostRunBytes, mostLegBytes, mostPinBytes};
+ghost use Rattle.printed.specs.Answers.{mostRunBytes, mostLegBytes, mostPinBytes};
 ghost use Rattle.shown.specs.Shown.{entryLine, runsText, legText, legsText, spotText, pinsText, pinsThere, laidText, mapText, drawnText};
 
 // A run, from a position on.
@@ -124,7 +124,7 @@ fn pins_there(feed: [Spot; PINS]) -> usize
     while pin < PINS {
         let spot = feed[pin];
         pin += 1;
-        if feed::is_there(spot) {
+        if board::is_there(spot) {
             count += 1;
         }
     }

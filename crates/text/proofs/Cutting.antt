@@ -11,8 +11,8 @@ use lib.ListN.{length, take, drop, getD, List·getD-eq-default, length-drop, dro
 use lib.Seq.{drop-drop, take-length, getD-drop}
 use borrow.Author.Tests.{eqb-true, eq-eqb, ne-eqb}
 use Rattle.bytes.specs.Bytes.{indexOf, indexAfter, slice}
-use Rattle.refusal.specs.Tests.{choose, both}
-use Rattle.refusal.proofs.Tests.{opposite, fails-if, both-left, both-right, choose-yes, choose-no}
+use Rattle.basics.specs.Tests.{choose, both}
+use Rattle.basics.proofs.Tests.{opposite, fails-if, both-left, both-right, choose-yes, choose-no}
 use Rattle.text.specs.Text.{same}
 use Rattle.text.specs.Words.{return, space, endOf, beforeFirst, pieces, nonEmpty, wordsOf, word, spacesOf, startAt, stopAt, wordAt, partOf, afterWords, spanOf, cutOf}
 use Rattle.text.specs.declared.Span.{Span}

@@ -14,11 +14,11 @@ use lib.Seq.{sets, take-all, length-take-le}
 use mir.Syntax.{w32}
 use mir.Val.{ofZ, SFits}
 use borrow.Author.Tests.{lt-ltb, le-ltb, ltb-true}
-use Rattle.refusal.specs.Tests.{choose}
-use Rattle.grid.proofs.Signed.{rd, lt-rd}
+use Rattle.basics.specs.Tests.{choose}
+use Rattle.board.proofs.Signed.{rd, lt-rd}
 use Rattle.text.specs.Text.{text, over}
 use Rattle.text.specs.Digits.{digits, decimal, integer, hexDigit, hex}
-use Rattle.grid.proofs.Flat.{order}
+use Rattle.board.proofs.Flat.{order}
 use Rattle.text.proofs.Steps.{first-more, sets-append}
 use mathlib.Core.Logic.{_⊎_, inl, inr}
 

@@ -7,10 +7,10 @@ use native.Mathlib.Omega.{arith}
 use native.Mathlib.Nat.{add-zero}
 use lib.ListN.{length, take, drop, getD, set, length-drop}
 use lib.Seq.{getD-drop, length-take-le, take-all, sets}
-use Rattle.refusal.specs.Tests.{choose}
-use Rattle.refusal.proofs.Tests.{second-chosen}
-pub use Rattle.refusal.proofs.Tests.{first-chosen as picked}
-pub use Rattle.refusal.proofs.Lists.{front, first-more, sets-append}
+use Rattle.basics.specs.Tests.{choose}
+use Rattle.basics.proofs.Tests.{second-chosen}
+pub use Rattle.basics.proofs.Tests.{first-chosen as picked}
+pub use Rattle.basics.proofs.Lists.{front, first-more, sets-append}
 use Rattle.text.specs.Text.{over}
 
 module _ {A : Type 0} where

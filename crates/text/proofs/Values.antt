@@ -9,14 +9,14 @@ use lib.IntN.{ℤ, pos, negsuc, negℤ}
 use lib.Dec.{leb, ltb, eqb}
 use lib.ListN.{length, take, drop, getD, set, List·getD-eq-default, length-drop, length-map, drop-of-length-le}
 use lib.Seq.{drop-nil, drop-drop, take-all}
-use Rattle.refusal.proofs.Anyone.{each-first, each-rest}
+use Rattle.basics.proofs.Anyone.{each-first, each-rest}
 use Rattle.bytes.specs.Bytes.{indexOf}
 use mir.Syntax.{w32}
 use mir.Val.{toZ}
 use borrow.Author.Tests.{lt-leb, le-leb, lt-ltb, le-ltb, eq-eqb, ne-eqb, leb-true}
-use Rattle.refusal.specs.Tests.{both, either, choose, eachOf}
-use Rattle.refusal.proofs.Tests.{opposite, both-left, both-right}
-use Rattle.grid.proofs.Flat.{order}
+use Rattle.basics.specs.Tests.{both, either, choose, eachOf}
+use Rattle.basics.proofs.Tests.{opposite, both-left, both-right}
+use Rattle.board.proofs.Flat.{order}
 use Rattle.text.specs.Text.{same, over}
 use Rattle.text.specs.Words.{comma, pieces, stopAt}
 use Rattle.text.specs.Numbers.{mostAbove, mostBelow, mostNumber, mostNumbers, mostPairs, between, allDigits, valueFrom, valueOf, isNumber, numberOf, hasMinus, isCoordinate, signed, coordinateOf, noneWord, allCoordinates, isRow, listed, isList, isHex, hexValue, allPairs, bytesOf, isMap, beyond}

@@ -5,8 +5,8 @@ use Prim.Native.String.{String}
 use lib.IntN.{ℤ, pos, natAbs}
 use lib.Signed.{ltZ}
 use lib.Dec.{ltb}
-use Rattle.refusal.specs.Tests.{choose}
-use Rattle.grid.specs.declared.Place.{Place}
+use Rattle.basics.specs.Tests.{choose}
+use Rattle.board.specs.declared.Place.{Place}
 use Rattle.text.specs.Text.{text}
 
 -- The decimal digits of a number of at most so many digits.

@@ -5,7 +5,7 @@ use Prim.Native.Nat.{ℕ, _+_, _-_, _*_}
 use lib.IntN.{ℤ, pos, negℤ}
 use lib.Dec.{leb, ltb, eqb}
 use lib.ListN.{length, drop, getD}
-use Rattle.refusal.specs.Tests.{both, either, choose, eachOf}
+use Rattle.basics.specs.Tests.{both, either, choose, eachOf}
 use Rattle.text.specs.Text.{text, same}
 use Rattle.text.specs.Words.{minus, comma, pieces}
 use Rattle.text.specs.declared.Number.{Number}

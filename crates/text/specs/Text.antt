@@ -9,7 +9,7 @@ use Prim.Native.String.{String}
 use lib.Dec.{eqb}
 use lib.ListN.{length}
 use lib.Seq.{sets}
-use Rattle.refusal.specs.Tests.{both}
+use Rattle.basics.specs.Tests.{both}
 
 -- The bytes of a text.
 abbrev pub text : String → List ℕ

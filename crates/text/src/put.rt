@@ -1,6 +1,6 @@
 // Bytes, numbers and places put into a lent buffer from a position on, with the position after them told.
 use crate::ANSWER_BYTES;
-use grid::Place;
+use board::Place;
 ghost use mathlib.Core.Path.{_≡_};
 ghost use mathlib.Core.List.{_++_};
 ghost use Prim.Native.Nat.{_+_, _*_, _≤_, _<_};

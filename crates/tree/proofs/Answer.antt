@@ -6,12 +6,12 @@ use mathlib.Core.Logic.{_⊎_, inl, inr}
 use Prim.Native.Nat.{ℕ, zero, suc, _≤_}
 use native.Mathlib.Omega.{arith}
 use lib.ListN.{length}
-use Rattle.refusal.specs.Tests.{choose}
+use Rattle.basics.specs.Tests.{choose}
 use Rattle.refusal.specs.Refusals.{accepted, turn}
 use Rattle.refusal.specs.declared.Verdict.the-variants.{Accepted, NoPins, BoxesMeet}
-use Rattle.refusal.proofs.Tests.{decide}
-use Rattle.feed.specs.declared.Spot.{Spot}
-use Rattle.feed.specs.Feeds.{mostPins}
+use Rattle.basics.proofs.Tests.{decide}
+use Rattle.board.specs.declared.Spot.{Spot}
+use Rattle.board.specs.Spots.{mostPins}
 use Rattle.tree.specs.Growth.{pinsOf, runsAmong, runsOf, grown}
 use Rattle.tree.specs.Boxes.{boxesMeet}
 use Rattle.tree.specs.Trees.{mostRuns, treeWith, none, treeOf}

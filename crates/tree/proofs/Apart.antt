@@ -10,13 +10,13 @@ use native.Mathlib.Nat.{min-comm, max-comm}
 use lib.Dec.{eqb}
 use lib.ListN.{length}
 use borrow.Author.Tests.{eqb-false}
-use Rattle.refusal.specs.Tests.{both, either, anyOf, noTwo}
+use Rattle.basics.specs.Tests.{both, either, anyOf, noTwo}
 use Rattle.refusal.specs.declared.Verdict.the-variants.{Accepted}
-use Rattle.refusal.proofs.Tests.{decide, either-false, fails-if, both-no, both-yes, either-no, both-of}
-use Rattle.feed.specs.declared.Spot.{Spot}
-use Rattle.grid.proofs.Flat.{Site}
+use Rattle.basics.proofs.Tests.{decide, either-false, fails-if, both-no, both-yes, either-no, both-of}
+use Rattle.board.specs.declared.Spot.{Spot}
+use Rattle.board.proofs.Flat.{Site}
 use Rattle.tree.specs.declared.Run.{Run}
-use Rattle.feed.specs.Feeds.{mostPins, placeAt, allWithin}
+use Rattle.board.specs.Spots.{mostPins, placeAt, allWithin}
 use Rattle.tree.specs.Growth.{pinsOf, runsOf}
 use Rattle.tree.specs.Boxes.{boxesShare, isEnd, common, clash, clashAny, boxesMeet}
 use Rattle.tree.specs.Trees.{treeWith, none, treeOf}

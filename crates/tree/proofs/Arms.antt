@@ -6,14 +6,14 @@ use Prim.Native.Nat.{ℕ}
 use lib.Dec.{eqb}
 use lib.IntN.{ℤ}
 use borrow.Author.Tests.{eq-eqb, ne-eqb}
-use Rattle.refusal.specs.Tests.{both, either, choose}
-use Rattle.grid.specs.declared.Place.{Place}
-use Rattle.feed.specs.declared.Spot.{Spot}
-use Rattle.grid.specs.Weight.{comesBefore}
+use Rattle.basics.specs.Tests.{both, either, choose}
+use Rattle.board.specs.declared.Place.{Place}
+use Rattle.board.specs.declared.Spot.{Spot}
+use Rattle.tree.specs.Weight.{comesBefore}
 use Rattle.tree.specs.declared.Run.{Run}
 use Rattle.tree.specs.declared.Offer.{Offer}
 use Rattle.tree.specs.declared.Next.{Next}
-use Rattle.feed.specs.Feeds.{present, placeOf, placeAt}
+use Rattle.board.specs.Spots.{present, placeOf, placeAt}
 use Rattle.tree.specs.Boxes.{under, overlap, boxesShare, isEnd, common, clash}
 use Rattle.tree.specs.Offers.{noOffer, offerOf, firstOffer, betterOffer, nextOffer, earlierNext}
 

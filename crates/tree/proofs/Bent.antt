@@ -8,17 +8,18 @@ use lib.Dec.{eqb}
 use lib.IntN.{ℤ}
 use lib.ListN.{length}
 use borrow.Author.Tests.{eqb-true, eqb-false, not-true}
-use Rattle.refusal.specs.Tests.{both, either}
-use Rattle.refusal.proofs.Tests.{either-false}
-use Rattle.feed.specs.declared.Spot.{Spot}
-use Rattle.grid.specs.Place.{difference, sameNumber, isStraight}
-use Rattle.grid.proofs.Signed.{off, I32}
-use Rattle.grid.proofs.Flat.{gap, gap-self, difference-gap}
+use Rattle.basics.specs.Tests.{both, either}
+use Rattle.basics.proofs.Tests.{either-false}
+use Rattle.board.specs.declared.Spot.{Spot}
+use Rattle.board.specs.Place.{difference, sameNumber, isStraight}
+use Rattle.board.proofs.Signed.{off, I32}
+use Rattle.board.proofs.Flat.{gap, gap-self, difference-gap}
 use Rattle.tree.specs.declared.Run.{Run}
-use Rattle.feed.specs.Feeds.{mostPins, placeAt, allWithin}
+use Rattle.board.specs.Spots.{mostPins, placeAt, allWithin}
 use Rattle.tree.specs.Growth.{pinsOf, runsAmong, runsOf}
 use Rattle.tree.specs.Boxes.{isEnd}
-use Rattle.tree.specs.Bends.{bent, oneIf, howMany, bentAt, bentFrom, bentInto}
+use Rattle.tree.specs.Bends.{bent, bentAt, bentFrom, bentInto}
+use Rattle.basics.specs.Sums.{oneIf, howMany}
 use Rattle.tree.proofs.Membership.{Among, first, later}
 use Rattle.tree.proofs.Numbering.{siteAt, keyAt, keyed, stands, fits}
 use Rattle.tree.proofs.Branches.{Grown, branching, reached-there}

@@ -11,16 +11,16 @@ use lib.IntN.{ℤ}
 use lib.Signed.{ltZ}
 use lib.ListN.{length}
 use borrow.Author.Tests.{ltb-true, ltb-false, not-false, not-true}
-use Rattle.refusal.specs.Tests.{both}
-use Rattle.refusal.proofs.Tests.{decide, both-false, both-left, both-right, both-of}
-use Rattle.refusal.proofs.Anyone.{two-at}
-use Rattle.grid.specs.declared.Place.{Place}
-use Rattle.feed.specs.declared.Spot.{Spot}
-use Rattle.grid.proofs.Signed.{off, I32, ltZ-off}
-use Rattle.grid.proofs.Flat.{Site, site, PlaceI32}
+use Rattle.basics.specs.Tests.{both}
+use Rattle.basics.proofs.Tests.{decide, both-false, both-left, both-right, both-of}
+use Rattle.basics.proofs.Anyone.{two-at}
+use Rattle.board.specs.declared.Place.{Place}
+use Rattle.board.specs.declared.Spot.{Spot}
+use Rattle.board.proofs.Signed.{off, I32, ltZ-off}
+use Rattle.board.proofs.Flat.{Site, site, PlaceI32}
 use Rattle.tree.specs.Reached.{runAt}
 use Rattle.tree.specs.declared.Run.{Run}
-use Rattle.feed.specs.Feeds.{placeAt}
+use Rattle.board.specs.Spots.{placeAt}
 use Rattle.tree.specs.Growth.{run}
 use Rattle.tree.specs.Boxes.{belowBoth, under, overlap, boxesShare, common, clash, boxesMeet}
 use Rattle.tree.proofs.FourPins.{InBox}

@@ -10,8 +10,8 @@ use native.Mathlib.Nat.{max-eq-left, max-eq-right, le-of-lt}
 use mathlib.Core.Logic.{_⊎_, inl, inr}
 use lib.Dec.{eqb}
 use borrow.Author.Tests.{eq-eqb, ne-eqb}
-use Rattle.refusal.proofs.Tests.{opposite}
-use Rattle.grid.proofs.Flat.{order}
+use Rattle.basics.proofs.Tests.{opposite}
+use Rattle.board.proofs.Flat.{order}
 use Rattle.tree.specs.declared.Run.{Run}
 
 -- ---- the pins that the runs reach from a first pin

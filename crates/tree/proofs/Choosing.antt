@@ -9,14 +9,14 @@ use native.Mathlib.Nat.{eq-or-lt-of-le}
 use lib.Dec.{ltb}
 use lib.ListN.{length, getD}
 use borrow.Author.Tests.{ltb-true, ltb-false}
-use Rattle.refusal.specs.Tests.{choose}
-use Rattle.refusal.proofs.Tests.{opposite, decide, choose-yes, choose-no}
-use Rattle.grid.specs.declared.Place.{Place}
-use Rattle.feed.specs.declared.Spot.{Spot}
-use Rattle.grid.specs.Weight.{comesBefore}
+use Rattle.basics.specs.Tests.{choose}
+use Rattle.basics.proofs.Tests.{opposite, decide, choose-yes, choose-no}
+use Rattle.board.specs.declared.Place.{Place}
+use Rattle.board.specs.declared.Spot.{Spot}
+use Rattle.tree.specs.Weight.{comesBefore}
 use Rattle.tree.specs.declared.Offer.{Offer}
 use Rattle.tree.specs.declared.Next.{Next}
-use Rattle.feed.specs.Feeds.{mostPins, spotAt}
+use Rattle.board.specs.Spots.{mostPins, spotAt}
 use Rattle.tree.specs.Growth.{pairAt}
 use Rattle.tree.specs.Offers.{noOffer, firstOffer, nextOffer, firstOffers, nextOffers, earlierNext, nextFrom, nextOf}
 use Rattle.tree.proofs.Earliest.{Keyed}

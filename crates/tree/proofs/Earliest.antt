@@ -8,11 +8,11 @@ use Prim.Native.Nat.{ℕ, _<_, _≤_}
 use native.Mathlib.Omega.{arith}
 use lib.Dec.{ltb}
 use borrow.Author.Tests.{ltb-true, ltb-false}
-use Rattle.refusal.specs.Tests.{choose}
-use Rattle.refusal.proofs.Tests.{decide, choose-yes, choose-no}
-use Rattle.feed.specs.declared.Spot.{Spot}
-use Rattle.feed.specs.Feeds.{mostPins}
-use Rattle.grid.specs.Weight.{comesBefore}
+use Rattle.basics.specs.Tests.{choose}
+use Rattle.basics.proofs.Tests.{decide, choose-yes, choose-no}
+use Rattle.board.specs.declared.Spot.{Spot}
+use Rattle.board.specs.Spots.{mostPins}
+use Rattle.tree.specs.Weight.{comesBefore}
 use Rattle.tree.specs.declared.Run.{Run}
 use Rattle.tree.specs.Growth.{run, pairAt, sooner, runsBetween, earliest, earliestOf, nextRun}
 use Rattle.tree.proofs.Membership.{Among, first, later, between-in, in-between}

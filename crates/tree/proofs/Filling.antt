@@ -4,11 +4,11 @@ use mathlib.Core.List.{List}
 use Prim.Native.Nat.{ℕ, _+_, _<_, _≤_}
 use native.Mathlib.Omega.{arith}
 use lib.ListN.{length, getD, set}
-use Rattle.refusal.proofs.Lists.{overlaid, overlaid-turn, overlaid-next, overlaid-end}
-use Rattle.grid.specs.declared.Place.{Place}
-use Rattle.feed.specs.declared.Spot.{Spot}
+use Rattle.basics.proofs.Lists.{overlaid, overlaid-turn, overlaid-next, overlaid-end}
+use Rattle.board.specs.declared.Place.{Place}
+use Rattle.board.specs.declared.Spot.{Spot}
 use Rattle.tree.specs.declared.Offer.{Offer}
-use Rattle.feed.specs.Feeds.{spotAt}
+use Rattle.board.specs.Spots.{spotAt}
 use Rattle.tree.specs.Offers.{noOffer, firstOffer, nextOffer, firstOffers, nextOffers}
 use Rattle.tree.proofs.Choosing.{first-at, first-many, next-at, next-many}
 

@@ -6,13 +6,13 @@ use Prim.Native.Nat.{ℕ, zero, suc, _+_, _-_, _<_, _≤_}
 use native.Mathlib.Omega.{arith}
 use lib.ListN.{length, set, replicate, length-append}
 use lib.Seq.{append-snoc}
-use Rattle.refusal.proofs.Tests.{choose-yes, choose-no}
-use Rattle.refusal.proofs.Lists.{padded-more}
-use Rattle.feed.specs.declared.Spot.{Spot}
+use Rattle.basics.proofs.Tests.{choose-yes, choose-no}
+use Rattle.basics.proofs.Lists.{padded-more}
+use Rattle.board.specs.declared.Spot.{Spot}
 use Rattle.tree.specs.declared.Run.{Run}
 use Rattle.tree.specs.declared.Offer.{Offer}
 use Rattle.tree.specs.declared.Next.{Next}
-use Rattle.feed.specs.Feeds.{placeAt}
+use Rattle.board.specs.Spots.{placeAt}
 use Rattle.tree.specs.Growth.{run}
 use Rattle.tree.specs.Trees.{mostRuns, entries}
 use Rattle.tree.specs.Offers.{nextOffers, nextOf, takenRuns, takenOf}

@@ -1,5 +1,8 @@
 -- What is proved of the tree beside the functions' contracts.
+pub mod Keys
+pub mod Order
 pub mod Worked
+mod Weighed
 pub mod Arms
 pub mod Loops
 pub mod Membership

@@ -7,10 +7,10 @@ use mathlib.Core.Logic.{_⊎_, inl, inr, ⊎-elim}
 use Prim.Native.Nat.{ℕ, zero, suc, _<_}
 use native.Mathlib.Omega.{arith}
 use lib.ListN.{length}
-use Rattle.feed.specs.declared.Spot.{Spot}
-use Rattle.grid.proofs.Flat.{same-or-not}
+use Rattle.board.specs.declared.Spot.{Spot}
+use Rattle.board.proofs.Flat.{same-or-not}
 use Rattle.tree.specs.declared.Run.{Run}
-use Rattle.feed.specs.Feeds.{mostPins, allWithin}
+use Rattle.board.specs.Spots.{mostPins, allWithin}
 use Rattle.tree.specs.Growth.{pinsOf, without, nextRun, grown, runsAmong, runsOf}
 use Rattle.tree.proofs.Membership.{Among, first, later, Distinct, also, without-in, in-without, length-without, distinct-without, pins-there, pins-once, distinct-rest}
 use Rattle.tree.specs.Reached.{runAt}

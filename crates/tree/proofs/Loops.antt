@@ -5,13 +5,13 @@ use mathlib.Core.List.{List}
 use Prim.Native.Nat.{ℕ, _+_, _<_, _≤_}
 use native.Mathlib.Numerals.{add-one}
 use lib.ListN.{length, getD, drop, drop-of-length-le}
-use Rattle.refusal.proofs.Tests.{choose-yes, choose-no}
-use Rattle.refusal.proofs.Lists.{front}
-use Rattle.feed.specs.declared.Spot.{Spot}
-use Rattle.feed.specs.declared.Spot.the-variants.{Absent}
+use Rattle.basics.proofs.Tests.{choose-yes, choose-no}
+use Rattle.basics.proofs.Lists.{front}
+use Rattle.board.specs.declared.Spot.{Spot}
+use Rattle.board.specs.declared.Spot.the-variants.{Absent}
 use Rattle.tree.specs.declared.Offer.{Offer}
 use Rattle.tree.specs.declared.Next.{Next}
-use Rattle.feed.specs.Feeds.{present}
+use Rattle.board.specs.Spots.{present}
 use Rattle.tree.specs.Offers.{noOffer, earlierNext, nextFrom, firstFrom}
 
 -- ---- the earliest offer

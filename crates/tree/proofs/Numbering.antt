@@ -4,13 +4,13 @@ use mathlib.Core.Bool.{true}
 use mathlib.Core.List.{List}
 use Prim.Native.Nat.{ℕ, _<_}
 use native.Mathlib.Omega.{arith}
-use Rattle.feed.specs.declared.Spot.{Spot}
-use Rattle.grid.proofs.Flat.{Site, site, place-held}
-use Rattle.grid.proofs.Keys.{OnBoard, on-board, Fits, key, key-swap, key-one, before-key}
-use Rattle.grid.proofs.Order.{Pin, pin-fits}
-use Rattle.feed.specs.Feeds.{mostPins, placeAt, allWithin}
+use Rattle.board.specs.declared.Spot.{Spot}
+use Rattle.board.proofs.Flat.{Site, site, place-held}
+use Rattle.tree.proofs.Keys.{OnBoard, on-board, Fits, key, key-swap, key-one, before-key}
+use Rattle.tree.proofs.Order.{Pin, pin-fits}
+use Rattle.board.specs.Spots.{mostPins, placeAt, allWithin}
 use Rattle.tree.specs.Growth.{pairAt}
-use Rattle.feed.proofs.Rules.{inside-at}
+use Rattle.board.proofs.Rules.{inside-at}
 use Rattle.tree.proofs.Earliest.{Keyed}
 
 -- Where a pin of a feed stands, in ℕ.

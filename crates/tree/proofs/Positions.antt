@@ -7,8 +7,8 @@ use Prim.Native.Nat.{ℕ, zero, suc, _+_, _≤_, _<_}
 use native.Mathlib.Omega.{arith}
 use lib.ListN.{length}
 use borrow.Author.Tests.{eq-eqb, ne-eqb}
-use Rattle.refusal.specs.Tests.{choose}
-use Rattle.grid.proofs.Flat.{order}
+use Rattle.basics.specs.Tests.{choose}
+use Rattle.board.proofs.Flat.{order}
 use Rattle.tree.specs.declared.Run.{Run}
 use Rattle.tree.specs.Reached.{runAt, reachedPin, reachedFrom, reachedNear}
 use Rattle.tree.proofs.Membership.{Among, first, later}

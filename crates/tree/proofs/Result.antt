@@ -6,15 +6,15 @@ use mathlib.Core.Logic.{_⊎_, inl, inr}
 use Prim.Native.Nat.{ℕ, zero, suc, _+_, _-_, _<_, _≤_}
 use native.Mathlib.Omega.{arith}
 use lib.ListN.{length, take}
-use Rattle.refusal.specs.Tests.{choose}
+use Rattle.basics.specs.Tests.{choose}
 use Rattle.refusal.specs.declared.Verdict.the-variants.{Accepted, NoPins, BoxesMeet}
-use Rattle.refusal.proofs.Tests.{decide, choose-yes, choose-no}
-use Rattle.refusal.proofs.Lists.{padded-first}
-use Rattle.feed.specs.declared.Spot.{Spot}
+use Rattle.basics.proofs.Tests.{decide, choose-yes, choose-no}
+use Rattle.basics.proofs.Lists.{padded-first}
+use Rattle.board.specs.declared.Spot.{Spot}
 use Rattle.tree.specs.declared.Run.{Run}
 use Rattle.tree.specs.declared.Offer.{Offer}
 use Rattle.tree.specs.declared.Taken.{Taken}
-use Rattle.feed.specs.Feeds.{mostPins, present, placeAt, allWithin}
+use Rattle.board.specs.Spots.{mostPins, present, placeAt, allWithin}
 use Rattle.tree.specs.Growth.{run, pinsFrom, pinsOf, runsOf}
 use Rattle.tree.specs.Boxes.{boxesMeet}
 use Rattle.tree.specs.Trees.{mostRuns, entries, treeWith, none, treeOf}

@@ -8,11 +8,11 @@ use Prim.Native.Nat.{ℕ, zero, suc, _<_, _≤_}
 use native.Mathlib.Omega.{arith}
 use lib.ListN.{length}
 use borrow.Author.Tests.{lt-ltb, ltb-true}
-use Rattle.feed.specs.declared.Spot.{Spot}
-use Rattle.grid.specs.Weight.{comesBefore}
-use Rattle.grid.proofs.Flat.{same-or-not}
+use Rattle.board.specs.declared.Spot.{Spot}
+use Rattle.tree.specs.Weight.{comesBefore}
+use Rattle.board.proofs.Flat.{same-or-not}
 use Rattle.tree.specs.declared.Run.{Run}
-use Rattle.feed.specs.Feeds.{mostPins, allWithin}
+use Rattle.board.specs.Spots.{mostPins, allWithin}
 use Rattle.tree.specs.Growth.{run, pairAt, pinsOf, runsAmong, runsOf}
 use Rattle.tree.specs.Reached.{runAt}
 use Rattle.tree.proofs.Membership.{Among, first, later, without-in}

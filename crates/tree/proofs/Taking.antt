@@ -11,15 +11,15 @@ use lib.Dec.{ltb, eqb}
 use lib.ListN.{length, List·getD-eq-default}
 use borrow.Author.Tests.{ltb-true, ltb-false, eq-eqb, not-true}
 use Rattle.tree.proofs.Arms.{next-other, first-other}
-use Rattle.refusal.specs.Tests.{both, choose}
-use Rattle.refusal.proofs.Tests.{opposite, decide, choose-yes, choose-no, both-left, both-right}
-use Rattle.grid.specs.declared.Place.{Place}
-use Rattle.feed.specs.declared.Spot.{Spot}
-use Rattle.grid.specs.Weight.{comesBefore}
+use Rattle.basics.specs.Tests.{both, choose}
+use Rattle.basics.proofs.Tests.{opposite, decide, choose-yes, choose-no, both-left, both-right}
+use Rattle.board.specs.declared.Place.{Place}
+use Rattle.board.specs.declared.Spot.{Spot}
+use Rattle.tree.specs.Weight.{comesBefore}
 use Rattle.tree.specs.declared.Run.{Run}
 use Rattle.tree.specs.declared.Offer.{Offer}
 use Rattle.tree.specs.declared.Next.{Next}
-use Rattle.feed.specs.Feeds.{mostPins, present, placeOf, spotAt, placeAt}
+use Rattle.board.specs.Spots.{mostPins, present, placeOf, spotAt, placeAt}
 use Rattle.tree.specs.Growth.{run, pairAt, pinsFrom, without, nextRun, grown, runsAmong, pinsOf, runsOf}
 use Rattle.tree.specs.Trees.{mostRuns}
 use Rattle.tree.specs.Offers.{noOffer, offerOf, firstOffer, betterOffer, nextOffer, firstOffers, nextOf, takenRuns}

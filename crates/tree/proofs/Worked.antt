@@ -5,18 +5,19 @@ use mathlib.Core.List.{List, [], _∷_, map}
 use Prim.Native.Nat.{_-_}
 use lib.IntN.{pos}
 use lib.ListN.{replicate}
-use Rattle.refusal.specs.Tests.{both, either, choose, anyOf, eachOf, noTwo}
-use Rattle.refusal.specs.Lists.{padded}
+use Rattle.basics.specs.Tests.{both, either, choose, anyOf, eachOf, noTwo}
+use Rattle.basics.specs.Lists.{padded}
 use Rattle.refusal.specs.Refusals.{accepted, turn}
 use Rattle.refusal.specs.declared.Verdict.the-variants.{Accepted, NoPins}
-use Rattle.feed.specs.declared.Spot.{Spot}
-use Rattle.feed.specs.declared.Spot.the-variants.{Absent, At}
-use Rattle.grid.specs.declared.Place.{Place}
-use Rattle.grid.specs.Boards.{below, boards}
-use Rattle.grid.specs.Place.{place, onBoard, inside, difference, larger}
-use Rattle.grid.specs.Weight.{distanceOf, weightOf, pairOf, byPart, byNumber, comesBefore}
+use Rattle.board.specs.declared.Spot.{Spot}
+use Rattle.board.specs.declared.Spot.the-variants.{Absent, At}
+use Rattle.board.specs.declared.Place.{Place}
+use Rattle.board.specs.Boards.{below, boards}
+use Rattle.board.specs.Place.{place, onBoard, inside, difference, larger}
+use Rattle.tree.specs.Weight.{weightOf, pairOf, byPart, byNumber, comesBefore}
+use Rattle.board.specs.Place.{distanceOf}
 use Rattle.tree.specs.declared.Run.{Run}
-use Rattle.feed.specs.Feeds.{mostPins, within, allWithin}
+use Rattle.board.specs.Spots.{mostPins, within, allWithin}
 use Rattle.tree.specs.Growth.{run, pairAt, sooner, keptIf, pinsFrom, without, runsFrom, runsBetween, earliest, earliestOf, nextRun, grown, runsAmong, pinsOf, runsOf}
 use Rattle.tree.specs.Boxes.{belowBoth, under, overlap, boxesShare, isEnd, common, clash}
 use Rattle.tree.specs.Trees.{entries, treeWith, treeOf}

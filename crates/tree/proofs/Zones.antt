@@ -7,8 +7,8 @@ use Prim.Native.Nat.{ℕ, _+_, _*_, _<_, _≤_}
 use native.Mathlib.Omega.{arith}
 use lib.Dec.{T, ltb}
 use borrow.Author.Tests.{ltb-true, ltb-false}
-use Rattle.grid.proofs.Flat.{gap, gap-swap, gap-up, gap-down, gap-through, Site, span}
-use Rattle.tree.specs.Bends.{oneIf, howMany}
+use Rattle.board.proofs.Flat.{gap, gap-swap, gap-up, gap-down, gap-through, Site, span}
+use Rattle.basics.specs.Sums.{oneIf, howMany}
 use Rattle.tree.proofs.Neighbours.{All, All.none, All.also, all-map, Pairwise}
 
 -- On which side of a number another lies.

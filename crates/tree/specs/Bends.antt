@@ -1,28 +1,19 @@
 -- Straight and bent runs, and the bent runs at a pin.
-use mathlib.Core.Bool.{Bool, true, false, not}
-use mathlib.Core.List.{List, [], _∷_}
-use Prim.Native.Nat.{ℕ, _+_}
+use mathlib.Core.Bool.{Bool, not}
+use mathlib.Core.List.{List}
+use Prim.Native.Nat.{ℕ}
 use lib.Dec.{eqb}
-use Rattle.refusal.specs.Tests.{both}
-use Rattle.feed.specs.declared.Spot.{Spot}
-use Rattle.grid.specs.Place.{isStraight}
+use Rattle.basics.specs.Tests.{both}
+use Rattle.basics.specs.Sums.{howMany}
+use Rattle.board.specs.declared.Spot.{Spot}
+use Rattle.board.specs.Place.{isStraight}
 use Rattle.tree.specs.declared.Run.{Run}
-use Rattle.feed.specs.Feeds.{placeAt}
+use Rattle.board.specs.Spots.{placeAt}
 use Rattle.tree.specs.Boxes.{isEnd}
 
 -- A run that is not straight is bent.
 unfoldable pub bent : List Spot → Run → Bool
 bent feed r = not (isStraight (placeAt feed (r .near)) (placeAt feed (r .far)))
-
--- 1 where a test holds, else 0.
-abbrev pub oneIf : Bool → ℕ
-oneIf true = 1
-oneIf false = 0
-
--- How many members of a list pass a test.
-unfoldable pub howMany : {A : Type 0} → (A → Bool) → List A → ℕ
-howMany test [] = 0
-howMany test (a ∷ l) = oneIf (test a) + howMany test l
 
 -- The bent runs at a pin.
 abbrev pub bentAt : List Spot → List Run → ℕ → ℕ

@@ -5,11 +5,11 @@ use Prim.Native.Nat.{ℕ}
 use lib.IntN.{ℤ}
 use lib.Signed.{ltZ}
 use lib.Dec.{eqb}
-use Rattle.refusal.specs.Tests.{both, either, anyOf, noTwo}
-use Rattle.grid.specs.declared.Place.{Place}
-use Rattle.feed.specs.declared.Spot.{Spot}
+use Rattle.basics.specs.Tests.{both, either, anyOf, noTwo}
+use Rattle.board.specs.declared.Place.{Place}
+use Rattle.board.specs.declared.Spot.{Spot}
 use Rattle.tree.specs.declared.Run.{Run}
-use Rattle.feed.specs.Feeds.{placeAt}
+use Rattle.board.specs.Spots.{placeAt}
 
 -- A number is less than both c and d.
 unfoldable pub belowBoth : ℤ → ℤ → ℤ → Bool

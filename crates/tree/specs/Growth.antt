@@ -4,11 +4,11 @@ use mathlib.Core.List.{List, [], _∷_, _++_}
 use Prim.Native.Nat.{ℕ, zero, suc}
 use lib.Dec.{eqb}
 use lib.ListN.{length}
-use Rattle.refusal.specs.Tests.{choose}
-use Rattle.feed.specs.Feeds.{present, placeAt}
-use Rattle.feed.specs.declared.Spot.{Spot}
-use Rattle.grid.specs.declared.Pair.{Pair}
-use Rattle.grid.specs.Weight.{pairOf, comesBefore}
+use Rattle.basics.specs.Tests.{choose}
+use Rattle.board.specs.Spots.{present, placeAt}
+use Rattle.board.specs.declared.Spot.{Spot}
+use Rattle.tree.specs.declared.Pair.{Pair}
+use Rattle.tree.specs.Weight.{pairOf, comesBefore}
 use Rattle.tree.specs.declared.Run.{Run}
 
 -- The pair of two pins of a feed.

@@ -1,4 +1,5 @@
 -- What the words of the tree mean.
+pub mod Weight
 pub mod Growth
 pub mod Boxes
 pub mod Trees

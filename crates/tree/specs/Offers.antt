@@ -5,15 +5,15 @@ use Prim.Native.Nat.{ℕ, zero, suc}
 use lib.IntN.{pos}
 use lib.Dec.{eqb}
 use lib.ListN.{length}
-use Rattle.refusal.specs.Tests.{both, choose}
-use Rattle.grid.specs.declared.Place.{Place}
-use Rattle.feed.specs.declared.Spot.{Spot}
-use Rattle.grid.specs.Weight.{pairOf, comesBefore}
+use Rattle.basics.specs.Tests.{both, choose}
+use Rattle.board.specs.declared.Place.{Place}
+use Rattle.board.specs.declared.Spot.{Spot}
+use Rattle.tree.specs.Weight.{pairOf, comesBefore}
 use Rattle.tree.specs.declared.Run.{Run}
 use Rattle.tree.specs.declared.Offer.{Offer}
 use Rattle.tree.specs.declared.Next.{Next}
 use Rattle.tree.specs.declared.Taken.{Taken}
-use Rattle.feed.specs.Feeds.{present, placeOf, placeAt}
+use Rattle.board.specs.Spots.{present, placeOf, placeAt}
 use Rattle.tree.specs.Growth.{run}
 use Rattle.tree.specs.Trees.{entries}
 

@@ -3,10 +3,10 @@ use mathlib.Core.List.{List, [], _∷_}
 use Prim.Native.Nat.{ℕ, zero, suc}
 use lib.Dec.{eqb}
 use lib.ListN.{getD}
-use Rattle.refusal.specs.Tests.{choose}
-use Rattle.grid.specs.declared.Place.{Place}
-use Rattle.feed.specs.declared.Spot.{Spot}
-use Rattle.feed.specs.Feeds.{placeAt}
+use Rattle.basics.specs.Tests.{choose}
+use Rattle.board.specs.declared.Place.{Place}
+use Rattle.board.specs.declared.Spot.{Spot}
+use Rattle.board.specs.Spots.{placeAt}
 use Rattle.tree.specs.declared.Run.{Run}
 use Rattle.tree.specs.Growth.{run}
 

@@ -1,21 +1,35 @@
 // The runs of a feed: the tree that joins its pins, grown from the lowest-numbered pin, or why there is none.
-use feed::PINS;
-use feed::Spot;
-use grid::Pair;
-use grid::Place;
-use grid::Weight;
+mod weights;
+
+use board::PINS;
+use board::Place;
+use board::Spot;
 use refusal::Verdict;
 ghost use mathlib.Core.Path.{_≡_};
 ghost use mathlib.Core.Bool.{true, not};
 ghost use mathlib.Core.List.{[]};
 ghost use Prim.Native.Nat.{_≤_};
 ghost use lib.ListN.{take, drop};
-ghost use Rattle.refusal.specs.Tests.{both};
-ghost use Rattle.grid.specs.Place.{inside};
-ghost use Rattle.feed.specs.Feeds.{placeOf, placeAt, allWithin};
+ghost use Rattle.basics.specs.Tests.{both};
+ghost use Rattle.board.specs.Place.{inside};
+ghost use Rattle.board.specs.Spots.{placeOf, placeAt, allWithin};
 ghost use Rattle.tree.specs.Boxes.{belowBoth, under, overlap, boxesShare, isEnd, common, clashAny, boxesMeet};
 ghost use Rattle.tree.specs.Trees.{mostRuns, treeWith, treeOf};
 ghost use Rattle.tree.specs.Offers.{noOffer, offerOf, firstOffer, betterOffer, nextOffer, firstOffers, nextOffers, earlierNext, nextOf, takenRuns, firstFrom, takenOf};
+
+// The weight of a pair of pins: the distance, minus the difference in y, minus the larger x.
+pub struct Weight {
+    pub distance: i32,
+    pub rise: i32,
+    pub right: i32,
+}
+
+// A pair of pins: its weight, its smaller and its larger pin number.
+pub struct Pair {
+    pub weight: Weight,
+    pub low: usize,
+    pub high: usize,
+}
 
 // A tree of PINS pins has one run fewer.
 pub const RUNS: usize = 31;
@@ -59,7 +73,7 @@ fn first_pin(feed: [Spot; PINS]) -> usize
     let mut pin = 0;
     while pin < PINS {
         let spot = feed[pin];
-        if feed::is_there(spot) {
+        if board::is_there(spot) {
             return pin;
         }
         pin += 1;
@@ -93,7 +107,7 @@ fn offer_of(near: usize, from: Place, pin: usize, to: Place) -> Offer
     requires { ⌜ (inside from ≡ true) × (inside to ≡ true) ⌝ }
     ensures { λ r. ⌜ r ≡ offerOf near from pin to ⌝ }
 {
-    let pair = grid::pair_of(near, from, pin, to);
+    let pair = weights::pair_of(near, from, pin, to);
     Offer {
         waits: true,
         near,
@@ -106,13 +120,13 @@ fn first_offer(first: usize, from: Place, pin: usize, spot: Spot) -> Offer
     requires { ⌜ (inside from ≡ true) × (inside (placeOf spot) ≡ true) ⌝ }
     ensures { λ r. ⌜ r ≡ firstOffer first from pin spot ⌝ }
 {
-    if !feed::is_there(spot) {
+    if !board::is_there(spot) {
         return no_offer();
     }
     if pin == first {
         return no_offer();
     }
-    offer_of(first, from, pin, feed::place_of(spot))
+    offer_of(first, from, pin, board::place_of(spot))
 }
 
 // The earlier of two offers.
@@ -121,7 +135,7 @@ fn better_offer(kept: Offer, new: Offer) -> Offer
 {
     let ours = new.pair;
     let theirs = kept.pair;
-    if grid::before(ours, theirs) {
+    if weights::before(ours, theirs) {
         new
     } else {
         kept
@@ -139,7 +153,7 @@ fn next_offer(near: usize, from: Place, pin: usize, spot: Spot, kept: Offer) -> 
     if pin == near {
         return no_offer();
     }
-    let new = offer_of(near, from, pin, feed::place_of(spot));
+    let new = offer_of(near, from, pin, board::place_of(spot));
     better_offer(kept, new)
 }
 
@@ -148,7 +162,7 @@ fn first_offers(feed: [Spot; PINS], first: usize) -> [Offer; PINS]
     requires { ⌜ allWithin feed ≡ true ⌝ }
     ensures { λ r. ⌜ r ≡ firstOffers first (placeAt feed first) 0 feed ⌝ }
 {
-    let from = feed::place_at(feed, first);
+    let from = board::place_at(feed, first);
     let none = no_offer();
     let mut offers = [none; PINS];
     let mut pin = 0;
@@ -165,7 +179,7 @@ fn next_offers(feed: [Spot; PINS], kept: [Offer; PINS], near: usize) -> [Offer; 
     requires { ⌜ allWithin feed ≡ true ⌝ }
     ensures { λ r. ⌜ r ≡ nextOffers near (placeAt feed near) 0 feed kept ⌝ }
 {
-    let from = feed::place_at(feed, near);
+    let from = board::place_at(feed, near);
     let mut offers = kept;
     let mut pin = 0;
     while pin < PINS {
@@ -190,7 +204,7 @@ fn earlier_next(next: Next, pin: usize, offer: Offer) -> Next
     }
     let first = offer.pair;
     let second = kept.pair;
-    if grid::before(first, second) {
+    if weights::before(first, second) {
         return Next { pin, offer };
     }
     next
@@ -309,13 +323,13 @@ fn clashes_any(feed: [Spot; PINS], runs: [Run; RUNS], count: usize, run: Run, st
     requires { ⌜ count ≤ mostRuns ⌝ }
     ensures { λ r. ⌜ r ≡ clashAny feed run (drop start (take count runs)) ⌝ }
 {
-    let p = feed::place_at(feed, run.near);
-    let q = feed::place_at(feed, run.far);
+    let p = board::place_at(feed, run.near);
+    let q = board::place_at(feed, run.far);
     let mut at = start;
     while at < count {
         let other = runs[at];
-        let s = feed::place_at(feed, other.near);
-        let t = feed::place_at(feed, other.far);
+        let s = board::place_at(feed, other.near);
+        let t = board::place_at(feed, other.far);
         if do_clash(run, p, q, other, s, t) {
             return true;
         }

@@ -9,29 +9,29 @@ use lib.IntN.{ℤ, pos}
 use lib.Dec.{ltb}
 use lib.ListN.{length, getD, take, List·getD-eq-default}
 use borrow.Author.Tests.{ltb-true, ltb-false, lt-ltb, le-ltb, not-true, not-false}
-use Rattle.refusal.specs.Tests.{both, choose}
-use Rattle.refusal.specs.Lists.{valuesFrom}
+use Rattle.basics.specs.Tests.{both, choose}
+use Rattle.basics.specs.Lists.{valuesFrom}
 use Rattle.refusal.specs.Refusals.{accepted, turn}
 use Rattle.refusal.specs.declared.Verdict.the-variants.{Accepted, RoomTooSmall}
-use Rattle.refusal.proofs.Tests.{opposite, choose-no}
-use Rattle.refusal.proofs.Lists.{padded-at, padded-first, values-long, value-at, values-shift, values-same}
-use Rattle.grid.specs.declared.Place.{Place}
-use Rattle.feed.specs.declared.Spot.{Spot}
-use Rattle.grid.specs.Place.{onBoard, inside}
+use Rattle.basics.proofs.Tests.{opposite, choose-no}
+use Rattle.basics.proofs.Lists.{padded-at, padded-first, values-long, value-at, values-shift, values-same}
+use Rattle.board.specs.declared.Place.{Place}
+use Rattle.board.specs.declared.Spot.{Spot}
+use Rattle.board.specs.Place.{onBoard, inside}
 use Rattle.tree.specs.declared.Run.{Run}
 use Rattle.tree.specs.declared.Tree.{Tree}
-use Rattle.feed.specs.Feeds.{mostPins, placeAt, allWithin, allApart}
+use Rattle.board.specs.Spots.{mostPins, placeAt, allWithin, allApart}
 use Rattle.tree.specs.Growth.{run, pinsOf, runsOf}
 use Rattle.tree.specs.Boxes.{boxesMeet}
 use Rattle.tree.specs.Trees.{mostRuns, entries, treeWith, none, treeOf}
 use Rattle.tree.specs.Reached.{runAt, reachedPin, reachedNear, reachedPlace, reachedFrom}
-use Rattle.feed.proofs.Rules.{inside-at}
+use Rattle.board.proofs.Rules.{inside-at}
 use Rattle.tree.proofs.Answer.{Answer, no-pins, boxes-meet, the-runs, answer, runs-few}
 use Rattle.tree.proofs.Result.{take-entries as entries-take}
 use Rattle.copper.specs.declared.Shape.{Shape}
 use Rattle.copper.specs.declared.Leg.{Leg}
 use Rattle.copper.specs.Shapes.{shapeOf, legsOf}
-use Rattle.copper_laws.proofs.Tallies.{leastOf}
+use Rattle.least.proofs.Tallies.{leastOf}
 use Rattle.least.specs.declared.Least.{Least}
 use Rattle.least.specs.Asking.{base, pinPlace, markOf, leastOfTree, Grown, nearPin}
 use Rattle.least.specs.declared.Reached.{Reached}

@@ -9,11 +9,11 @@ use native.Mathlib.Nat.{add-mul-div-right, add-mul-mod-self-right, div-eq-of-lt,
 use native.Mathlib.Omega.{arith}
 use lib.ListN.{length}
 use borrow.Author.Tests.{not-false}
-use Rattle.grid.specs.declared.Place.{Place}
-use Rattle.feed.specs.declared.Spot.{Spot}
-use Rattle.grid.specs.Place.{isStraight}
+use Rattle.board.specs.declared.Place.{Place}
+use Rattle.board.specs.declared.Spot.{Spot}
+use Rattle.board.specs.Place.{isStraight}
 use Rattle.tree.specs.declared.Run.{Run}
-use Rattle.feed.specs.Feeds.{mostPins, allWithin, allApart}
+use Rattle.board.specs.Spots.{mostPins, allWithin, allApart}
 use Rattle.tree.specs.Growth.{pinsOf, runsOf}
 use Rattle.tree.specs.Boxes.{boxesMeet}
 use Rattle.tree.specs.Trees.{mostRuns}
@@ -24,11 +24,11 @@ use Rattle.copper.specs.declared.Leg.{Leg}
 use Rattle.copper.specs.Shapes.{shapeOf, legsOf}
 use Rattle.copper.specs.Length.{lengthOf}
 use Rattle.copper.specs.Least.{isBent}
-use Rattle.copper_laws.proofs.Sums.{sumBelow, sum-same}
-use Rattle.copper_laws.proofs.Least.{May}
-use Rattle.copper_laws.proofs.Tallies.{leastOf}
-use Rattle.copper_laws.proofs.Wired.{legsOfRuns, first-shortest, joinBelow, join-first, runs-joined}
-use Rattle.copper_laws.proofs.Planted.{places-held}
+use Rattle.copper.proofs.Sums.{sumBelow, sum-same}
+use Rattle.least.proofs.Choices.{May}
+use Rattle.least.proofs.Tallies.{leastOf}
+use Rattle.least.proofs.Wired.{legsOfRuns, first-shortest, joinBelow, join-first, runs-joined}
+use Rattle.least.proofs.Planted.{places-held}
 use Rattle.least.specs.Asking.{base, markOf}
 use Rattle.wiring.specs.Choices.{nearEnd, farEnd, choicesOf, legsOfChoice, lengthOfChoice, bestChoice}
 use Rattle.wiring.specs.Reaching.{upperIn, shapesBy}

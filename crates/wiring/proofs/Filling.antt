@@ -9,13 +9,13 @@ use lib.Dec.{eqb}
 use lib.ListN.{length, getD, set, take, drop, replicate, length-append}
 use lib.Seq.{append-snoc}
 use borrow.Author.Tests.{eq-eqb, ne-eqb}
-use Rattle.refusal.specs.Tests.{choose}
-use Rattle.refusal.specs.Lists.{valuesFrom}
-use Rattle.refusal.proofs.Lists.{front-of, none-left, first-more, padded-more, values-long, value-more}
-use Rattle.grid.specs.declared.Place.{Place}
-use Rattle.feed.specs.declared.Spot.{Spot}
+use Rattle.basics.specs.Tests.{choose}
+use Rattle.basics.specs.Lists.{valuesFrom}
+use Rattle.basics.proofs.Lists.{front-of, none-left, first-more, padded-more, values-long, value-more}
+use Rattle.board.specs.declared.Place.{Place}
+use Rattle.board.specs.declared.Spot.{Spot}
 use Rattle.tree.specs.declared.Run.{Run}
-use Rattle.feed.specs.Feeds.{placeAt}
+use Rattle.board.specs.Spots.{placeAt}
 use Rattle.least.specs.Asking.{markAt}
 use Rattle.tree.specs.Growth.{run}
 use Rattle.tree.specs.Trees.{mostRuns}

@@ -9,16 +9,16 @@ use native.Mathlib.Omega.{arith}
 use lib.IntN.{ℤ}
 use lib.ListN.{length, getD}
 use borrow.Author.Tests.{eq-eqb, eqb-true, lt-ltb}
-use Rattle.refusal.proofs.Tests.{opposite, both-of, both-left, both-right}
-use Rattle.grid.specs.declared.Place.{Place}
-use Rattle.feed.specs.declared.Spot.{Spot}
-use Rattle.feed.specs.declared.Spot.the-variants.{Absent, At}
-use Rattle.grid.specs.Place.{leastGap, difference, sameNumber, closer, tooNear, samePlace}
-use Rattle.grid.proofs.Signed.{I32, difference-off}
-use Rattle.grid.proofs.Flat.{Site, site, PlaceI32, order}
+use Rattle.basics.proofs.Tests.{opposite, both-of, both-left, both-right}
+use Rattle.board.specs.declared.Place.{Place}
+use Rattle.board.specs.declared.Spot.{Spot}
+use Rattle.board.specs.declared.Spot.the-variants.{Absent, At}
+use Rattle.board.specs.Place.{leastGap, difference, sameNumber, closer, tooNear, samePlace}
+use Rattle.board.proofs.Signed.{I32, difference-off}
+use Rattle.board.proofs.Flat.{Site, site, PlaceI32, order}
 use Rattle.tree.specs.declared.Run.{Run}
-use Rattle.feed.specs.Feeds.{mostPins, present, placeOf, spotAt, placeAt, spotsTooNear, allWithin, allApart}
-use Rattle.feed.proofs.Rules.{apart-pair}
+use Rattle.board.specs.Spots.{mostPins, present, placeOf, spotAt, placeAt, spotsTooNear, allWithin, allApart}
+use Rattle.board.proofs.Rules.{apart-pair}
 use Rattle.tree.specs.Growth.{pinsOf, runsOf}
 use Rattle.tree.specs.Boxes.{boxesMeet}
 use Rattle.tree.specs.Reached.{runAt, reachedNear, reachedPlace}
@@ -26,8 +26,8 @@ use Rattle.tree.proofs.Membership.{Among, pins-there}
 use Rattle.tree.proofs.Listing.{Rooted, pins-low, runs-rooted}
 use Rattle.tree.proofs.Positions.{near-before, near-pin, far-pin}
 use Rattle.tree.proofs.Numbering.{stands}
-use Rattle.copper_laws.proofs.Laid.{Spaced}
-use Rattle.copper_laws.proofs.Planted.{planted}
+use Rattle.least.proofs.Laid.{Spaced}
+use Rattle.least.proofs.Planted.{planted}
 
 -- Two numbers that are the same differ by less than the least gap.
 same-closer : (a b : ℤ) → sameNumber a b ≡ true → closer a b ≡ true

@@ -8,11 +8,11 @@ use native.Mathlib.Omega.{arith}
 use lib.Dec.{eqb}
 use lib.ListN.{length}
 use lib.Pow.{pow-pos, pow-add}
-use Rattle.refusal.specs.Tests.{choose}
+use Rattle.basics.specs.Tests.{choose}
 use Rattle.tree.specs.Trees.{mostRuns}
 use Rattle.copper.specs.declared.Shape.{Shape}
 use Rattle.copper.specs.declared.Shape.the-variants.{Straight, Lower, Upper}
-use Rattle.copper_laws.proofs.Sums.{oneIf, sumBelow, sum-same}
+use Rattle.copper.proofs.Sums.{oneIf, sumBelow, sum-same}
 use Rattle.least.specs.Asking.{differs, markAt, markOf}
 use Rattle.wiring.specs.Reaching.{upperIn}
 

@@ -9,9 +9,9 @@ use native.Mathlib.Omega.{arith}
 use lib.Dec.{ltb}
 use lib.ListN.{length}
 use borrow.Author.Tests.{lt-ltb, le-ltb}
-use Rattle.refusal.specs.Tests.{choose}
-use Rattle.feed.specs.declared.Spot.{Spot}
-use Rattle.grid.specs.Place.{isStraight}
+use Rattle.basics.specs.Tests.{choose}
+use Rattle.board.specs.declared.Spot.{Spot}
+use Rattle.board.specs.Place.{isStraight}
 use Rattle.tree.specs.declared.Run.{Run}
 use Rattle.tree.specs.Bends.{bent}
 use Rattle.tree.specs.Trees.{mostRuns}

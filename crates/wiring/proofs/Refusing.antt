@@ -5,11 +5,11 @@ use mathlib.Core.List.{List, [], _∷_}
 use Prim.Native.Nat.{ℕ}
 use lib.Dec.{ltb}
 use lib.ListN.{length}
-use Rattle.refusal.specs.Tests.{both, choose}
+use Rattle.basics.specs.Tests.{both, choose}
 use Rattle.refusal.specs.Refusals.{accepted}
 use Rattle.refusal.specs.declared.Verdict.the-variants.{Accepted, NoPins, BoxesMeet, RoomTooSmall}
 use Rattle.refusal.proofs.Rows.{Row, given, firstOf, distinct, unlike, behind}
-use Rattle.feed.specs.declared.Spot.{Spot}
+use Rattle.board.specs.declared.Spot.{Spot}
 use Rattle.tree.specs.Growth.{pinsOf, runsOf}
 use Rattle.tree.specs.Boxes.{boxesMeet}
 use Rattle.tree.specs.Trees.{none}

@@ -9,13 +9,13 @@ use native.Mathlib.Omega.{arith}
 use lib.Dec.{ltb}
 use lib.ListN.{length, take}
 use borrow.Author.Tests.{ltb-true, ltb-false}
-use Rattle.refusal.specs.Tests.{choose}
-use Rattle.refusal.proofs.Lists.{padded-first}
+use Rattle.basics.specs.Tests.{choose}
+use Rattle.basics.proofs.Lists.{padded-first}
 use Rattle.refusal.specs.Refusals.{accepted}
 use Rattle.refusal.specs.declared.Verdict.{Verdict}
-use Rattle.feed.specs.declared.Spot.{Spot}
+use Rattle.board.specs.declared.Spot.{Spot}
 use Rattle.tree.specs.declared.Run.{Run}
-use Rattle.feed.specs.Feeds.{mostPins, allWithin}
+use Rattle.board.specs.Spots.{mostPins, allWithin}
 use Rattle.tree.specs.Growth.{pinsOf, runsOf}
 use Rattle.tree.proofs.Membership.{Among, first, later, in-either}
 use Rattle.tree.proofs.Spanning.{none-among}

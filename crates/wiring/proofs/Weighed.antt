@@ -10,24 +10,25 @@ use lib.Dec.{eqb}
 use lib.ListN.{length}
 use lib.Pow.{pow-mono}
 use borrow.Author.Tests.{eq-eqb, ne-eqb, eqb-true, eqb-false}
-use Rattle.refusal.specs.Tests.{both, choose}
-use Rattle.refusal.proofs.Lists.{empty}
-use Rattle.refusal.specs.Sums.{sum}
-use Rattle.grid.specs.declared.Place.{Place}
-use Rattle.feed.specs.declared.Spot.{Spot}
-use Rattle.grid.proofs.Signed.{eqb-same}
-use Rattle.grid.specs.Place.{isStraight}
+use Rattle.basics.specs.Tests.{both, choose}
+use Rattle.basics.proofs.Lists.{empty}
+use Rattle.basics.specs.Sums.{sum}
+use Rattle.board.specs.declared.Place.{Place}
+use Rattle.board.specs.declared.Spot.{Spot}
+use Rattle.board.proofs.Signed.{eqb-same}
+use Rattle.board.specs.Place.{isStraight}
 use Rattle.tree.specs.declared.Run.{Run}
-use Rattle.feed.specs.Feeds.{mostPins, allWithin}
+use Rattle.board.specs.Spots.{mostPins, allWithin}
 use Rattle.tree.specs.Growth.{keptIf, without, pinsOf, runsOf}
-use Rattle.tree.specs.Bends.{bent, howMany, bentFrom, bentInto, oneIf}
+use Rattle.tree.specs.Bends.{bent, bentFrom, bentInto}
+use Rattle.basics.specs.Sums.{howMany, oneIf}
 use Rattle.tree.proofs.Membership.{Among, first, later, Distinct, also, without-none, distinct-without, pins-once, distinct-rest}
 use Rattle.tree.proofs.Listing.{Listed, done, taking, Rooted, runs-listed, runs-rooted}
 use Rattle.tree.specs.Reached.{runAt, reachedPin, reachedNear, reachedPlace}
 use Rattle.tree.proofs.Positions.{near-before, near-pin, far-pin, first-pin, reached-once}
 use Rattle.tree.proofs.Bent.{six-leading}
 use Rattle.copper.specs.Least.{isBent}
-use Rattle.copper_laws.proofs.Sums.{sumBelow, sum-same, sum-none, sum-only}
+use Rattle.copper.proofs.Sums.{sumBelow, sum-same, sum-none, sum-only}
 use Rattle.least.specs.Asking.{doubledIf}
 use Rattle.least.specs.Asking as asked
 use Rattle.least.proofs.Whole as whole

@@ -4,13 +4,13 @@ use mathlib.Core.List.{List, [], _∷_}
 use Prim.Native.Nat.{ℕ}
 use lib.Dec.{ltb}
 use lib.ListN.{length}
-use Rattle.refusal.specs.Tests.{choose}
-use Rattle.refusal.specs.Lists.{padded}
+use Rattle.basics.specs.Tests.{choose}
+use Rattle.basics.specs.Lists.{padded}
 use Rattle.refusal.specs.Refusals.{accepted, turn}
 use Rattle.refusal.specs.declared.Verdict.{Verdict}
 use Rattle.refusal.specs.declared.Verdict.the-variants.{Accepted, RoomTooSmall}
-use Rattle.grid.specs.Place.{middle}
-use Rattle.feed.specs.declared.Spot.{Spot}
+use Rattle.board.specs.Place.{middle}
+use Rattle.board.specs.declared.Spot.{Spot}
 use Rattle.tree.specs.declared.Run.{Run}
 use Rattle.tree.specs.Growth.{pinsOf, runsOf}
 use Rattle.tree.specs.Trees.{mostRuns, treeVerdict}

@@ -3,12 +3,12 @@ use mathlib.Core.Bool.{Bool}
 use mathlib.Core.List.{List, [], _∷_, _++_, map}
 use Prim.Native.Nat.{ℕ, _*_, _^_}
 use lib.Dec.{eqb, ltb}
-use Rattle.refusal.specs.Tests.{choose}
-use Rattle.refusal.specs.Sums.{sum}
-use Rattle.grid.specs.declared.Place.{Place}
-use Rattle.feed.specs.declared.Spot.{Spot}
+use Rattle.basics.specs.Tests.{choose}
+use Rattle.basics.specs.Sums.{sum}
+use Rattle.board.specs.declared.Place.{Place}
+use Rattle.board.specs.declared.Spot.{Spot}
 use Rattle.tree.specs.declared.Run.{Run}
-use Rattle.feed.specs.Feeds.{placeAt}
+use Rattle.board.specs.Spots.{placeAt}
 use Rattle.tree.specs.Bends.{bent, bentFrom, bentInto}
 use Rattle.copper.specs.declared.Shape.{Shape}
 use Rattle.copper.specs.declared.Shape.the-variants.{Straight, Lower, Upper}

@@ -5,10 +5,10 @@ use Prim.Native.Nat.{ℕ, suc, _/_, _%_}
 use lib.IntN.{ℤ}
 use lib.Dec.{eqb}
 use lib.ListN.{length, take}
-use Rattle.refusal.specs.Lists.{valuesFrom}
-use Rattle.feed.specs.declared.Spot.{Spot}
+use Rattle.basics.specs.Lists.{valuesFrom}
+use Rattle.board.specs.declared.Spot.{Spot}
 use Rattle.tree.specs.declared.Run.{Run}
-use Rattle.feed.specs.Feeds.{mostPins, placeAt}
+use Rattle.board.specs.Spots.{mostPins, placeAt}
 use Rattle.tree.specs.Reached.{runAt, reachedPlace, reachedFrom}
 use Rattle.tree.specs.Trees.{mostRuns}
 use Rattle.copper.specs.declared.Shape.{Shape}

@@ -1,9 +1,9 @@
 // Wiring: the best shapes of the runs, the answer with its legs, and the choices weighed.
+use board::PINS;
+use board::Place;
+use board::Spot;
 use copper::Leg;
 use copper::Shape;
-use feed::PINS;
-use feed::Spot;
-use grid::Place;
 use least::Reached;
 use refusal::Verdict;
 use tree::RUNS;
@@ -12,7 +12,7 @@ ghost use mathlib.Core.Path.{_≡_};
 ghost use mathlib.Core.Bool.{true, false};
 ghost use Prim.Native.Nat.{_+_, _≤_, _<_};
 ghost use lib.ListN.{take};
-ghost use Rattle.feed.specs.Feeds.{mostPins, allWithin, allApart};
+ghost use Rattle.board.specs.Spots.{mostPins, allWithin, allApart};
 ghost use Rattle.tree.specs.Trees.{mostRuns};
 ghost use Rattle.tree.specs.Reached.{reachedPin, reachedPlace, reachedFrom};
 ghost use Rattle.wiring.specs.Answer.{noRun, noLeg, turnedAway, wiringFavouring, wiringOf};
@@ -65,7 +65,7 @@ fn no_run() -> RunEntry
 fn no_leg() -> Leg
     ensures { λ r. ⌜ r ≡ noLeg ⌝ }
 {
-    let middle = grid::middle();
+    let middle = board::middle();
     Leg {
         from: middle,
         to: middle,
@@ -91,7 +91,7 @@ fn reached_place(feed: [Spot; PINS], runs: [Run; RUNS], i: usize) -> Place
     ensures { λ r. ⌜ r ≡ reachedPlace feed runs i ⌝ }
 {
     let pin = reached_pin(runs, i);
-    feed::place_at(feed, pin)
+    board::place_at(feed, pin)
 }
 
 // The number as which a pin is reached by the first runs; 0 where none of them reaches it.
@@ -172,8 +172,8 @@ fn shaped_in(
     ensures { λ r. ⌜ r ≡ shapedIn feed favoured mask runs at ⌝ }
 {
     let run = runs[at];
-    let near = feed::place_at(feed, run.near);
-    let far = feed::place_at(feed, run.far);
+    let near = board::place_at(feed, run.near);
+    let far = board::place_at(feed, run.far);
     let upper = upper_in(favoured, mask, at);
     let shape = copper::shape_of(upper, near, far);
     RunEntry {
@@ -216,8 +216,8 @@ fn legs_of(feed: [Spot; PINS], entries: [RunEntry; RUNS], count: usize) -> Strip
     while at < count {
         let entry = entries[at];
         let shape = entry.shape;
-        let near = feed::place_at(feed, entry.near);
-        let far = feed::place_at(feed, entry.far);
+        let near = board::place_at(feed, entry.near);
+        let far = board::place_at(feed, entry.far);
         let more = copper::leg_count(shape);
         legs[filled] = copper::first_leg(shape, near, far);
         if more == 2 {

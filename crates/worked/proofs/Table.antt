@@ -5,16 +5,16 @@ use mathlib.Core.List.{List, [], _∷_, _++_, map}
 use Prim.Native.Nat.{ℕ}
 use lib.IntN.{pos, negsuc}
 use lib.ListN.{replicate}
-use Rattle.refusal.specs.Tests.{both, either, choose, anyOf, eachOf, noTwo}
+use Rattle.basics.specs.Tests.{both, either, choose, anyOf, eachOf, noTwo}
 use Rattle.refusal.specs.Refusals.{accepted, turn}
 use Rattle.refusal.specs.declared.Verdict.{Verdict}
 use Rattle.refusal.specs.declared.Verdict.the-variants.{Accepted, NothingStands, NothingTakenBack}
-use Rattle.grid.specs.declared.Place.{Place}
-use Rattle.grid.specs.Boards.{boards}
-use Rattle.grid.specs.Number.{firstByte, secondByte, thirdByte, fourthByte}
-use Rattle.grid.specs.Place.{place, onBoard, inside, difference, closer, tooNear, sameNumber, samePlace}
+use Rattle.board.specs.declared.Place.{Place}
+use Rattle.board.specs.Boards.{boards}
+use Rattle.pinmap.specs.Number.{firstByte, secondByte, thirdByte, fourthByte}
+use Rattle.board.specs.Place.{place, onBoard, inside, difference, closer, tooNear, sameNumber, samePlace}
 use Rattle.drawing.specs.declared.Pin.{Pin}
-use Rattle.feed.specs.Feeds.{spotsTooNear, crowded, within, tooNearOther}
+use Rattle.board.specs.Spots.{spotsTooNear, crowded, within, tooNearOther}
 use Rattle.drawing.specs.Pins.{isThere, sameHeld, samePin, samePins, lawful, spotOf, feedOf}
 use Rattle.drawing.specs.Edits.{movedPin, made, unmade, standsAt, fits, placeable, movable, makeable, takeable, heldBy}
 use Rattle.pinmap.specs.Record.{recordBytes, pinBytes}

@@ -7,7 +7,7 @@ use lib.ListN.{length-replicate}
 use borrow.Author.Needs.{needs}
 use Rattle.desk.specs.Calls.{closing, placing, moving, removing, undoing, redoing}
 use Rattle.text.specs.Numbers.{mostPairs, mostNumbers}
-use Rattle.script.specs.Answers.{mostLineBytes, notACallLine}
+use Rattle.printed.specs.Answers.{mostLineBytes, notACallLine}
 use Rattle.shown.proofs.Lines.{held}
 use Rattle.answer.specs.Answered.{followed, printed}
 use Rattle.answer.proofs.Counts.{open-count, write-room, bare-counts}

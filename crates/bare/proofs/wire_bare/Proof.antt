@@ -6,8 +6,8 @@ use mathlib.Core.Bool.{false}
 use mathlib.Core.List.{List}
 use Rattle.refusal.specs.Refusals.{accepted}
 use Rattle.refusal.specs.declared.Verdict.the-variants.{ListLengths, NoPins, Outside, PlaceTaken}
-use Rattle.feed.specs.declared.Spot.{Spot}
-use Rattle.feed.specs.Feeds.{allWithin, allApart}
+use Rattle.board.specs.declared.Spot.{Spot}
+use Rattle.board.specs.Spots.{allWithin, allApart}
 use Rattle.wiring.specs.Answer.{wiringOf}
 use Rattle.bare.specs.Bare.{feedOfLists, wrongLengths}
 use Rattle.bare.proofs.Verdicts.{lengths-right, lengths-wrong, no-pins, one-outside, two-near, all-well, turned, wired}

@@ -1,7 +1,7 @@
 -- `bare::wrong_lengths` meets its contract, by the arm taken. Assumes nothing.
 use borrow.Author.Tests.{eq-eqb, ne-eqb}
 use lib.ListN.{length}
-use Rattle.refusal.specs.Tests.{either, choose}
+use Rattle.basics.specs.Tests.{either, choose}
 use Rattle.bare.specs.Bare.{wrongLengths}
 use Rattle.bare.proofs.wrong_lengths.Statement.{statement}
 use Rattle.bare.proofs.wrong_lengths.Tie as tie

@@ -2,7 +2,7 @@
 use borrow.Author.Needs.{needs}
 use mathlib.Core.Path.{sym, ap, _∙_}
 use mathlib.Core.Bool.{not}
-use Rattle.refusal.proofs.Tests.{both-no, both-yes}
+use Rattle.basics.proofs.Tests.{both-no, both-yes}
 use Rattle.drawing.specs.Edits.{placeable}
 use Rattle.drawing.proofs.can_place.Statement.{statement}
 use Rattle.drawing.proofs.can_place.Tie as tie

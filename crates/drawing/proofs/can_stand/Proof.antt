@@ -3,7 +3,7 @@ use borrow.Author.Needs.{needs}
 use borrow.Author.Tests.{not-true, not-false}
 use mathlib.Core.Path.{sym, ap, _∙_}
 use mathlib.Core.Bool.{not}
-use Rattle.refusal.proofs.Tests.{both-no, both-yes}
+use Rattle.basics.proofs.Tests.{both-no, both-yes}
 use Rattle.drawing.specs.Edits.{fits}
 use Rattle.drawing.proofs.can_stand.Statement.{statement}
 use Rattle.drawing.proofs.can_stand.Tie as tie

@@ -3,8 +3,8 @@ use borrow.Author.Needs.{needs}
 use borrow.Author.Tests.{not-true, not-false}
 use mathlib.Core.Path.{sym, ap, _∙_}
 use mathlib.Core.List.{List}
-use Rattle.feed.specs.declared.Spot.{Spot}
-use Rattle.feed.specs.Settled.{settled}
+use Rattle.board.specs.declared.Spot.{Spot}
+use Rattle.board.specs.Settled.{settled}
 use Rattle.drawing.proofs.Tests.{unmakeable, unsettled, remade}
 use Rattle.drawing.proofs.could_have_been_made.Statement.{statement}
 use Rattle.drawing.proofs.could_have_been_made.Tie as tie

@@ -3,8 +3,8 @@ use mathlib.Core.Path.{_≡_}
 use Prim.Native.Nat.{_-_}
 use borrow.Author.Needs.{needs}
 use native.Mathlib.Omega.{arith}
-use Rattle.refusal.proofs.Lists.{overlaid, overlaid-none, mapped-turn, mapped-all}
-use Rattle.feed.specs.Feeds.{mostPins}
+use Rattle.basics.proofs.Lists.{overlaid, overlaid-none, mapped-turn, mapped-all}
+use Rattle.board.specs.Spots.{mostPins}
 use Rattle.drawing.specs.Pins.{absent, spotOf, feedOf}
 use Rattle.drawing.proofs.feed_of.Statement.{statement}
 use Rattle.drawing.proofs.feed_of.Tie as tie

@@ -2,8 +2,8 @@
 use borrow.Author.Needs.{needs}
 use mathlib.Core.Path.{ap, _∙_}
 use mathlib.Core.List.{List}
-use Rattle.feed.specs.declared.Spot.{Spot}
-use Rattle.feed.specs.Feeds.{crowded}
+use Rattle.board.specs.declared.Spot.{Spot}
+use Rattle.board.specs.Spots.{crowded}
 use Rattle.drawing.proofs.is_crowded.Statement.{statement}
 use Rattle.drawing.proofs.is_crowded.Tie as tie
 

@@ -4,8 +4,8 @@ use borrow.Author.Tests.{not-true, not-false, eq-eqb}
 use mathlib.Core.Path.{_≡_, sym, ap, _∙_}
 use native.Mathlib.Omega.{arith}
 use lib.ListN.{length}
-use Rattle.refusal.proofs.Tests.{both-no, both-yes}
-use Rattle.feed.specs.Feeds.{mostPins, allWithin, allApart}
+use Rattle.basics.proofs.Tests.{both-no, both-yes}
+use Rattle.board.specs.Spots.{mostPins, allWithin, allApart}
 use Rattle.drawing.specs.Pins.{lawful}
 use Rattle.drawing.proofs.keep_rules.Statement.{statement}
 use Rattle.drawing.proofs.keep_rules.Tie as tie

@@ -4,8 +4,8 @@ use Prim.Native.Nat.{_-_, _≤_}
 use native.Mathlib.Omega.{arith}
 use borrow.Author.Tests.{lt-ltb, le-ltb}
 use lib.ListN.{length, take, drop}
-use Rattle.refusal.proofs.Lists.{front-of, none-left}
-use Rattle.refusal.proofs.Anyone.{each-next, each-stop, each-end}
+use Rattle.basics.proofs.Lists.{front-of, none-left}
+use Rattle.basics.proofs.Anyone.{each-next, each-stop, each-end}
 use Rattle.journal.specs.Journal.{blank, ofDesk, seated}
 use Rattle.journal.proofs.all_seated.Statement.{statement}
 use Rattle.journal.proofs.all_seated.Tie as tie

@@ -50,7 +50,7 @@ use denote.Exit.{yes}
 use Rattle.copper.specs.declared.Leg.{Leg}
 use Rattle.copper.proofs.Leg as T
 use Rattle.copper.proofs.Leg.Laws as T′
-use Rattle.refusal.proofs.Lists.{overlaid, overlaid-none, overlaid-long}
+use Rattle.basics.proofs.Lists.{overlaid, overlaid-none, overlaid-long}
 use Rattle.wiring.specs.declared.Laid.{Laid}
 use Rattle.wiring.specs.Answer.{mostLegs, noLeg}
 use Rattle.lent.proofs.Filling.{leg-more, legs-all}

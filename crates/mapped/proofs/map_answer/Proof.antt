@@ -3,7 +3,7 @@ use mathlib.Core.Path.{sym, _∙_}
 use native.Mathlib.Omega.{arith}
 use borrow.Author.Needs.{needs}
 use Rattle.text.specs.Text.{answerBytes}
-use Rattle.script.specs.Answers.{mostLineBytes}
+use Rattle.printed.specs.Answers.{mostLineBytes}
 use Rattle.shown.proofs.Lines.{held}
 use Rattle.mapped.proofs.Opening.{answer-refused, answer-wired}
 use Rattle.mapped.proofs.map_answer.Statement.{statement}

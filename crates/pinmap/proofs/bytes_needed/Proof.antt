@@ -3,7 +3,7 @@
 use Prim.Native.Nat.{_-_, _<_, _≤_}
 use native.Mathlib.Omega.{arith}
 use lib.ListN.{length, getD}
-use Rattle.feed.specs.Feeds.{mostPins}
+use Rattle.board.specs.Spots.{mostPins}
 use Rattle.drawing.specs.Pins.{absent}
 use Rattle.pinmap.proofs.Written.{Counted, counted-start, counted-next, counted-end, pin-length}
 use Rattle.pinmap.proofs.bytes_needed.Statement.{statement}

@@ -2,9 +2,9 @@
 use borrow.Author.Needs.{needs}
 use mathlib.Core.Path.{ap, _∙_}
 use mathlib.Core.List.{List}
-use Rattle.feed.specs.declared.Spot.{Spot}
-use Rattle.feed.specs.declared.Spot.the-variants.{At}
-use Rattle.feed.specs.Feeds.{tooNearAny}
+use Rattle.board.specs.declared.Spot.{Spot}
+use Rattle.board.specs.declared.Spot.the-variants.{At}
+use Rattle.board.specs.Spots.{tooNearAny}
 use Rattle.pinmap.proofs.has_place_taken.Statement.{statement}
 use Rattle.pinmap.proofs.has_place_taken.Tie as tie
 

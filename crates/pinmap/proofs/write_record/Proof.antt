@@ -3,8 +3,8 @@ use borrow.Author.Needs.{needs}
 use native.Mathlib.Omega.{arith}
 use mathlib.Core.Path.{_∙_, ap}
 use lib.ListN.{length, length-set}
-use Rattle.grid.specs.Number.{putAt}
-use Rattle.grid.proofs.Signed.{held}
+use Rattle.pinmap.specs.Number.{putAt}
+use Rattle.board.proofs.Signed.{held}
 use Rattle.pinmap.proofs.Written.{put-length, record-stored}
 use Rattle.pinmap.proofs.write_record.Statement.{statement}
 use Rattle.pinmap.proofs.write_record.Tie as tie

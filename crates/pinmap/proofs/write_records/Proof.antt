@@ -3,7 +3,7 @@
 use Prim.Native.Nat.{_-_, _<_, _≤_}
 use native.Mathlib.Omega.{arith}
 use lib.ListN.{length}
-use Rattle.feed.specs.Feeds.{mostPins}
+use Rattle.board.specs.Spots.{mostPins}
 use Rattle.pinmap.proofs.Written.{Storing, storing-start, storing-room, storing-next, storing-end}
 use Rattle.pinmap.proofs.write_records.Statement.{statement}
 use Rattle.pinmap.proofs.write_records.Tie as tie

@@ -2,7 +2,7 @@
 use Prim.Native.Nat.{_≤_}
 use native.Mathlib.Omega.{arith}
 use borrow.Author.Tests.{not-true}
-use Rattle.script.specs.Said.{mostKept}
+use Rattle.play.specs.Log.{mostKept}
 use Rattle.play.specs.Log.{logOf, ComesOf}
 use Rattle.play.proofs.Coming.{by-none, by-both}
 use Rattle.play.proofs.play_all.Statement.{statement}

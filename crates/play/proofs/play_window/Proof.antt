@@ -3,7 +3,7 @@ use mathlib.Core.Path.{_≡_, refl}
 use Prim.Native.Nat.{_-_, _≤_}
 use native.Mathlib.Omega.{arith}
 use lib.ListN.{length, drop}
-use Rattle.script.specs.Said.{mostKept}
+use Rattle.play.specs.Log.{mostKept}
 use Rattle.play.specs.Log.{logOf, heard}
 use Rattle.play.proofs.Turns.{window-more, window-done}
 use Rattle.play.proofs.play_window.Statement.{statement}

@@ -4,7 +4,7 @@ use mathlib.Core.Path.{ap, sym, _∙_}
 use mathlib.Core.List.{List, []}
 use borrow.Author.Tests.{not-false}
 use Rattle.refusal.proofs.Rows.{NoneHolds}
-use Rattle.feed.specs.declared.Spot.{Spot}
+use Rattle.board.specs.declared.Spot.{Spot}
 use Rattle.drawing.proofs.Rules.{lawful-parts}
 use Rattle.wiring.specs.Answer.{wiringOf, turnedAway}
 use Rattle.rows.specs.Found.{lookAtFound}

@@ -6,9 +6,9 @@ use mathlib.Core.Bool.{not}
 use mathlib.Core.List.{[]}
 use Prim.Native.Nat.{_<_}
 use Rattle.refusal.specs.declared.Verdict.{Verdict}
-use Rattle.refusal.proofs.Tests.{either-left, either-right}
+use Rattle.basics.proofs.Tests.{either-left, either-right}
 use Rattle.refusal.proofs.Rows.{firstOf, hit, miss}
-use Rattle.feed.specs.Feeds.{mostPins}
+use Rattle.board.specs.Spots.{mostPins}
 use Rattle.rows.specs.Refusals.{turnedMoving}
 use Rattle.rows.specs.Found.{lookAtFound}
 use Rattle.rows.proofs.Rows.{refused, went, thereRows, there-stops, there-goes, there-number}

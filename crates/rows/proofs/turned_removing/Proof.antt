@@ -5,7 +5,7 @@ use mathlib.Core.Bool.{not}
 use mathlib.Core.List.{[]}
 use borrow.Author.Tests.{le-leb, lt-leb}
 use Rattle.refusal.specs.declared.Verdict.{Verdict}
-use Rattle.refusal.proofs.Tests.{either-left, either-right}
+use Rattle.basics.proofs.Tests.{either-left, either-right}
 use Rattle.refusal.proofs.Rows.{firstOf, hit, miss}
 use Rattle.rows.specs.Refusals.{turnedRemoving}
 use Rattle.rows.specs.Found.{lookAtFound}

@@ -4,8 +4,8 @@ use mathlib.Core.Path.{_≡_, refl, sym, _∙_}
 use Prim.Native.Nat.{_≤_, _<_, _-_}
 use native.Mathlib.Omega.{arith}
 use lib.ListN.{length, drop, drop-of-length-le}
-use Rattle.refusal.proofs.Lists.{front}
-use Rattle.refusal.proofs.Anyone.{any-hit, any-miss, any-end}
+use Rattle.basics.proofs.Lists.{front}
+use Rattle.basics.proofs.Anyone.{any-hit, any-miss, any-end}
 use Rattle.journal.specs.Journal.{mostSeats}
 use Rattle.seats.specs.Seats.{sameJob, jobAmong}
 use Rattle.seats.proofs.job_among.Statement.{statement}

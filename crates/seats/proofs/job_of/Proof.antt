@@ -1,5 +1,5 @@
 -- `seats::job_of` meets its contract, by the seat's two cases. Assumes nothing.
-use Rattle.refusal.specs.Tests.{choose}
+use Rattle.basics.specs.Tests.{choose}
 use Rattle.seats.specs.Seats.{jobOf}
 use Rattle.seats.proofs.job_of.Statement.{statement}
 use Rattle.seats.proofs.job_of.Tie as tie

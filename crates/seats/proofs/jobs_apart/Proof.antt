@@ -4,8 +4,8 @@ use mathlib.Core.Path.{_≡_, refl, sym, _∙_}
 use Prim.Native.Nat.{_≤_, _<_, _-_}
 use native.Mathlib.Omega.{arith}
 use lib.ListN.{length, drop, drop-of-length-le}
-use Rattle.refusal.proofs.Lists.{front}
-use Rattle.refusal.proofs.Anyone.{two-next, two-stop, two-end}
+use Rattle.basics.proofs.Lists.{front}
+use Rattle.basics.proofs.Anyone.{two-next, two-stop, two-end}
 use Rattle.journal.specs.Journal.{mostSeats}
 use Rattle.seats.specs.Seats.{sameJob, jobsApart}
 use Rattle.seats.proofs.jobs_apart.Statement.{statement}

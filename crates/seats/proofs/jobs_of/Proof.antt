@@ -4,7 +4,7 @@ use mathlib.Core.List.{map}
 use Prim.Native.Nat.{_-_}
 use borrow.Author.Needs.{needs}
 use native.Mathlib.Omega.{arith}
-use Rattle.refusal.proofs.Lists.{overlaid, overlaid-none, mapped-turn, mapped-all}
+use Rattle.basics.proofs.Lists.{overlaid, overlaid-none, mapped-turn, mapped-all}
 use Rattle.journal.specs.Journal.{mostSeats}
 use Rattle.seats.specs.Seats.{noSeat, jobOf}
 use Rattle.seats.proofs.jobs_of.Statement.{statement}

@@ -3,10 +3,10 @@ use mathlib.Core.Path.{_≡_, sym, _∙_, ap}
 use Prim.Native.Nat.{_≤_, _+_, _-_}
 use native.Mathlib.Omega.{arith}
 use lib.ListN.{drop, drop-of-length-le}
-use Rattle.tree.specs.Bends.{howMany}
+use Rattle.basics.specs.Sums.{howMany}
 use Rattle.shown.proofs.Lines.{count-there, count-absent}
 use Rattle.shown.specs.Shown.{pinsThere}
-use Rattle.feed.specs.Feeds.{mostPins}
+use Rattle.board.specs.Spots.{mostPins}
 use borrow.Author.Needs.{needs}
 use Rattle.shown.proofs.pins_there.Statement.{statement}
 use Rattle.shown.proofs.pins_there.Tie as tie

@@ -2,7 +2,7 @@
 use mathlib.Core.Path.{ap}
 use Prim.Native.Nat.{ℕ}
 use native.Mathlib.Omega.{arith}
-use Rattle.script.specs.Answers.{drawingLine}
+use Rattle.printed.specs.Answers.{drawingLine}
 use Rattle.text.proofs.Printing.{put-as, then-put, line}
 use Rattle.shown.specs.Shown.{pinsThere, pinsText, drawnText}
 use Rattle.shown.proofs.Lines.{begun}

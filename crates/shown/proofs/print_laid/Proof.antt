@@ -3,7 +3,7 @@ use mathlib.Core.Path.{sym, _∙_}
 use native.Mathlib.Omega.{arith}
 use borrow.Author.Tests.{not-true, not-false}
 use lib.ListN.{take}
-use Rattle.script.specs.Answers.{mostLineBytes, wiredLine}
+use Rattle.printed.specs.Answers.{mostLineBytes, wiredLine}
 use Rattle.text.proofs.Printing.{put-as, put-all3, line}
 use Rattle.shown.specs.Shown.{runsText, legsText, laidText}
 use Rattle.shown.proofs.Lines.{begun, held, laid-refused, laid-accepted}

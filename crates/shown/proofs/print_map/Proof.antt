@@ -3,7 +3,7 @@ use mathlib.Core.Path.{sym, _∙_}
 use native.Mathlib.Omega.{arith}
 use borrow.Author.Tests.{not-true, not-false}
 use lib.ListN.{take}
-use Rattle.script.specs.Answers.{mostLineBytes, jobLine}
+use Rattle.printed.specs.Answers.{mostLineBytes, jobLine}
 use Rattle.text.proofs.Printing.{put-as, then-put, line}
 use Rattle.shown.specs.Shown.{runsText, mapText}
 use Rattle.shown.proofs.Lines.{begun, held, map-refused, map-accepted}

@@ -7,7 +7,7 @@ use Rattle.text.proofs.Printing.{Put, then-put, put-as}
 use Rattle.shown.proofs.Lines.{lines-more, first-all}
 use Rattle.shown.specs.Shown.{legText, lineForEach}
 use Rattle.wiring.specs.Answer.{mostLegs, noLeg}
-use Rattle.script.specs.Answers.{mostLegBytes}
+use Rattle.printed.specs.Answers.{mostLegBytes}
 use borrow.Author.Needs.{needs}
 use Rattle.shown.proofs.put_legs.Statement.{statement}
 use Rattle.shown.proofs.put_legs.Tie as tie

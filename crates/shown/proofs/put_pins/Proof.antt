@@ -7,9 +7,9 @@ use lib.Seq.{take-all}
 use Rattle.text.proofs.Printing.{Put, then-put, put-as}
 use Rattle.shown.proofs.Lines.{pins-more}
 use Rattle.shown.specs.Shown.{spotText, pinsText}
-use Rattle.feed.specs.declared.Spot.the-variants.{Absent}
-use Rattle.feed.specs.Feeds.{mostPins}
-use Rattle.script.specs.Answers.{mostPinBytes}
+use Rattle.board.specs.declared.Spot.the-variants.{Absent}
+use Rattle.board.specs.Spots.{mostPins}
+use Rattle.printed.specs.Answers.{mostPinBytes}
 use borrow.Author.Needs.{needs}
 use Rattle.shown.proofs.put_pins.Statement.{statement}
 use Rattle.shown.proofs.put_pins.Tie as tie

@@ -1,7 +1,7 @@
 -- `tree::below_both` meets its contract, by the arm taken. Assumes nothing.
-use Rattle.refusal.specs.Tests.{both}
+use Rattle.basics.specs.Tests.{both}
 use mir.Facts.{toZ-ofZ}
-use Rattle.grid.proofs.Signed.{lt-rd}
+use Rattle.board.proofs.Signed.{lt-rd}
 use Rattle.tree.specs.Boxes.{belowBoth}
 use Rattle.tree.proofs.below_both.Statement.{statement}
 use Rattle.tree.proofs.below_both.Tie as tie

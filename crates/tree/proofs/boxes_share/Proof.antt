@@ -1,6 +1,6 @@
 -- `tree::boxes_share` meets its contract: one test of x, one of y. Assumes nothing.
-use Rattle.refusal.proofs.Tests.{both-arm, both-stop}
-use Rattle.grid.proofs.Signed.{held}
+use Rattle.basics.proofs.Tests.{both-arm, both-stop}
+use Rattle.board.proofs.Signed.{held}
 use Rattle.tree.specs.Boxes.{boxesShare}
 use borrow.Author.Needs.{needs}
 use Rattle.tree.proofs.boxes_share.Statement.{statement}

@@ -7,8 +7,8 @@ use Prim.Native.Nat.{_-_}
 use lib.ListN.{getD, take, drop}
 use Rattle.tree.specs.Boxes.{clash, clashAny}
 use Rattle.tree.proofs.Arms.{clash-by}
-use Rattle.refusal.proofs.Lists.{front-of, none-left}
-use Rattle.refusal.proofs.Anyone.{any-hit, any-miss, any-end}
+use Rattle.basics.proofs.Lists.{front-of, none-left}
+use Rattle.basics.proofs.Anyone.{any-hit, any-miss, any-end}
 use Rattle.tree.proofs.clashes_any.Statement.{statement}
 use Rattle.tree.proofs.clashes_any.Tie as tie
 

@@ -5,8 +5,8 @@ use mathlib.Core.Path.{_≡_, refl, sym, ap, _∙_}
 use mathlib.Core.Bool.{not}
 use Prim.Native.Nat.{_-_}
 use lib.ListN.{take, drop}
-use Rattle.refusal.proofs.Lists.{front-of, none-left}
-use Rattle.refusal.proofs.Anyone.{two-next, two-stop, two-end}
+use Rattle.basics.proofs.Lists.{front-of, none-left}
+use Rattle.basics.proofs.Anyone.{two-next, two-stop, two-end}
 use Rattle.tree.specs.Growth.{run}
 use Rattle.tree.specs.Boxes.{clash, boxesMeet}
 use Rattle.tree.proofs.do_boxes_meet.Statement.{statement}

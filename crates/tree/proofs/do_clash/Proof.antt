@@ -1,7 +1,7 @@
 -- `tree::do_clash` meets its contract, by the arm taken. Assumes nothing.
 use mathlib.Core.Path.{sym, ap, _∙_}
 use mathlib.Core.Bool.{not}
-use Rattle.refusal.proofs.Tests.{both-no, both-yes}
+use Rattle.basics.proofs.Tests.{both-no, both-yes}
 use borrow.Author.Needs.{needs}
 use Rattle.tree.proofs.do_clash.Statement.{statement}
 use Rattle.tree.proofs.do_clash.Tie as tie

@@ -5,7 +5,7 @@ use native.Mathlib.Omega.{arith}
 use mathlib.Core.Path.{_≡_, sym, ap, _∙_}
 use Prim.Native.Nat.{_≤_, _-_}
 use lib.ListN.{drop}
-use Rattle.feed.specs.Feeds.{mostPins}
+use Rattle.board.specs.Spots.{mostPins}
 use Rattle.tree.specs.Offers.{nextFrom, nextOf}
 use Rattle.tree.proofs.Loops.{earliest-turn, earliest-end}
 use Rattle.tree.proofs.earliest_offer.Statement.{statement}

@@ -4,7 +4,7 @@ use native.Mathlib.Omega.{arith}
 use mathlib.Core.Path.{_≡_, refl, sym, _∙_}
 use Prim.Native.Nat.{_≤_, _-_}
 use lib.ListN.{drop}
-use Rattle.feed.specs.Feeds.{mostPins}
+use Rattle.board.specs.Spots.{mostPins}
 use Rattle.tree.specs.Offers.{firstFrom}
 use Rattle.tree.proofs.Loops.{first-turn, first-found, first-none}
 use Rattle.tree.proofs.first_pin.Statement.{statement}

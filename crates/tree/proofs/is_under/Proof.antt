@@ -1,6 +1,6 @@
 -- `tree::is_under` meets its contract, by the arm taken. Assumes nothing.
 use mir.Facts.{toZ-ofZ}
-use Rattle.refusal.proofs.Tests.{both-arm, both-stop}
+use Rattle.basics.proofs.Tests.{both-arm, both-stop}
 use Rattle.tree.specs.Boxes.{under}
 use borrow.Author.Needs.{needs}
 use Rattle.tree.proofs.is_under.Statement.{statement}

@@ -1,14 +1,14 @@
 -- `tree::next_offers` meets its contract: the array is filled from the front. Assumes nothing.
-use Rattle.grid.specs.declared.Place.{Place}
-use Rattle.feed.specs.Feeds.{mostPins}
-use Rattle.feed.proofs.Rules.{inside-at}
+use Rattle.board.specs.declared.Place.{Place}
+use Rattle.board.specs.Spots.{mostPins}
+use Rattle.board.proofs.Rules.{inside-at}
 use Rattle.tree.proofs.Filling.{next-fill, next-full}
 use borrow.Author.Needs.{needs}
 use native.Mathlib.Omega.{arith}
 use mathlib.Core.Path.{_≡_, ap, _∙_}
 use Prim.Native.Nat.{_≤_, _-_}
 use Rattle.tree.specs.Offers.{nextOffers}
-use Rattle.refusal.proofs.Lists.{overlaid, overlaid-none}
+use Rattle.basics.proofs.Lists.{overlaid, overlaid-none}
 use Rattle.tree.proofs.next_offers.Statement.{statement}
 use Rattle.tree.proofs.next_offers.Tie as tie
 

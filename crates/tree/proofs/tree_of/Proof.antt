@@ -4,7 +4,7 @@ use mathlib.Core.List.{List}
 use Prim.Native.Nat.{ℕ}
 use native.Mathlib.Omega.{arith}
 use Rattle.tree.specs.declared.Offer.{Offer}
-use Rattle.feed.specs.Feeds.{placeAt}
+use Rattle.board.specs.Spots.{placeAt}
 use Rattle.tree.specs.Offers.{firstOffers, takenRuns, takenOf, firstFrom}
 use Rattle.tree.specs.Trees.{mostRuns}
 use Rattle.tree.proofs.Result.{no-pins, count-few, boxes-meet, the-runs}

@@ -2,7 +2,7 @@
 use mathlib.Core.Path.{_≡_}
 use Prim.Native.Nat.{_≤_, _-_}
 use native.Mathlib.Omega.{arith}
-use Rattle.refusal.specs.Lists.{valuesFrom}
+use Rattle.basics.specs.Lists.{valuesFrom}
 use Rattle.wiring.specs.Reaching.{shapedIn}
 use Rattle.wiring.specs.Answer.{runEntries}
 use Rattle.wiring.proofs.Filling.{entries-none, entries-turn, entries-all}

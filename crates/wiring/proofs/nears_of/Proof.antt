@@ -2,7 +2,7 @@
 use mathlib.Core.Path.{_≡_, refl}
 use Prim.Native.Nat.{_-_}
 use Rattle.tree.specs.Trees.{mostRuns}
-use Rattle.refusal.proofs.Lists.{overlaid, overlaid-none, values-turn, values-all}
+use Rattle.basics.proofs.Lists.{overlaid, overlaid-none, values-turn, values-all}
 use Rattle.wiring.specs.Reaching.{nearsOf}
 use borrow.Author.Needs.{needs}
 use Rattle.wiring.proofs.nears_of.Statement.{statement}

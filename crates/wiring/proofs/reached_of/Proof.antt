@@ -5,9 +5,9 @@ use mir.Facts.{toZ-ofZ}
 use mathlib.Core.Path.{_≡_, refl, ap, _∙_}
 use Prim.Native.Nat.{_-_}
 use lib.IntN.{pos}
-use Rattle.grid.specs.declared.Place.{Place}
-use Rattle.feed.specs.Feeds.{mostPins}
-use Rattle.refusal.proofs.Lists.{overlaid, overlaid-none, values-turn, values-all}
+use Rattle.board.specs.declared.Place.{Place}
+use Rattle.board.specs.Spots.{mostPins}
+use Rattle.basics.proofs.Lists.{overlaid, overlaid-none, values-turn, values-all}
 use Rattle.wiring.specs.Reaching.{xsOf, ysOf, reachedOf}
 use borrow.Author.Needs.{needs}
 use Rattle.wiring.proofs.reached_of.Statement.{statement}

@@ -2,7 +2,7 @@
 use mathlib.Core.Path.{sym, _∙_}
 use Rattle.script.proofs.Asking.{placing-seat, placing-pin, placing-x, placing-y, placing-yes}
 use Rattle.text.proofs.Values.{coordinate-read, coordinate-unread}
-use Rattle.grid.proofs.Signed.{held}
+use Rattle.board.proofs.Signed.{held}
 use borrow.Author.Needs.{needs}
 use Rattle.script.proofs.calls.placing.Statement.{statement}
 use Rattle.script.proofs.calls.placing.Tie as tie

@@ -4,8 +4,8 @@ use Prim.Native.Nat.{_≤_, _-_}
 use native.Mathlib.Omega.{arith}
 use borrow.Author.Needs.{needs}
 use lib.ListN.{length, drop, drop-of-length-le}
-use Rattle.refusal.proofs.Lists.{front}
-use Rattle.refusal.proofs.Anyone.{each-next, each-stop, each-end}
+use Rattle.basics.proofs.Lists.{front}
+use Rattle.basics.proofs.Anyone.{each-next, each-stop, each-end}
 use Rattle.text.specs.Numbers.{isDigit, allDigits}
 use borrow.Author.Tests.{not-true, not-false}
 use Rattle.text.proofs.numbers.all_digits.Statement.{statement}

@@ -1,5 +1,5 @@
 -- `text::coordinate` meets its contract. Assumes nothing.
-use Rattle.grid.proofs.Signed.{held}
+use Rattle.board.proofs.Signed.{held}
 use borrow.Author.Needs.{needs, sfits-of}
 use Rattle.text.proofs.Values.{rest-whole, to-pos, minus-some, below-read, below-unread, plain-read, plain-unread, number-read, number-top}
 use Rattle.text.specs.Numbers.{mostAbove, mostBelow, numberOf}

@@ -1,5 +1,5 @@
 -- `text::fill_row` meets its contract. Assumes nothing.
-use Rattle.grid.proofs.Signed.{held}
+use Rattle.board.proofs.Signed.{held}
 use Rattle.text.proofs.Values.{row-coordinates, row-stored, row-after, row-done, rowLeft, row-start, row-numbers}
 use mathlib.Core.Path.{_≡_, refl, sym, _∙_, ap}
 use Prim.Native.Nat.{_≤_, _-_, _+_}

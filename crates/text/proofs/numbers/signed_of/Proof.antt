@@ -1,7 +1,7 @@
 -- `text::signed_of` meets its contract. Assumes nothing.
-use Rattle.grid.proofs.Signed.{held}
+use Rattle.board.proofs.Signed.{held}
 use mathlib.Core.Path.{sym, _∙_}
-use Rattle.refusal.proofs.Tests.{opposite}
+use Rattle.basics.proofs.Tests.{opposite}
 use Rattle.text.proofs.Values.{coordinate-read, coordinate-unread}
 use borrow.Author.Needs.{needs}
 use Rattle.text.proofs.numbers.signed_of.Statement.{statement}

@@ -1,6 +1,6 @@
 -- `text::magnitude` meets its contract. Assumes nothing.
 use native.Mathlib.Omega.{arith}
-use Rattle.grid.proofs.Bytes.{flipped, plain}
+use Rattle.board.proofs.Signed.{flipped, plain}
 use mir.Facts.{fits-ofZ}
 use Rattle.text.proofs.Printing.{below-abs}
 use borrow.Author.Needs.{needs}

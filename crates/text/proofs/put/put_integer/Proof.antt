@@ -1,6 +1,6 @@
 -- `text::put_integer` meets its contract. Assumes nothing.
 use lib.IntN.{natAbs}
-use Rattle.grid.proofs.Signed.{held}
+use Rattle.board.proofs.Signed.{held}
 use borrow.Author.Needs.{needs}
 use mathlib.Core.Path.{_∙_, ap}
 use mathlib.Core.List.{_++_}

@@ -3,7 +3,7 @@ use mathlib.Core.Path.{ap}
 use mathlib.Core.List.{_++_}
 use lib.IntN.{ℤ}
 use native.Mathlib.Omega.{arith}
-use Rattle.grid.proofs.Signed.{held}
+use Rattle.board.proofs.Signed.{held}
 use Rattle.text.proofs.Printing.{then-put, put-as}
 use Rattle.text.specs.Text.{text}
 use Rattle.text.specs.Digits.{integer, placeText}

@@ -1,0 +1,4 @@
+-- Tests joined by words, lists of a fixed length, sums and counts.
+pub mod Tests
+pub mod Lists
+pub mod Sums

@@ -1,0 +1,10 @@
+// What other crates share and no rule owns: tests joined by words, tests and counts of lists, lists of a fixed length, sums; and the smaller of two numbers.
+ghost use mathlib.Core.Path.{_≡_};
+ghost use Prim.Native.Nat.{min};
+
+// The smaller of two numbers.
+pub fn smaller(a: usize, b: usize) -> usize
+    ensures { λ r. ⌜ r ≡ min a b ⌝ }
+{
+    if a < b { a } else { b }
+}

@@ -1,0 +1,5 @@
+-- What the board's words mean.
+pub mod Place
+pub mod Spots
+pub mod Settled
+pub mod Boards

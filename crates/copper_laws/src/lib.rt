@@ -1,1 +1,0 @@
-// The laws of copper, which the proofs of wiring cite. There is no code here.

@@ -1,3 +1,0 @@
--- What the words of a feed mean.
-pub mod Feeds
-pub mod Settled

@@ -1,0 +1,169 @@
+-- The runs of a feed, its pins numbered by when they are reached, are laid as the length asks. From pins that stand on the board at places of
+-- their own, and from a search that found no boxes that meet.
+use mathlib.Core.Path.{_≡_, sym, _∙_, subst}
+use mathlib.Core.Bool.{true, false}
+use mathlib.Core.List.{List, [], _∷_, reverseAux}
+use mathlib.Core.Logic.{_⊎_, inl, inr}
+use Prim.Native.Nat.{ℕ, suc, _≤_, _<_}
+use native.Mathlib.Omega.{arith}
+use lib.IntN.{ℤ}
+use lib.ListN.{length}
+use borrow.Author.Tests.{eq-eqb, ne-eqb}
+use Rattle.basics.specs.Tests.{either}
+use Rattle.basics.proofs.Tests.{both-of, opposite}
+use Rattle.board.specs.declared.Place.{Place}
+use Rattle.board.specs.declared.Spot.{Spot}
+use Rattle.board.specs.Place.{sameNumber, samePlace}
+use Rattle.board.proofs.Signed.{off, I32}
+use Rattle.board.proofs.Flat.{order, Site, span, site, PlaceI32}
+use Rattle.tree.specs.declared.Run.{Run}
+use Rattle.board.specs.Spots.{mostPins, allWithin, placeAt}
+use Rattle.tree.specs.Growth.{pinsOf, runsOf}
+use Rattle.tree.specs.Reached.{runAt, reachedPin, reachedNear, reachedPlace}
+use Rattle.tree.specs.Boxes.{isEnd, common, boxesMeet}
+use Rattle.tree.proofs.Membership.{Among}
+use Rattle.tree.proofs.Numbering.{siteAt, keyAt, stands, fits, keyed}
+use Rattle.tree.proofs.Branches.{HasRun, here, further}
+use Rattle.tree.proofs.Listing.{Rooted, runs-rooted, runs-grown, pins-low}
+use Rattle.tree.proofs.Positions.{near-before, near-pin, pin-there, reached-once}
+use Rattle.tree.proofs.Spanning.{in-turned, has-run, entry-in}
+use Rattle.tree.proofs.Neighbours.{Joined, onward, backward, beyond, neighbours}
+use Rattle.tree.proofs.FourPins.{InBox, key-span}
+use Rattle.tree.proofs.Boxes.{point-shared, clash-apart, no-clash}
+use Rattle.copper.proofs.Numbers.{low-held, same-off}
+use Rattle.least.proofs.Sharing.{Same}
+use Rattle.least.proofs.Laid.{Joins, out, back, Spaced}
+
+-- A run of a list joins its ends.
+run-onward : {s t : ℕ} {rs : List Run} → HasRun s t rs → Joined s t rs
+run-onward (here e f) = onward e f
+run-onward (further h) = beyond (run-onward h)
+
+-- The other way round.
+run-backward : {s t : ℕ} {rs : List Run} → HasRun s t rs → Joined t s rs
+run-backward (here e f) = backward f e
+run-backward (further h) = beyond (run-backward h)
+
+-- Two runs none of whose ends agree have no common pin.
+no-common : (r s : Run) → (r .near ≡ s .near → ⊥) → (r .near ≡ s .far → ⊥) → (r .far ≡ s .near → ⊥) → (r .far ≡ s .far → ⊥) → common r s ≡ false
+unfolding common isEnd either
+no-common r s a b c d = rw (ne-eqb (r .near) (s .near) a, ne-eqb (r .near) (s .far) b, ne-eqb (r .far) (s .near) c, ne-eqb (r .far) (s .far) d)
+
+module _ (feed : List Spot) (full : length feed ≡ mostPins) (ok : allWithin feed ≡ true) (f : ℕ) (left : List ℕ) (e : pinsOf feed ≡ f ∷ left) where
+  abbrev runs : List Run
+  runs = runsOf feed
+
+  abbrev n : ℕ
+  n = length runs
+
+  abbrev pin : ℕ → ℕ
+  pin = reachedPin runs
+
+  abbrev at : ℕ → Place
+  at = reachedPlace feed runs
+
+  abbrev near : ℕ → ℕ
+  near = reachedNear runs
+
+  -- The runs start at the lowest pin.
+  root : Rooted f left runs
+  root = runs-rooted feed full ok f left e
+
+  -- Every place is held by i32.
+  pub places-held : (i : ℕ) → PlaceI32 (at i)
+  places-held i = stands feed ok (pin i) .held
+
+  -- Pins at places of their own; no boxes that meet.
+  module _ (distinct : (a b : ℕ) → Among a (f ∷ left) → Among b (f ∷ left) → samePlace (placeAt feed a) (placeAt feed b) ≡ true → a ≡ b)
+      (clear : boxesMeet feed (runsOf feed) ≡ false) where
+    -- The near pin of a run is one of those that are reached.
+    near-low : (r : ℕ) → r < n → near r < suc n
+    near-low r l = omega (arith, near-before f left runs root r l)
+
+    -- Two numbers tell two pins.
+    differ : (i j : ℕ) → i < suc n → j < suc n → (i ≡ j → ⊥) → pin i ≡ pin j → ⊥
+    differ i j l k ne z = ne (reached-once f left runs root i j l k z)
+
+    -- Sites that are the same are of one pin.
+    same-pin : (i j : ℕ) → 0 < n → i < suc n → j < suc n → Same (site (at i)) (site (at j)) → i ≡ j
+    unfolding Same samePlace
+    same-pin i j o l k s =
+        reached-once f left runs root i j l k
+        (distinct (pin i) (pin j) (pin-there f left runs root i o l) (pin-there f left runs root j o k)
+        (both-of (number (at i .x) (at j .x) (places-held i .x) (places-held j .x) (s .0))
+        (number (at i .y) (at j .y) (places-held i .y) (places-held j .y) (s .1))))
+      where
+        number : (a b : ℤ) → I32 a → I32 b → off a ≡ off b → sameNumber a b ≡ true
+        number a b p q z = same-off a b (low-held a p) (low-held b q) ∙ eq-eqb (off a) (off b) z
+
+    -- Each run is one of the list, newest first,
+    in-list : (r : ℕ) → r < n → HasRun (pin (near r)) (pin (suc r)) (reverseAux runs [])
+    unfolding reachedPin
+    in-list r l = rw (near-pin f left runs root r l) (has-run (in-turned runs (inl (entry-in runs r l))))
+
+    -- so the pins that it joins are joined there,
+    joined : (r i j : ℕ) → r < n → Joins near r i j → Joined (pin i) (pin j) (reverseAux runs [])
+    joined r i j l (out a b) = rw (a, b) (run-onward (in-list r l))
+    joined r i j l (back a b) = rw (a, b) (run-backward (in-list r l))
+
+    -- and both are reached.
+    ends-in : (r i j : ℕ) → r < n → Joins near r i j → (i < suc n) × (j < suc n)
+    ends-in r i j l (out a b) = let z = near-low r l in (omega arith, omega arith)
+    ends-in r i j l (back a b) = let z = near-low r l in (omega arith, omega arith)
+
+    -- Two pins joined to one are no nearer to each other than either is to it.
+    spans : (i j k : ℕ) → 0 < n → i < suc n → j < suc n → k < suc n
+        → Joined (pin i) (pin j) (reverseAux runs []) → Joined (pin i) (pin k) (reverseAux runs []) → (j ≡ k → ⊥)
+        → (span (site (at i)) (site (at j)) ≤ span (site (at j)) (site (at k)))
+        × (span (site (at i)) (site (at k)) ≤ span (site (at j)) (site (at k)))
+    unfolding keyAt
+    spans i j k o li lj lk a b ne =
+        let fj = fits feed ok (pin j) (pins-low feed full ok f left e (pin j) (pin-there f left runs root j o lj)) in
+        let fk = fits feed ok (pin k) (pins-low feed full ok f left e (pin k) (pin-there f left runs root k o lk)) in
+        let w = neighbours (keyAt feed) (keyed feed ok .swap) (runs-grown feed full ok f left e) (pin i) (pin j) (pin k) a b (differ j k lj lk ne) in (
+          key-span (siteAt feed (pin i)) (pin i) (siteAt feed (pin j)) (pin j) (siteAt feed (pin j)) (pin j) (siteAt feed (pin k)) (pin k) fj fk (w .0),
+          key-span (siteAt feed (pin i)) (pin i) (siteAt feed (pin k)) (pin k) (siteAt feed (pin j)) (pin j) (siteAt feed (pin k)) (pin k) fj fk (w .1),
+        )
+
+    -- The box of a run, by its pins.
+    box : (i : ℕ) (p : Site) → pin (near i) ≡ runAt runs i .near → InBox (site (at (near i))) (site (at (suc i))) p
+        → InBox (siteAt feed (runAt runs i .near)) (siteAt feed (runAt runs i .far)) p
+    unfolding reachedPin
+    box i p g v = subst (λ (z : ℕ). InBox (siteAt feed z) (siteAt feed (runAt runs i .far)) p) g v
+
+    -- Two runs without a common pin, the first of them earlier.
+    apart-by : (r q : ℕ) → r < q → q < n → (near r ≡ near q → ⊥) → (near r ≡ suc q → ⊥) → (suc r ≡ near q → ⊥)
+        → (p : Site) → InBox (site (at (near r))) (site (at (suc r))) p → InBox (site (at (near q))) (site (at (suc q))) p → ⊥
+    unfolding reachedPin
+    apart-by r q l m a b c p h k =
+        let lr : r < n = omega arith in
+        let er = near-pin f left runs root r lr in
+        let eq = near-pin f left runs root q m in
+        let free : common (runAt runs r) (runAt runs q) ≡ false =
+        no-common (runAt runs r) (runAt runs q) (λ z. differ (near r) (near q) (near-low r lr) (near-low q m) a (er ∙ z ∙ sym eq))
+        (λ z. differ (near r) (suc q) (near-low r lr) (omega arith) b (er ∙ z)) (λ z. differ (suc r) (near q) (omega arith) (near-low q m) c (z ∙ sym eq))
+        (λ z. differ (suc r) (suc q) (omega arith) (omega arith) (λ w. omega arith) z) in
+        let none = clash-apart feed (runAt runs r) (runAt runs q) (no-clash feed runs clear r q l m) free in
+        let shared = point-shared (placeAt feed (runAt runs r .near)) (placeAt feed (runAt runs r .far))
+        (placeAt feed (runAt runs q .near)) (placeAt feed (runAt runs q .far))
+        (stands feed ok (runAt runs r .near) .held) (stands feed ok (runAt runs r .far) .held)
+        (stands feed ok (runAt runs q .near) .held) (stands feed ok (runAt runs q .far) .held)
+        (record { point = p; in-first = box r p er h; in-second = box q p eq k }) in
+        opposite shared none
+
+    -- The runs are laid as the length asks.
+    pub planted : Spaced (λ i. site (at i)) near n
+    planted =
+        record {
+          grown = near-before f left runs root;
+          full = λ r l z. let q = same-pin (near r) (suc r) (omega arith) (near-low r l) (omega arith) z in omega (arith, near-before f left runs root r l);
+          separate = λ r q l k ne a b c p h m. go r q l k ne a b c p h m (order r q);
+          distant = λ r q i j k l h jr jq ne.
+              spans i j k (omega arith) (ends-in r i j l jr .0) (ends-in r i j l jr .1) (ends-in q i k h jq .1) (joined r i j l jr) (joined q i k h jq) ne;
+        }
+      where
+        go : (r q : ℕ) → r < n → q < n → (r ≡ q → ⊥) → (near r ≡ near q → ⊥) → (near r ≡ suc q → ⊥) → (suc r ≡ near q → ⊥)
+            → (p : Site) → InBox (site (at (near r))) (site (at (suc r))) p → InBox (site (at (near q))) (site (at (suc q))) p
+            → (r ≤ q) ⊎ (q < r) → ⊥
+        go r q l k ne a b c p h m (inl o) = apart-by r q (omega (arith, ne)) k a b c p h m
+        go r q l k ne a b c p h m (inr o) = apart-by q r o l (λ z. a (sym z)) (λ z. c (sym z)) (λ z. b (sym z)) p m h

@@ -1,0 +1,30 @@
+-- Worked cases of numbers and their bytes, around zero and at the ends of i32, each computed. Assumes nothing.
+use mathlib.Core.Path.{_≡_, refl}
+use mathlib.Core.List.{[], _∷_}
+use lib.IntN.{pos, negsuc}
+use Rattle.pinmap.specs.Number.{numberAt, putAt, firstByte, secondByte, thirdByte, fourthByte}
+
+-- FF FF FF FF is -1.
+bytes-minus-one : numberAt (255 ∷ 255 ∷ 255 ∷ 255 ∷ []) 0 ≡ negsuc 0
+unfolding numberAt
+bytes-minus-one = refl
+
+-- 7F FF FF FF is the largest.
+bytes-largest : numberAt (127 ∷ 255 ∷ 255 ∷ 255 ∷ []) 0 ≡ pos 2147483647
+unfolding numberAt
+bytes-largest = refl
+
+-- 80 00 00 00 is the smallest.
+bytes-smallest : numberAt (128 ∷ 0 ∷ 0 ∷ 0 ∷ []) 0 ≡ negsuc 2147483647
+unfolding numberAt
+bytes-smallest = refl
+
+-- 1 as D3 writes it.
+written-one : putAt (9 ∷ 9 ∷ 9 ∷ 9 ∷ 9 ∷ []) 0 (pos 1) ≡ (0 ∷ 0 ∷ 0 ∷ 1 ∷ 9 ∷ [])
+unfolding putAt firstByte secondByte thirdByte fourthByte
+written-one = refl
+
+-- -1 as D3 writes it.
+written-minus-one : putAt (9 ∷ 9 ∷ 9 ∷ 9 ∷ 9 ∷ []) 0 (negsuc 0) ≡ (255 ∷ 255 ∷ 255 ∷ 255 ∷ 9 ∷ [])
+unfolding putAt firstByte secondByte thirdByte fourthByte
+written-minus-one = refl

@@ -1,0 +1,113 @@
+-- How answers are printed: each line with its newline.
+use mathlib.Core.List.{List, [], _∷_, _++_}
+use Prim.Native.Nat.{ℕ}
+use lib.Dec.{eqb}
+use lib.ListN.{take}
+use Rattle.basics.specs.Tests.{choose}
+use Rattle.refusal.specs.Refusals.{toldOf}
+use Rattle.refusal.specs.declared.Verdict.{Verdict}
+use Rattle.refusal.specs.declared.Carried.{Carried}
+use Rattle.refusal.specs.declared.Carried.the-variants.{Nothing, Record}
+use Rattle.refusal.specs.declared.Told.{Told}
+use Rattle.board.specs.declared.Place.{Place}
+use Rattle.text.specs.Text.{text}
+use Rattle.text.specs.Digits.{decimal, field, placeText, hex}
+use Rattle.script.specs.Said.{mostRoom}
+
+-- The line of an answer, but that of a writing, has at most so many bytes.
+abbrev pub mostLineBytes : ℕ
+mostLineBytes = 200
+
+-- The labels of such a line have at most so many bytes together.
+abbrev pub mostLabelBytes : ℕ
+mostLabelBytes = 100
+
+-- The line of a run has at most so many bytes.
+abbrev pub mostRunBytes : ℕ
+mostRunBytes = 51
+
+-- The word of a shape has at most so many bytes.
+abbrev pub mostShapeBytes : ℕ
+mostShapeBytes = 8
+
+-- The line of a leg has at most so many bytes.
+abbrev pub mostLegBytes : ℕ
+mostLegBytes = 92
+
+-- The line of a pin has at most so many bytes.
+abbrev pub mostPinBytes : ℕ
+mostPinBytes = 69
+
+-- What a refusal carries has at most so many bytes.
+abbrev pub mostCarriedBytes : ℕ
+mostCarriedBytes = 30
+
+-- A lent buffer in hex, a space before it, has at most so many bytes.
+abbrev pub mostHexBytes : ℕ
+mostHexBytes = 2049
+
+-- What a refusal carries: nothing, or ` record R`.
+unfoldable pub carriedText : Carried → List ℕ
+carriedText Nothing = []
+carriedText (Record r) = field " record " r
+
+-- `0` where a call is accepted; `refused N`, or `refused N record R`.
+unfoldable pub toldLine : Told → List ℕ
+toldLine t = choose (eqb (t .number) 0) (text "0\n") (field "refused " (t .number) ++ carriedText (t .carried) ++ text "\n")
+
+-- The line of a verdict.
+abbrev pub verdictLine : Verdict → List ℕ
+verdictLine v = toldLine (toldOf v)
+
+-- A space and bytes in hex; nothing where there are none.
+unfoldable pub hexPart : List ℕ → List ℕ
+hexPart [] = []
+hexPart (b ∷ rest) = text " " ++ hex (b ∷ rest)
+
+-- An accepted writing: `0 BYTES HEX`, HEX the lent buffer (a call lends at most 1,024 bytes, and no more are printed); with room 0 the line ends after BYTES.
+unfoldable pub writtenLine : ℕ → List ℕ → List ℕ
+writtenLine bytes buffer = field "0 " bytes ++ hexPart (take mostRoom buffer) ++ text "\n"
+
+-- A line of four labels, each with a number after it.
+abbrev pub fieldsLine : List ℕ → ℕ → List ℕ → ℕ → List ℕ → ℕ → List ℕ → ℕ → List ℕ
+fieldsLine label1 number1 label2 number2 label3 number3 label4 number4 =
+    (label1 ++ decimal number1)
+    ++ (label2 ++ decimal number2)
+    ++ (label3 ++ decimal number3)
+    ++ (label4 ++ decimal number4)
+    ++ text "\n"
+
+-- An accepted wiring: `0 length L runs R legs G weighed W`.
+unfoldable pub wiredLine : ℕ → ℕ → ℕ → ℕ → List ℕ
+wiredLine length runs legs weighed =
+    fieldsLine (text "0 length ") length (text " runs ") runs (text " legs ") legs (text " weighed ") weighed
+
+-- An accepted wiring of a map: `job J length L runs R weighed W`.
+unfoldable pub jobLine : ℕ → ℕ → ℕ → ℕ → List ℕ
+jobLine job length runs weighed =
+    fieldsLine (text "job ") job (text " length ") length (text " runs ") runs (text " weighed ") weighed
+
+-- A run: `near far shape`.
+unfoldable pub runLine : ℕ → ℕ → List ℕ → List ℕ
+runLine near far shape = field "" near ++ field " " far ++ text " " ++ shape ++ text "\n"
+
+-- A leg: `leg AX AY BX BY`.
+unfoldable pub legLine : Place → Place → List ℕ
+legLine a b = placeText (text "leg ") a ++ placeText (text " ") b ++ text "\n"
+
+-- A seat that is not open: `closed`.
+abbrev pub closedLine : List ℕ
+closedLine = text "closed\n"
+
+-- A drawing: `job J pins N standing S taken T`.
+unfoldable pub drawingLine : ℕ → ℕ → ℕ → ℕ → List ℕ
+drawingLine job pins standing taken =
+    fieldsLine (text "job ") job (text " pins ") pins (text " standing ") standing (text " taken ") taken
+
+-- A pin of a drawing: `pin P X Y`.
+unfoldable pub pinLine : ℕ → Place → List ℕ
+pinLine pin place = field "pin " pin ++ placeText (text " ") place ++ text "\n"
+
+-- What is not a call: `line K: not a call`.
+unfoldable pub notACallLine : ℕ → List ℕ
+notACallLine k = field "line " k ++ text ": not a call\n"

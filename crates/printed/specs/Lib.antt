@@ -1,0 +1,2 @@
+-- How answers are printed, a line each.
+pub mod Answers
