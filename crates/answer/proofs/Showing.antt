@@ -8,7 +8,7 @@ use Rattle.refusal.specs.Refusals.{accepted}
 use Rattle.refusal.specs.declared.Verdict.{Verdict}
 use Rattle.basics.proofs.Tests.{choose-yes, choose-no}
 use Rattle.board.specs.declared.Spot.{Spot}
-use Rattle.drawing.specs.Pins.{feedOf}
+use Rattle.drawing.specs.Pins.{spotsOf}
 use Rattle.journal.specs.Journal.{mostRecords}
 use Rattle.seats.specs.Seats.{takenBackCount}
 use Rattle.rows.specs.declared.Found.{Found}
@@ -51,7 +51,7 @@ module _ (d : Desk) (s : ℕ) {f : Found} (g : f ≡ foundAt d s) {v : Verdict} 
           held old mostLineBytes (omega arith) (sym q) h
 
       -- A drawing: its job, its pins, and how many edits stand and are taken back.
-      pub pins-drawn : {taken : ℕ} {feed : List Spot} → accepted v ≡ true → taken ≡ takenBackCount (f .state) (editsOf d s) → feed ≡ feedOf (f .state .pins)
+      pub pins-drawn : {taken : ℕ} {feed : List Spot} → accepted v ≡ true → taken ≡ takenBackCount (f .state) (editsOf d s) → feed ≡ spotsOf (f .state .pins)
           → Holds answerBytes (drawnText (f .state .job) feed (f .state .standing) taken) old n new
           → Holds answerBytes (seatText d s) old n new
       unfolding seatText lookText

@@ -9,7 +9,7 @@ use Rattle.refusal.specs.Refusals.{accepted, turn}
 use Rattle.pinmap.specs.Number.{firstByte, secondByte, thirdByte, fourthByte}
 use Rattle.board.specs.Place.{onBoard, inside, difference, closer, tooNear, sameNumber, samePlace}
 use Rattle.board.specs.Spots.{spotsTooNear, crowded, within, tooNearOther}
-use Rattle.drawing.specs.Pins.{isThere, sameHeld, samePin, samePins, lawful, spotOf, feedOf}
+use Rattle.drawing.specs.Pins.{isThere, sameHeld, samePin, samePins, lawful, spotOf, spotsOf}
 use Rattle.drawing.specs.Edits.{movedPin, made, unmade, standsAt, fits, placeable, movable, makeable, takeable, heldBy}
 use Rattle.pinmap.specs.Record.{recordBytes, pinBytes}
 use Rattle.pinmap.specs.Map.{readFrom, wrongLength, readMap, mapFrom, mapOf, written}
@@ -38,7 +38,7 @@ worked :
     ≡ text "0\n0\n0 12 0007000000000001ffffffffee\njob 7 pins 1 standing 1 taken 0\npin 0 1 -1\n0\n"
     ++ text "job 7 pins 0 standing 0 taken 1\nrefused 10\nclosed\nrefused 1\nline 11: not a call\n"
 unfolding told both either choose accepted turn onBoard inside difference closer tooNear sameNumber samePlace isThere sameHeld samePin samePins spotsTooNear
-    tooNearOther crowded within spotOf feedOf lawful movedPin made unmade standsAt fits placeable movable makeable takeable heldBy firstByte secondByte
+    tooNearOther crowded within spotOf spotsOf lawful movedPin made unmade standsAt fits placeable movable makeable takeable heldBy firstByte secondByte
     thirdByte fourthByte recordBytes pinBytes readFrom wrongLength readMap mapFrom mapOf written own kept filled inTurn sameJob turnedOpening turnedClosing
     turnedPlacing turnedUndoing turnedWriting verdictOf jobOf soundOpen soundClosed soundSeat soundTo sound edited effect answerOf step emptyDesk writtenOf
     bufferOf same endOf beforeFirst pieces nonEmpty wordsOf between eachOf valueFrom isNumber hasMinus isCoordinate signed isHex hexValue allPairs bytesOf

@@ -9,7 +9,7 @@ use Rattle.basics.specs.Tests.{choose}
 use Rattle.refusal.specs.Refusals.{accepted, toldOf}
 use Rattle.refusal.specs.declared.Verdict.{Verdict}
 use Rattle.refusal.specs.declared.Verdict.the-variants.{NotOpen}
-use Rattle.drawing.specs.Pins.{feedOf}
+use Rattle.drawing.specs.Pins.{spotsOf}
 use Rattle.bare.specs.Bare.{bareOf}
 use Rattle.desk.specs.declared.Desk.{Desk}
 use Rattle.desk.specs.Calls.{Call, opening, closing, placing, moving, removing, undoing, redoing}
@@ -64,7 +64,7 @@ isNotOpen v = eqb (toldOf v .number) (toldOf NotOpen .number)
 unfoldable pub lookText : Look → List ℕ
 lookText l =
     choose (isNotOpen (turnedNaming l)) closedLine
-    (choose (accepted (turnedNaming l)) (drawnText (l .job) (feedOf (l .pins)) (l .standing) (l .takenBack))
+    (choose (accepted (turnedNaming l)) (drawnText (l .job) (spotsOf (l .pins)) (l .standing) (l .takenBack))
     (verdictLine (turnedNaming l)))
 
 -- What `pins SEAT` prints of a seat of the desk.

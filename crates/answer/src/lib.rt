@@ -150,7 +150,7 @@ fn show_pins(desk: Desk, seat: usize, out: &mut [u8; ANSWER_BYTES]) -> usize
     let s = found.state;
     let taken_back = seats::taken_back_count(s, records, used, seat);
     let pins = s.pins;
-    let feed = drawing::feed_of(pins);
+    let feed = drawing::spots_of(pins);
     print_drawn(s.job, feed, s.standing, taken_back, out)
 }
 

@@ -1,11 +1,12 @@
 -- Feeds: what stands at each pin number, and the rules that the pins keep.
 use mathlib.Core.Bool.{Bool, true, false}
-use mathlib.Core.List.{List}
+use mathlib.Core.List.{List, [], _∷_}
 use Prim.Native.Nat.{ℕ}
+use lib.IntN.{ℤ}
 use lib.ListN.{getD, set}
-use Rattle.basics.specs.Tests.{anyOf, eachOf, noTwo}
+use Rattle.basics.specs.Tests.{choose, anyOf, eachOf, noTwo}
 use Rattle.board.specs.declared.Place.{Place}
-use Rattle.board.specs.Place.{inside, middle, tooNear}
+use Rattle.board.specs.Place.{place, inside, middle, tooNear}
 use Rattle.board.specs.declared.Spot.{Spot}
 use Rattle.board.specs.declared.Spot.the-variants.{Absent, At}
 
@@ -30,6 +31,17 @@ spotAt feed i = getD feed i Absent
 -- Where the pin with this number stands; the middle of the board stands in for one that is not there.
 abbrev pub placeAt : List Spot → ℕ → Place
 placeAt feed i = placeOf (spotAt feed i)
+
+-- What stands at a pin's number, told by whether a pin is there, its x and its y.
+abbrev pub spotBy : Bool → ℤ → ℤ → Spot
+spotBy t x y = choose t (At (place x y)) Absent
+
+-- What stands at each pin number, told by lists of x, of y and of whether a pin is there.
+unfoldable pub spotsFrom : List ℤ → List ℤ → List Bool → List Spot
+spotsFrom [] ys ts = []
+spotsFrom (x ∷ xs) [] ts = []
+spotsFrom (x ∷ xs) (y ∷ ys) [] = []
+spotsFrom (x ∷ xs) (y ∷ ys) (t ∷ ts) = spotBy t x y ∷ spotsFrom xs ys ts
 
 -- A pin, if it is there, is on the board.
 unfoldable pub within : Spot → Bool

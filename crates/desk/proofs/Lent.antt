@@ -4,7 +4,7 @@ use mathlib.Core.List.{List}
 use Prim.Native.Nat.{ℕ}
 use lib.ListN.{length}
 use Rattle.refusal.specs.Refusals.{accepted}
-use Rattle.drawing.specs.Pins.{feedOf}
+use Rattle.drawing.specs.Pins.{spotsOf}
 use Rattle.copper.specs.declared.Leg.{Leg}
 use Rattle.wiring.specs.Answer.{wiringOf}
 use Rattle.lent.specs.Lent.{filledWith}
@@ -21,7 +21,7 @@ pub seat-fits : (d : Desk) (s room : ℕ) → Fits room (wiredOf d s room .laid)
 unfolding wiredOf
 seat-fits d s room =
     let v = turnedNaming (lookAt d s) in
-    fits-either (accepted v) v room (wiringOf (feedOf (seatOf d s .pins)) room) (λ e. wiring-fits _ room (feed-whole d s e))
+    fits-either (accepted v) v room (wiringOf (spotsOf (seatOf d s .pins)) room) (λ e. wiring-fits _ room (feed-whole d s e))
 
 module _ (d : Desk) (s : ℕ) (lent : List Leg) {w : Wired} (e : w ≡ wiredOf d s (length lent)) where
   -- What is answered,

@@ -11,7 +11,7 @@ use Rattle.refusal.specs.Refusals.{accepted}
 use Rattle.refusal.proofs.Rows.{NoneHolds}
 use Rattle.basics.proofs.Tests.{both-left, both-right, choose-yes, choose-no}
 use Rattle.board.specs.Spots.{mostPins}
-use Rattle.drawing.specs.Pins.{lawful, feedOf}
+use Rattle.drawing.specs.Pins.{lawful, spotsOf}
 use Rattle.drawing.proofs.Rules.{feed-long}
 use Rattle.drawing.specs.Edits.{pinOf, makeable, made, takeable, unmade}
 use Rattle.drawing.proofs.Making.{makeable-number, takeable-number}
@@ -135,7 +135,7 @@ module _ (d : Desk) (h : sound d ≡ true) where
         (turn-first makeable made (seatOf d s .pins) _ _ (rw (next-first b) at taken-back-replayable))
 
 -- Where 28, 1 and 2 pass, the seat's feed has 32 spots.
-pub feed-whole : (d : Desk) (s : ℕ) → accepted (turnedNaming (lookAt d s)) ≡ true → length (feedOf (seatOf d s .pins)) ≡ mostPins
+pub feed-whole : (d : Desk) (s : ℕ) → accepted (turnedNaming (lookAt d s)) ≡ true → length (spotsOf (seatOf d s .pins)) ≡ mostPins
 unfolding NoneHolds
 feed-whole d s e =
     let n = naming-passed (lookAt d s) refl e in

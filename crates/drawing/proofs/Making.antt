@@ -24,7 +24,7 @@ use Rattle.board.specs.declared.Spot.the-variants as spot
 use Rattle.board.specs.Spots.{mostPins, within, tooNearOther, crowded}
 use Rattle.board.specs.Settled.{settled}
 use Rattle.board.proofs.Rules.{absent-clear}
-use Rattle.drawing.specs.Pins.{absent, there, holding, thereIn, isThere, samePin, samePins, spotOf, feedOf, lawful}
+use Rattle.drawing.specs.Pins.{absent, there, holding, thereIn, isThere, samePin, samePins, spotOf, spotsOf, lawful}
 use Rattle.drawing.specs.Edits.{pinOf, movedPin, made, unmade, standsIn, standsAt, fits, placeable, movable, makeable, takeable}
 use Rattle.drawing.proofs.Rules.{pin-same, pin-self, pins-same, pins-self, one-changed, lawful-set, settled-lawful}
 
@@ -105,7 +105,7 @@ record Makeable (l : List Pin) (e : Edit) : Type 0 where
   number : pinOf e < mostPins
   back : after (after (was l e) e) (flipped e) ≡ was l e
   board : within (spotOf (after (was l e) e)) ≡ true
-  free : tooNearOther (feedOf l) (pinOf e) (spotOf (after (was l e) e)) ≡ false
+  free : tooNearOther (spotsOf l) (pinOf e) (spotOf (after (was l e) e)) ≡ false
 
 -- A pin that is absent is near no other.
 absent-free : (feed : List Spot) (p : ℕ) → tooNearOther feed p (spotOf absent) ≡ false
@@ -116,8 +116,8 @@ absent-free feed p = absent-clear (set feed p spot.Absent)
 parts : (l : List Pin) (e : Edit) → makeable l e ≡ true → Makeable l e
 unfolding makeable placeable movable fits crowded within spotOf movedPin
 parts l (Placed p h) m =
-    let t : placeable (getD l p absent) (feedOf l) p h ≡ true = both-right _ _ m in
-    let f : fits (feedOf l) p (h .place) ≡ true = both-right _ _ t in
+    let t : placeable (getD l p absent) (spotsOf l) p h ≡ true = both-right _ _ m in
+    let f : fits (spotsOf l) p (h .place) ≡ true = both-right _ _ t in
     record {
       number = ltb-true p mostPins (both-left _ _ m);
       back = sym (pin-absent (getD l p absent) (not-true _ (both-left _ _ t)));
@@ -125,8 +125,8 @@ parts l (Placed p h) m =
       free = not-true _ (both-right _ _ f);
     }
 parts l (Moved p a b) m =
-    let t : movable (getD l p absent) (feedOf l) p a b ≡ true = both-right _ _ m in
-    let f : fits (feedOf l) p b ≡ true = both-right _ _ (both-right _ _ t) in
+    let t : movable (getD l p absent) (spotsOf l) p a b ≡ true = both-right _ _ m in
+    let f : fits (spotsOf l) p b ≡ true = both-right _ _ (both-right _ _ t) in
     let q : getD l p absent ≡ there (holding a) = pin-there (getD l p absent) a (both-left _ _ t) in
     record {
       number = ltb-true p mostPins (both-left _ _ m);
@@ -139,7 +139,7 @@ parts l (Removed p h) m =
       number = ltb-true p mostPins (both-left _ _ m);
       back = sym (pin-same (getD l p absent) (there h) (both-right _ _ m));
       board = refl;
-      free = absent-free (feedOf l) p;
+      free = absent-free (spotsOf l) p;
     }
 
 -- A change of pin p and the change back.
@@ -192,7 +192,7 @@ module _ (l : List Pin) (e : Edit) (t : takeable l e ≡ true) where
   made-unmade = pins-same (made (unmade l e) e) l (both-right _ _ (both-right _ _ t))
 
 -- From pins that keep the rules an edit is taken back, and the pin that it names is settled: the pins keep the rules.
-pub settled-unmade : (l : List Pin) (e : Edit) → lawful l ≡ true → pinOf e < mostPins → settled (feedOf (unmade l e)) (pinOf e) ≡ true
+pub settled-unmade : (l : List Pin) (e : Edit) → lawful l ≡ true → pinOf e < mostPins → settled (spotsOf (unmade l e)) (pinOf e) ≡ true
     → lawful (unmade l e) ≡ true
 settled-unmade l e k n s =
     rw (unmade-is l e) (settled-lawful l (pinOf e) (after (was l e) (flipped e)) k n (rw (unmade-is l e) at s))
@@ -201,14 +201,14 @@ settled-unmade l e k n s =
 
 module _ (l : List Pin) (p : ℕ) (n : p < mostPins) where
   -- A pin from 0 to 31 that is not there can be placed on the board where no other is too near.
-  pub placed-makeable : (h : Held) → isThere (getD l p absent) ≡ false → inside (h .place) ≡ true → crowded (feedOf l) p (h .place) ≡ false
+  pub placed-makeable : (h : Held) → isThere (getD l p absent) ≡ false → inside (h .place) ≡ true → crowded (spotsOf l) p (h .place) ≡ false
       → makeable l (Placed p h) ≡ true
   unfolding makeable placeable fits
   placed-makeable h q i c = both-of (lt-ltb p mostPins n) (both-of (ap not q) (both-of i (ap not c)))
 
   module _ (h : Held) (q : getD l p absent ≡ there h) where
     -- A pin that is there can be moved to another place on the board where no other is too near,
-    pub moved-makeable : (to : Place) → samePlace (h .place) to ≡ false → inside to ≡ true → crowded (feedOf l) p to ≡ false
+    pub moved-makeable : (to : Place) → samePlace (h .place) to ≡ false → inside to ≡ true → crowded (spotsOf l) p to ≡ false
         → makeable l (Moved p (h .place) to) ≡ true
     unfolding makeable movable fits standsAt
     moved-makeable to s i c = both-of (lt-ltb p mostPins n) (both-of (rw q (place-self (h .place))) (both-of (ap not s) (both-of i (ap not c))))

@@ -17,7 +17,7 @@ use Rattle.drawing.specs.declared.Held.{Held}
 use Rattle.drawing.specs.declared.Stand.{Stand}
 use Rattle.drawing.specs.declared.Stand.the-variants.{Absent, There}
 use Rattle.drawing.specs.declared.Pin.{Pin}
-use Rattle.drawing.specs.Pins.{absent, sameHeld, sameIn, samePin, samePins, lawful, spotOf, feedOf}
+use Rattle.drawing.specs.Pins.{absent, sameHeld, sameIn, samePin, samePins, lawful, spotOf, spotsOf}
 
 -- ---- pins that are the same
 
@@ -79,8 +79,8 @@ one-changed (r ∷ l) (suc p) q h = both-yes _ (pin-self r) ∙ one-changed l p 
 -- ---- the feed of a drawing
 
 -- What stands at a number of the feed is what the pin there is.
-pub feed-at : (l : List Pin) (p : ℕ) → spotAt (feedOf l) p ≡ spotOf (getD l p absent)
-unfolding feedOf spotOf
+pub feed-at : (l : List Pin) (p : ℕ) → spotAt (spotsOf l) p ≡ spotOf (getD l p absent)
+unfolding spotsOf spotOf
 feed-at l p = List·getD-map spotOf l p absent
 
 -- What is read off a list with one entry changed changes there alone.
@@ -90,8 +90,8 @@ map-set f (b ∷ l) zero a = refl
 map-set f (b ∷ l) (suc i) a = ap (λ (m : List _). f b ∷ m) (map-set f l i a)
 
 -- A changed pin is a changed spot of the feed.
-pub feed-set : (l : List Pin) (p : ℕ) (q : Pin) → feedOf (set l p q) ≡ set (feedOf l) p (spotOf q)
-unfolding feedOf
+pub feed-set : (l : List Pin) (p : ℕ) (q : Pin) → spotsOf (set l p q) ≡ set (spotsOf l) p (spotOf q)
+unfolding spotsOf
 feed-set l p q = map-set spotOf l p q
 
 -- ---- the rules of a drawing
@@ -99,8 +99,8 @@ feed-set l p q = map-set spotOf l p q
 -- A drawing has its 32 numbers, its pins are on the board, and no two are too near.
 pub record Lawful (l : List Pin) : Type 0 where
   pub long : length l ≡ mostPins
-  pub board : allWithin (feedOf l) ≡ true
-  pub apart : allApart (feedOf l) ≡ true
+  pub board : allWithin (spotsOf l) ≡ true
+  pub apart : allApart (spotsOf l) ≡ true
 
 -- Pins that keep the rules are as many as a drawing has, on the board and apart;
 pub lawful-parts : (l : List Pin) → lawful l ≡ true → Lawful l
@@ -118,31 +118,31 @@ unfolding lawful
 lawful-whole l h = both-of (eq-eqb (length l) mostPins (h .long)) (both-of (h .board) (h .apart))
 
 -- A feed has as many spots as a drawing has pins.
-pub feed-long : (l : List Pin) → lawful l ≡ true → length (feedOf l) ≡ mostPins
-unfolding feedOf
+pub feed-long : (l : List Pin) → lawful l ≡ true → length (spotsOf l) ≡ mostPins
+unfolding spotsOf
 feed-long l e = length-map l spotOf ∙ lawful-parts l e .long
 
 -- Pin p of a drawing can be changed to one on the board that no other is too near to: the drawing keeps the rules.
-pub lawful-set : (l : List Pin) (p : ℕ) (q : Pin) → lawful l ≡ true → within (spotOf q) ≡ true → tooNearOther (feedOf l) p (spotOf q) ≡ false
+pub lawful-set : (l : List Pin) (p : ℕ) (q : Pin) → lawful l ≡ true → within (spotOf q) ≡ true → tooNearOther (spotsOf l) p (spotOf q) ≡ false
     → lawful (set l p q) ≡ true
 lawful-set l p q e w m =
     let h : Lawful l = lawful-parts l e in
     lawful-whole (set l p q)
     (record {
       long = length-set l p q ∙ h .long;
-      board = rw (feed-set l p q) (each-set within (feedOf l) p (spotOf q) (h .board) w);
-      apart = rw (feed-set l p q) (apart-set (spotOf q) (feedOf l) p (h .apart) m);
+      board = rw (feed-set l p q) (each-set within (spotsOf l) p (spotOf q) (h .board) w);
+      apart = rw (feed-set l p q) (apart-set (spotOf q) (spotsOf l) p (h .apart) m);
     })
 
 -- Every pin of a drawing is settled,
-pub lawful-settled : (l : List Pin) (p : ℕ) → lawful l ≡ true → settled (feedOf l) p ≡ true
-lawful-settled l p e = let h : Lawful l = lawful-parts l e in all-settled (feedOf l) p (h .board) (h .apart)
+pub lawful-settled : (l : List Pin) (p : ℕ) → lawful l ≡ true → settled (spotsOf l) p ≡ true
+lawful-settled l p e = let h : Lawful l = lawful-parts l e in all-settled (spotsOf l) p (h .board) (h .apart)
 
 -- and a change to a settled pin keeps the rules.
-pub settled-lawful : (l : List Pin) (p : ℕ) (q : Pin) → lawful l ≡ true → p < mostPins → settled (feedOf (set l p q)) p ≡ true
+pub settled-lawful : (l : List Pin) (p : ℕ) (q : Pin) → lawful l ≡ true → p < mostPins → settled (spotsOf (set l p q)) p ≡ true
     → lawful (set l p q) ≡ true
 settled-lawful l p q e n s =
     let f = feed-long l e in
-    let k : p < length (feedOf l) = omega arith in
-    let w = settled-set (feedOf l) p (spotOf q) k (rw (feed-set l p q) at s) in
+    let k : p < length (spotsOf l) = omega arith in
+    let w = settled-set (spotsOf l) p (spotOf q) k (rw (feed-set l p q) at s) in
     lawful-set l p q e (w .0) (w .1)

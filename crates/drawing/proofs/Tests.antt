@@ -15,7 +15,7 @@ use Rattle.drawing.specs.declared.Edit.{Edit}
 use Rattle.drawing.specs.declared.Edit.the-variants.{Placed, Moved, Removed}
 use Rattle.board.specs.Spots.{mostPins}
 use Rattle.board.specs.Settled.{settled}
-use Rattle.drawing.specs.Pins.{absent, there, samePin, samePins, feedOf, lawful}
+use Rattle.drawing.specs.Pins.{absent, there, samePin, samePins, spotsOf, lawful}
 use Rattle.drawing.specs.Edits.{pinOf, made, unmade, placeable, movable, makeable, takeable}
 use Rattle.drawing.proofs.Rules.{lawful-parts, lawful-settled}
 use Rattle.drawing.proofs.Making.{remade-same, unmade-lawful, unmade-makeable, settled-unmade}
@@ -38,12 +38,12 @@ module _ {n p : ℕ} (l : List Pin) (q : n ≡ p) (k : n < mostPins) where
   numbered = rw (← q) (lt-ltb n mostPins k)
 
   -- A placing,
-  pub placed-test : {r : Bool} (h : Held) → r ≡ placeable (getD l n absent) (feedOf l) n h → r ≡ makeable l (Placed p h)
+  pub placed-test : {r : Bool} (h : Held) → r ≡ placeable (getD l n absent) (spotsOf l) n h → r ≡ makeable l (Placed p h)
   unfolding makeable
   placed-test h t = (rw q at t) ∙ sym (both-yes _ numbered)
 
   -- a move,
-  pub moved-test : {r : Bool} (a b : Place) → r ≡ movable (getD l n absent) (feedOf l) n a b → r ≡ makeable l (Moved p a b)
+  pub moved-test : {r : Bool} (a b : Place) → r ≡ movable (getD l n absent) (spotsOf l) n a b → r ≡ makeable l (Moved p a b)
   unfolding makeable
   moved-test a b t = (rw q at t) ∙ sym (both-yes _ numbered)
 
@@ -64,11 +64,11 @@ module _ (l : List Pin) (k : lawful l ≡ true) (e : Edit) {n : ℕ} (q : n ≡ 
     unmakeable m = sym (fails-if (takeable l e) (λ t. opposite (unmade-makeable l e t) (rw d at m)))
 
     -- or its pin is not settled then, and the rules are broken,
-    pub unsettled : settled (feedOf b) n ≡ false → false ≡ takeable l e
+    pub unsettled : settled (spotsOf b) n ≡ false → false ≡ takeable l e
     unsettled s = sym (fails-if (takeable l e) (λ t. opposite (lawful-settled (unmade l e) (pinOf e) (unmade-lawful l e t)) (rw (d, q) at s)))
 
     -- or making it again decides, by the pin that it names.
-    pub remade : pinOf e < mostPins → makeable b e ≡ true → settled (feedOf b) n ≡ true → (a : List Pin) → a ≡ made b e
+    pub remade : pinOf e < mostPins → makeable b e ≡ true → settled (spotsOf b) n ≡ true → (a : List Pin) → a ≡ made b e
         → {r : Bool} → r ≡ samePin (getD a n absent) (getD l n absent) → r ≡ takeable l e
     unfolding takeable
     remade p m s a f t =

@@ -15,7 +15,7 @@ use Rattle.drawing.specs.declared.Edit.{Edit}
 use Rattle.drawing.specs.declared.Edit.the-variants.{Placed, Moved, Removed}
 use Rattle.board.specs.declared.Spot.{Spot}
 use Rattle.board.specs.Spots.{mostPins, crowded}
-use Rattle.drawing.specs.Pins.{absent, there, holding, isThere, samePin, samePins, feedOf, lawful}
+use Rattle.drawing.specs.Pins.{absent, there, holding, isThere, samePin, samePins, spotsOf, lawful}
 
 -- The number of the pin that an edit names.
 abbrev pub pinOf : Edit → ℕ
@@ -67,8 +67,8 @@ movable q feed p a b = both (standsAt q a) (both (not (samePlace a b)) (fits fee
 
 -- An edit can be made on these pins.
 unfoldable pub makeable : List Pin → Edit → Bool
-makeable l (Placed p h) = both (ltb p mostPins) (placeable (getD l p absent) (feedOf l) p h)
-makeable l (Moved p a b) = both (ltb p mostPins) (movable (getD l p absent) (feedOf l) p a b)
+makeable l (Placed p h) = both (ltb p mostPins) (placeable (getD l p absent) (spotsOf l) p h)
+makeable l (Moved p a b) = both (ltb p mostPins) (movable (getD l p absent) (spotsOf l) p a b)
 makeable l (Removed p h) = both (ltb p mostPins) (samePin (getD l p absent) (there h))
 
 -- An edit that stands on these pins could have been made: with it taken back the pins keep the rules, the edit can be made there, and

@@ -61,19 +61,23 @@ samePins [] (r ∷ m) = false
 samePins (q ∷ l) [] = false
 samePins (q ∷ l) (r ∷ m) = both (samePin q r) (samePins l m)
 
--- Where a pin stands, as a feed has it.
+-- Where a pin stands, and nothing else of what it holds.
 abbrev pub spotIn : Stand → Spot
 spotIn Absent = spot.Absent
 spotIn (There h) = spot.At (h .place)
 
--- What a feed has at the number of this pin.
+-- What stands at the number of this pin.
 unfoldable pub spotOf : Pin → Spot
 spotOf q = spotIn (q .stand)
 
+-- What stands at each pin number of a drawing.
+unfoldable pub spotsOf : List Pin → List Spot
+spotsOf l = map spotOf l
+
 -- All pins of a drawing are one feed.
-unfoldable pub feedOf : List Pin → List Spot
-feedOf l = map spotOf l
+abbrev pub feedOf : List Pin → List Spot
+feedOf l = spotsOf l
 
 -- The rules of a drawing's pins: 32 numbers, each pin that is there on the board, no two too near.
 unfoldable pub lawful : List Pin → Bool
-lawful l = both (eqb (length l) mostPins) (both (allWithin (feedOf l)) (allApart (feedOf l)))
+lawful l = both (eqb (length l) mostPins) (both (allWithin (spotsOf l)) (allApart (spotsOf l)))

@@ -1,4 +1,4 @@
-// Drawings: the pins of one, the feed that they are, the rules that they keep, and the edits that are made on them and taken back.
+// Drawings: the pins of one, what stands at each pin number, the rules that they keep, and the edits that are made on them and taken back.
 use board::PINS;
 use board::Place;
 use board::Spot;
@@ -6,7 +6,7 @@ ghost use mathlib.Core.Path.{_≡_};
 ghost use mathlib.Core.Bool.{true};
 ghost use Prim.Native.Nat.{_<_};
 ghost use Rattle.board.specs.Spots.{mostPins, crowded};
-ghost use Rattle.drawing.specs.Pins.{absent, there, isThere, sameHeld, samePin, spotOf, feedOf, lawful, noPins};
+ghost use Rattle.drawing.specs.Pins.{absent, there, isThere, sameHeld, samePin, spotOf, spotsOf, lawful, noPins};
 ghost use Rattle.drawing.specs.Edits.{pinOf, movedPin, standsAt, fits, placeable, movable, makeable, made, unmade, takeable, heldBy, placed, moved, removed};
 
 // What a pin holds: its place.
@@ -102,7 +102,7 @@ fn same_pin(a: Pin, b: Pin) -> bool
     }
 }
 
-// What a feed has at the number of this pin.
+// What stands at the number of this pin.
 fn spot_of(pin: Pin) -> Spot
     ensures { λ r. ⌜ r ≡ spotOf pin ⌝ }
 {
@@ -116,9 +116,9 @@ fn spot_of(pin: Pin) -> Spot
     }
 }
 
-// The feed of a drawing: all its pins.
-pub fn feed_of(pins: [Pin; PINS]) -> [Spot; PINS]
-    ensures { λ r. ⌜ r ≡ feedOf pins ⌝ }
+// What stands at each pin number of a drawing.
+pub fn spots_of(pins: [Pin; PINS]) -> [Spot; PINS]
+    ensures { λ r. ⌜ r ≡ spotsOf pins ⌝ }
 {
     let mut spots = [Spot::Absent; PINS];
     let mut i = 0;
@@ -134,7 +134,7 @@ pub fn feed_of(pins: [Pin; PINS]) -> [Spot; PINS]
 pub fn keep_rules(pins: [Pin; PINS]) -> bool
     ensures { λ r. ⌜ r ≡ lawful pins ⌝ }
 {
-    let spots = feed_of(pins);
+    let spots = spots_of(pins);
     if !board::are_within(spots) {
         return false;
     }
@@ -144,9 +144,9 @@ pub fn keep_rules(pins: [Pin; PINS]) -> bool
 // Whether a pin other than `pin` stands too near to a place.
 pub fn is_crowded(pins: [Pin; PINS], pin: usize, at: Place) -> bool
     requires { ⌜ pin < mostPins ⌝ }
-    ensures { λ r. ⌜ r ≡ crowded (feedOf pins) pin at ⌝ }
+    ensures { λ r. ⌜ r ≡ crowded (spotsOf pins) pin at ⌝ }
 {
-    let spots = feed_of(pins);
+    let spots = spots_of(pins);
     board::is_crowded(spots, pin, at)
 }
 
@@ -265,9 +265,9 @@ pub fn stands_at(pin: Pin, at: Place) -> bool
     }
 }
 
-// Whether an edit could be made on these pins, whose feed is at hand.
+// Whether an edit could be made on these pins, with what stands at each number at hand.
 fn can_be_made(pins: [Pin; PINS], spots: [Spot; PINS], edit: Edit) -> bool
-    requires { ⌜ spots ≡ feedOf pins ⌝ }
+    requires { ⌜ spots ≡ spotsOf pins ⌝ }
     ensures { λ r. ⌜ r ≡ makeable pins edit ⌝ }
 {
     let number = pin_of(edit);
@@ -286,7 +286,7 @@ fn can_be_made(pins: [Pin; PINS], spots: [Spot; PINS], edit: Edit) -> bool
 pub fn can_make(pins: [Pin; PINS], edit: Edit) -> bool
     ensures { λ r. ⌜ r ≡ makeable pins edit ⌝ }
 {
-    let spots = feed_of(pins);
+    let spots = spots_of(pins);
     can_be_made(pins, spots, edit)
 }
 
@@ -296,7 +296,7 @@ fn could_have_been_made(pins: [Pin; PINS], before: [Pin; PINS], edit: Edit) -> b
     ensures { λ r. ⌜ r ≡ takeable pins edit ⌝ }
 {
     let number = pin_of(edit);
-    let spots = feed_of(before);
+    let spots = spots_of(before);
     if !can_be_made(before, spots, edit) {
         return false;
     }

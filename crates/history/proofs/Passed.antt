@@ -19,7 +19,7 @@ use Rattle.drawing.specs.declared.Stand.the-variants.{Absent, There}
 use Rattle.drawing.specs.declared.Pin.{Pin}
 use Rattle.drawing.specs.declared.Edit.{Edit}
 use Rattle.board.specs.Spots.{mostPins}
-use Rattle.drawing.specs.Pins.{there, thereIn, isThere, feedOf}
+use Rattle.drawing.specs.Pins.{there, thereIn, isThere, spotsOf}
 use Rattle.drawing.specs.Edits.{heldIn, heldBy, standsIn, standsAt, makeable, placed, moved, removed}
 use Rattle.drawing.proofs.Making.{placed-makeable, moved-makeable, removed-makeable}
 use Rattle.pinmap.specs.Map.{readMap, mapOf}
@@ -165,7 +165,7 @@ writes l room e =
 pub wires : (l : Look) (room : ℕ) → accepted (turnedWiring l room) ≡ true → SeatOpen l
 unfolding turnedWiring firstOf unlike both NoneHolds
 wires l room e =
-    let n : NoneHolds (namingRows l) = all-passed (namingRows l) (wiringOf (feedOf (l .pins)) room .wiring .verdict) refl refl e in
+    let n : NoneHolds (namingRows l) = all-passed (namingRows l) (wiringOf (spotsOf (l .pins)) room .wiring .verdict) refl refl e in
     seat-open l (n .0) (n .1 .0) (n .1 .1 .0)
 
 -- Every accepted call names one of the desk's seats.

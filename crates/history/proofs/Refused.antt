@@ -15,7 +15,7 @@ use Rattle.refusal.specs.declared.Verdict.the-variants.{Accepted, JournalFull, 
 use Rattle.refusal.proofs.Rows.{Row, firstOf, Given, NoneHolds, refusalAt, unlike, distinct, Exactly, exactly, numberOf, unlike-first}
 use Rattle.board.specs.declared.Place.{Place}
 use Rattle.drawing.specs.declared.Pin.{Pin}
-use Rattle.drawing.specs.Pins.{noPins, feedOf}
+use Rattle.drawing.specs.Pins.{noPins, spotsOf}
 use Rattle.pinmap.specs.Record.{recordSize}
 use Rattle.wiring.proofs.Refusing.{wiring-verdict}
 use Rattle.rows.proofs.MapRows.{recordRows, mapRows, map-first}
@@ -89,7 +89,7 @@ exactly-writing l room = exactly (writingRows l room) Accepted refl refl
 -- Each of wiring's refusals exactly under its condition.
 pub exactly-wiring : (l : Look) (room : ℕ) → Exactly (wiringRows l room) Accepted (turnedWiring l room)
 unfolding turnedWiring firstOf distinct unlike accepted both
-exactly-wiring l room = rw (wiring-verdict (feedOf (l .pins)) room) (exactly (wiringRows l room) Accepted refl refl)
+exactly-wiring l room = rw (wiring-verdict (spotsOf (l .pins)) room) (exactly (wiringRows l room) Accepted refl refl)
 
 -- The rows of a call.
 abbrev pub rowsOf : Look → Call → List Row

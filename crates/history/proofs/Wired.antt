@@ -13,7 +13,7 @@ use Rattle.refusal.specs.declared.Verdict.{Verdict}
 use Rattle.refusal.specs.declared.Verdict.the-variants.{Accepted, BoxesMeet}
 use Rattle.refusal.proofs.Rows.{Row, firstOf, Given, refusalAt, unlike, distinct, Exactly}
 use Rattle.drawing.specs.declared.Pin.{Pin}
-use Rattle.drawing.specs.Pins.{noPins, lawful, feedOf}
+use Rattle.drawing.specs.Pins.{noPins, lawful, spotsOf}
 use Rattle.drawing.proofs.Rules.{lawful-parts, feed-long}
 use Rattle.pinmap.specs.Record.{recordSize}
 use Rattle.journal.specs.Journal.{mostSeats}
@@ -37,7 +37,7 @@ use Rattle.history.proofs.Refused.{exactly-wiring, each-refusal-exactly
 -- The verdict in the answer of wiring a seat is what the call is answered,
 pub wired-verdict : (d : Desk) (s room : ℕ) → wiredOf d s room .laid .wiring .verdict ≡ answerOf d (wiring s room)
 unfolding wiredOf answerOf verdictOf turnedClosing turnedWiring firstOf distinct unlike both accepted
-wired-verdict d s room = laid-behind (namingRows (lookAt d s)) refl (wiringOf (feedOf (seatOf d s .pins)) room)
+wired-verdict d s room = laid-behind (namingRows (lookAt d s)) refl (wiringOf (spotsOf (seatOf d s .pins)) room)
 
 -- with a lent list its length is the room;
 pub lent-verdict : (d : Desk) (s : ℕ) (lent : List Leg) → wiredSeatOf d s lent .wiring .verdict ≡ answerOf d (wiring s (length lent))
@@ -67,7 +67,7 @@ unfolding refusalAt Given
 wiring-never-18 d s room e =
     let g = each-refusal-exactly d (wiring s room) .refused 4 (omega arith) .0 e in
     let l : lawful (seatOf d s .pins) ≡ true = pins-lawful d (not-false _ (g .0)) s (leb-false mostSeats s (g .1 .0)) (not-false _ (g .1 .1 .0)) in
-    true≢false (sym (g .1 .1 .1 .1) ∙ never-meet (feedOf (seatOf d s .pins)) (feed-long _ l) (lawful-parts _ l .board))
+    true≢false (sym (g .1 .1 .1 .1) ∙ never-meet (spotsOf (seatOf d s .pins)) (feed-long _ l) (lawful-parts _ l .board))
 
 -- 18 NEVER COMES: no call on any desk is answered so,
 pub never-18 : (d : Desk) (c : Call) → step d c .verdict ≡ BoxesMeet → ⊥
@@ -108,7 +108,7 @@ wired-turned : (d : Desk) (s room : ℕ) → Alone (wiredOf d s room .laid)
 unfolding wiredOf
 wired-turned d s room =
     let v = turnedNaming (lookAt d s) in
-    turned-by (accepted v) v (wiringOf (feedOf (seatOf d s .pins)) room) (wiring-turned (feedOf (seatOf d s .pins)) room)
+    turned-by (accepted v) v (wiringOf (spotsOf (seatOf d s .pins)) room) (wiring-turned (spotsOf (seatOf d s .pins)) room)
 
 -- A refused wiring of a seat has length, runs, legs and choices zero, and every run entry 0, 0, straight;
 pub refused-wiring-is-empty : (d : Desk) (s room : ℕ) → accepted (wiredOf d s room .laid .wiring .verdict) ≡ false → Empty (wiredOf d s room .laid .wiring)

@@ -14,7 +14,7 @@ use Rattle.basics.specs.Tests.{both, either, choose, anyOf, eachOf, noTwo}
 use Rattle.refusal.specs.Refusals.{accepted, turn}
 use Rattle.refusal.specs.declared.Verdict.the-variants.{JobZero, MapLength}
 use Rattle.board.specs.Spots.{spotsTooNear, within}
-use Rattle.drawing.specs.Pins.{lawful, spotOf, feedOf}
+use Rattle.drawing.specs.Pins.{lawful, spotOf, spotsOf}
 use Rattle.tree.specs.Growth.{keptIf, pinsFrom, pinsOf}
 use Rattle.wiring.specs.Answer.{turnedAway, wiringVerdict, wiringWith, wiringFavouring, wiringOf}
 use Rattle.journal.specs.Journal.{own, filled, inTurn}
@@ -32,7 +32,7 @@ use Rattle.mapped.proofs.Opening.{opened, printed-refused}
 -- Empty input is a drawing without pins: nothing to wire.
 pub empty-input : mapAnswer [] ≡ text "refused 17\n"
 unfolding jobOfMap openedWith wiredWith mapAnswer mapText toldLine carriedText digits wiredOf step effect answerOf verdictOf turnedOpening turnedClosing sameJob
-    sound soundTo soundSeat soundOpen soundClosed jobOf emptyDesk readMap wrongLength readFrom own filled inTurn spotsTooNear within lawful spotOf feedOf
+    sound soundTo soundSeat soundOpen soundClosed jobOf emptyDesk readMap wrongLength readFrom own filled inTurn spotsTooNear within lawful spotOf spotsOf
     wiringOf wiringFavouring wiringWith wiringVerdict turnedAway pinsOf pinsFrom keptIf accepted turn both either choose anyOf noTwo eachOf
 empty-input = refl
 

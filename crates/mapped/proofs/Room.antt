@@ -12,7 +12,7 @@ use Rattle.refusal.specs.declared.Verdict.the-variants.{Accepted, RoomTooSmall}
 use Rattle.refusal.proofs.Rows.{firstOf, Given, refusalAt, unlike, distinct, unlike-first, only-given}
 use Rattle.board.specs.declared.Spot.{Spot}
 use Rattle.board.specs.Spots.{mostPins}
-use Rattle.drawing.specs.Pins.{feedOf}
+use Rattle.drawing.specs.Pins.{spotsOf}
 use Rattle.wiring.specs.Answer.{mostLegs, turnedAway, wiringOf}
 use Rattle.lent.proofs.Fitting.{needed-few}
 use Rattle.wiring.proofs.Refusing.{legsNeeded, feedRows, wiring-verdict}
@@ -42,8 +42,8 @@ unfolding wiredOf choose turnedAway
 seat-else d s = by (accepted (turnedNaming (lookAt d s))) refl
   where
     by : (t : Bool) → accepted (turnedNaming (lookAt d s)) ≡ t
-        → choose t (wiringOf (feedOf (seatOf d s .pins)) mostLegs) (turnedAway (turnedNaming (lookAt d s))) .wiring .verdict ≡ RoomTooSmall → ⊥
-    by true e = feed-else (feedOf (seatOf d s .pins)) (feed-whole d s e)
+        → choose t (wiringOf (spotsOf (seatOf d s .pins)) mostLegs) (turnedAway (turnedNaming (lookAt d s))) .wiring .verdict ≡ RoomTooSmall → ⊥
+    by true e = feed-else (spotsOf (seatOf d s .pins)) (feed-whole d s e)
     by false e = naming-else (lookAt d s)
 
 -- THE ROOM IS ENOUGH FOR ANY MAP.

@@ -11,7 +11,7 @@ use Rattle.board.specs.Place.{difference, larger, sameNumber, samePlace, onBoar
 use Rattle.tree.specs.Weight.{weightOf, pairOf, byPart, byNumber, comesBefore}
 use Rattle.board.specs.Place.{distanceOf}
 use Rattle.board.specs.Spots.{spotsTooNear, crowded, within, tooNearOther}
-use Rattle.drawing.specs.Pins.{isThere, lawful, spotOf, feedOf}
+use Rattle.drawing.specs.Pins.{isThere, lawful, spotOf, spotsOf}
 use Rattle.tree.specs.Growth.{pairAt, sooner, keptIf, pinsFrom, without, runsFrom, runsBetween, earliest, earliestOf, nextRun, grown, runsAmong, pinsOf, runsOf}
 use Rattle.tree.specs.Boxes.{belowBoth, under, overlap, boxesShare, isEnd, common, clash}
 use Rattle.tree.specs.Bends.{bent}
@@ -50,7 +50,7 @@ W3 = placed 0 0 (0 ∷ 0 ∷ 0 ∷ 0 ∷ []) ++ placed 1 4 (0 ∷ 0 ∷ 0 ∷ 2 
 W3-holds : mapAnswer W3 ≡ text "job 7 length 8 runs 2 weighed 5\n0 1 lower\n1 2 straight\n"
 unfolding jobOfMap openedWith wiredWith mapAnswer mapText jobText lineForEach entryLine runLine jobLine digits wiredOf step effect answerOf verdictOf
     turnedOpening turnedClosing sameJob sound soundTo soundSeat soundOpen soundClosed jobOf emptyDesk readMap wrongLength readFrom recordOf numberAt judged
-    withPinOf own filled inTurn isThere spotsTooNear tooNearOther crowded within spotOf feedOf lawful wiringOf wiringFavouring wiringWith wiringVerdict
+    withPinOf own filled inTurn isThere spotsTooNear tooNearOther crowded within spotOf spotsOf lawful wiringOf wiringFavouring wiringWith wiringVerdict
     answerWith turnedAway legEntries runEntries shapedRuns weighedOf sum weighedAt howMany bent bestChoice shortestOf shortest lengthOfChoice legsOfChoice choicesOf
     withShapes withShape shapesOf bentShapes lengthOf different stepsOfAll stepsOf smaller stepsUp stepsAcross sameStep legsOf lowerCorner upperCorner
     isStraight clash common isEnd boxesShare overlap under belowBoth runsOf pinsOf runsAmong grown nextRun earliestOf earliest runsBetween runsFrom without
@@ -64,7 +64,7 @@ thirdOther = placed 0 0 (0 ∷ 0 ∷ 0 ∷ 0 ∷ []) ++ placed 1 4 (0 ∷ 0 ∷ 
 
 -- It is refused with 14 and that record.
 other-job : mapAnswer thirdOther ≡ text "refused 14 record 2\n"
-unfolding jobOfMap readMap wrongLength readFrom recordOf numberAt judged withPinOf spotsTooNear anyOf tooNearOther crowded spotOf feedOf difference closer
+unfolding jobOfMap readMap wrongLength readFrom recordOf numberAt judged withPinOf spotsTooNear anyOf tooNearOther crowded spotOf spotsOf difference closer
     tooNear inside onBoard accepted turn both either choose toldLine carriedText digits
 other-job = printed-refused thirdOther {v = OtherJob 2} (opened thirdOther) refl
 
@@ -74,6 +74,6 @@ pinTwice = placed 0 0 (0 ∷ 0 ∷ 0 ∷ 0 ∷ []) ++ placed 0 4 (0 ∷ 0 ∷ 0 
 
 -- It is refused with 15 and the second record.
 pin-twice : mapAnswer pinTwice ≡ text "refused 15 record 1\n"
-unfolding jobOfMap readMap wrongLength readFrom recordOf numberAt judged withPinOf spotsTooNear anyOf tooNearOther crowded spotOf feedOf difference closer
+unfolding jobOfMap readMap wrongLength readFrom recordOf numberAt judged withPinOf spotsTooNear anyOf tooNearOther crowded spotOf spotsOf difference closer
     tooNear inside onBoard accepted turn both either choose toldLine carriedText digits
 pin-twice = printed-refused pinTwice {v = FaultyRecord 1} (opened pinTwice) refl

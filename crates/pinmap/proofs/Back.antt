@@ -19,7 +19,7 @@ use Rattle.drawing.specs.declared.Pin.{Pin}
 use Rattle.board.specs.declared.Spot.the-variants.{At}
 use Rattle.board.specs.Spots.{within}
 use Rattle.board.proofs.Rules.{clear-other}
-use Rattle.drawing.specs.Pins.{absent, there, holding, lawful, spotOf, feedOf}
+use Rattle.drawing.specs.Pins.{absent, there, holding, lawful, spotOf, spotsOf}
 use Rattle.drawing.proofs.Rules.{lawful-parts, lawful-set}
 use Rattle.pinmap.specs.declared.Record.{Record}
 use Rattle.pinmap.specs.declared.Reading.{Reading}
@@ -68,7 +68,7 @@ kept-next : (job next : ℕ) (earlier : List Pin) (r : Record) → Kept next ear
 unfolding withPinOf within spotOf
 kept-next job next earlier r s f =
     record {
-      rules = lawful-set earlier (r .pin) (there (holding (r .place))) (s .rules) (f .on-board) (clear-other (At (r .place)) (feedOf earlier) (r .pin) (f .free));
+      rules = lawful-set earlier (r .pin) (there (holding (r .place))) (s .rules) (f .on-board) (clear-other (At (r .place)) (spotsOf earlier) (r .pin) (f .free));
       clear = λ k h. getD-set-other earlier (r .pin) k (there (holding (r .place))) absent (λ g. omega arith) ∙ s .clear k (omega (arith, f .above));
     }
 

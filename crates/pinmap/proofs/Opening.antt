@@ -19,7 +19,7 @@ use Rattle.drawing.specs.declared.Stand.{Stand}
 use Rattle.drawing.specs.declared.Stand.the-variants.{Absent, There}
 use Rattle.drawing.specs.declared.Pin.{Pin}
 use Rattle.board.specs.Spots.{mostPins, spotAt, within, allApart, spotsTooNear, tooNearAny}
-use Rattle.drawing.specs.Pins.{absent, there, lawful, spotOf, feedOf, noPins}
+use Rattle.drawing.specs.Pins.{absent, there, lawful, spotOf, spotsOf, noPins}
 use Rattle.board.specs.declared.Spot.the-variants as spot
 use Rattle.board.proofs.Rules.{spots-turned, apart-pair, within-at}
 use Rattle.drawing.proofs.Rules.{lawful-parts, feed-at}
@@ -71,29 +71,29 @@ module _ (l : List Pin) (i : ℕ) (earlier : List Pin) (u : Upto l i earlier) wh
       same : (j : ℕ) → j ≡ i → getD (set earlier i (getD l i absent)) j absent ≡ getD l j absent
       same j e = rw e (getD-set-same earlier i (getD l i absent) absent (omega (arith, u .full)))
 
-  module _ (a : allApart (feedOf l) ≡ true) (held : Held) (q : getD l i absent ≡ there held) where
+  module _ (a : allApart (spotsOf l) ≡ true) (held : Held) (q : getD l i absent ≡ there held) where
     -- Of the pins below none is near to pin i, and those above are absent.
-    free-of : (j : ℕ) → spotsTooNear (spot.At (held .place)) (spotAt (feedOf earlier) j) ≡ false
+    free-of : (j : ℕ) → spotsTooNear (spot.At (held .place)) (spotAt (spotsOf earlier) j) ≡ false
     unfolding spotOf spotsTooNear
     free-of j =
         let s = spot.At (held .place) in
-        let here : spotAt (feedOf l) i ≡ s = feed-at l i ∙ ap spotOf q in
+        let here : spotAt (spotsOf l) i ≡ s = feed-at l i ∙ ap spotOf q in
         ap (spotsTooNear s) (feed-at earlier j)
         ∙ ⊎-elim (λ (k : i ≤ j). ap (λ (p : Pin). spotsTooNear s (spotOf p)) (u .above j k))
         (λ (k : j < i).
         ap (λ (p : Pin). spotsTooNear s (spotOf p)) (u .below j k)
-        ∙ ap (spotsTooNear s) (sym (feed-at l j)) ∙ spots-turned s (spotAt (feedOf l) j)
-        ∙ ap (spotsTooNear (spotAt (feedOf l) j)) (sym here) ∙ apart-pair (feedOf l) j i a k)
+        ∙ ap (spotsTooNear s) (sym (feed-at l j)) ∙ spots-turned s (spotAt (spotsOf l) j)
+        ∙ ap (spotsTooNear (spotAt (spotsOf l) j)) (sym here) ∙ apart-pair (spotsOf l) j i a k)
         (order i j)
 
     -- So its place is not taken.
-    place-free : tooNearAny (spot.At (held .place)) (feedOf earlier) ≡ false
-    place-free = none-by (spotsTooNear (spot.At (held .place))) spot.Absent (feedOf earlier) free-of
+    place-free : tooNearAny (spot.At (held .place)) (spotsOf earlier) ≡ false
+    place-free = none-by (spotsTooNear (spot.At (held .place))) spot.Absent (spotsOf earlier) free-of
 
 -- The place of a pin of the drawing is on the board.
 place-inside : (l : List Pin) (i : ℕ) (held : Held) → lawful l ≡ true → getD l i absent ≡ there held → inside (held .place) ≡ true
 unfolding within spotOf
-place-inside l i held e q = ap within (sym (feed-at l i ∙ ap spotOf q)) ∙ within-at (feedOf l) i (lawful-parts l e .board)
+place-inside l i held e q = ap within (sym (feed-at l i ∙ ap spotOf q)) ∙ within-at (spotsOf l) i (lawful-parts l e .board)
 
 -- A record without a fault at the front is read, and then what follows it.
 read-one : (left job number next pin : ℕ) (earlier : List Pin) (held : Held) (rest : List ℕ) → job < 65536 → inside (held .place) ≡ true

@@ -16,7 +16,7 @@ use Rattle.drawing.specs.declared.Stand.{Stand}
 use Rattle.drawing.specs.declared.Stand.the-variants.{Absent, There}
 use Rattle.drawing.specs.declared.Pin.{Pin}
 use Rattle.board.specs.Spots.{mostPins, within, allWithin, spotsTooNear}
-use Rattle.drawing.specs.Pins.{spotIn, lawful, spotOf, feedOf, noPins}
+use Rattle.drawing.specs.Pins.{spotIn, lawful, spotOf, spotsOf, noPins}
 use Rattle.drawing.proofs.Rules.{lawful-parts}
 use Rattle.pinmap.specs.declared.Reading.{Reading}
 use Rattle.pinmap.specs.declared.Writing.{Writing}
@@ -57,8 +57,8 @@ pin-bytes job pin q j p e = by-stand (q .stand) e
     by-stand (There held) e = record-bytes job pin held j p e
 
 -- and so is the map from any pin on.
-bytes-from : (job i : ℕ) (l : List Pin) → job < 65536 → i + length l ≤ 256 → allWithin (feedOf l) ≡ true → Bytes (mapFrom job i l)
-unfolding mapFrom eachOf feedOf
+bytes-from : (job i : ℕ) (l : List Pin) → job < 65536 → i + length l ≤ 256 → allWithin (spotsOf l) ≡ true → Bytes (mapFrom job i l)
+unfolding mapFrom eachOf spotsOf
 bytes-from job i [] j n e = λ k. omega arith
 bytes-from job i (q ∷ l) j n e =
     bytes-append (pinBytes job i q) (mapFrom job (i + 1) l) (pin-bytes job i q j (omega arith) (both-left _ _ e))
@@ -73,7 +73,7 @@ map-bytes job l j e = bytes-from job 0 l j (omega (arith, lawful-parts l e .long
 
 -- A drawing without pins keeps the rules.
 pub no-pins-lawful : lawful noPins ≡ true
-unfolding lawful both spotOf feedOf eachOf within noTwo anyOf spotsTooNear either
+unfolding lawful both spotOf spotsOf eachOf within noTwo anyOf spotsTooNear either
 no-pins-lawful = refl
 
 -- A reading that goes on only where the length is right gives that back, if what it goes on with does.

@@ -12,7 +12,7 @@ use Rattle.pinmap.specs.Number.{numberAt, firstByte, secondByte, thirdBy
 use Rattle.board.specs.Place.{onBoard, inside, difference, closer, tooNear}
 use Rattle.drawing.specs.declared.Pin.{Pin}
 use Rattle.board.specs.Spots.{spotsTooNear}
-use Rattle.drawing.specs.Pins.{absent, there, holding, spotOf, feedOf, noPins}
+use Rattle.drawing.specs.Pins.{absent, there, holding, spotOf, spotsOf, noPins}
 use Rattle.pinmap.specs.Record.{recordOf, recordBytes, pinBytes, judged}
 use Rattle.pinmap.specs.Map.{refusedBy, readAs, withPinOf, readFrom, wrongLength, readMap, mapFrom, mapOf, written, writeMap, bufferAfter}
 
@@ -35,7 +35,7 @@ D3-written = refl
 
 -- Read back, it is that pin.
 D3-read : readMap oneRecord 7 ≡ readAs onePin
-unfolding readMap wrongLength either choose readFrom recordOf numberAt judged turn accepted inside onBoard both anyOf spotsTooNear spotOf feedOf withPinOf
+unfolding readMap wrongLength either choose readFrom recordOf numberAt judged turn accepted inside onBoard both anyOf spotsTooNear spotOf spotsOf withPinOf
 D3-read = refl
 
 -- Written into a buffer of 14 bytes, it leaves the last two.
@@ -77,27 +77,27 @@ other-job-first = refl
 
 -- The first faulty record is named: record 1 has a byte 3 that is not zero, record 2 another job.
 first-faulty : readMap (given 7 0 0 0 ++ (given 7 1 5 3 ++ given 8 2 0 6)) 7 ≡ refusedBy (FaultyRecord 1)
-unfolding readMap wrongLength either choose readFrom recordOf numberAt judged turn accepted inside onBoard both anyOf spotsTooNear spotOf feedOf withPinOf
+unfolding readMap wrongLength either choose readFrom recordOf numberAt judged turn accepted inside onBoard both anyOf spotsTooNear spotOf spotsOf withPinOf
 first-faulty = refl
 
 -- A pin that comes twice is 15.
 not-ascending : readMap (given 7 3 0 0 ++ given 7 3 0 1) 7 ≡ refusedBy (FaultyRecord 1)
-unfolding readMap wrongLength either choose readFrom recordOf numberAt judged turn accepted inside onBoard both anyOf spotsTooNear spotOf feedOf withPinOf
+unfolding readMap wrongLength either choose readFrom recordOf numberAt judged turn accepted inside onBoard both anyOf spotsTooNear spotOf spotsOf withPinOf
 not-ascending = refl
 
 -- A pin below the one before it is 15,
 descending : readMap (given 7 3 0 0 ++ given 7 2 0 1) 7 ≡ refusedBy (FaultyRecord 1)
-unfolding readMap wrongLength either choose readFrom recordOf numberAt judged turn accepted inside onBoard both anyOf spotsTooNear spotOf feedOf withPinOf
+unfolding readMap wrongLength either choose readFrom recordOf numberAt judged turn accepted inside onBoard both anyOf spotsTooNear spotOf spotsOf withPinOf
 descending = refl
 
 -- and so is a place that comes again.
 place-twice : readMap (given 7 3 0 9 ++ given 7 4 0 9) 7 ≡ refusedBy (FaultyRecord 1)
-unfolding readMap wrongLength either choose readFrom recordOf numberAt judged turn accepted inside onBoard both anyOf spotsTooNear spotOf feedOf tooNear closer
+unfolding readMap wrongLength either choose readFrom recordOf numberAt judged turn accepted inside onBoard both anyOf spotsTooNear spotOf spotsOf tooNear closer
     difference withPinOf
 place-twice = refl
 
 -- x 20,000 is accepted, 20,001 is 15.
 limits : (accepted (readMap (0 ∷ 7 ∷ 0 ∷ 0 ∷ 0 ∷ 0 ∷ 78 ∷ 32 ∷ 0 ∷ 0 ∷ 0 ∷ 0 ∷ []) 7 .verdict) ≡ true)
     × (readMap (0 ∷ 7 ∷ 0 ∷ 0 ∷ 0 ∷ 0 ∷ 78 ∷ 33 ∷ 0 ∷ 0 ∷ 0 ∷ 0 ∷ []) 7 ≡ refusedBy (FaultyRecord 0))
-unfolding readMap wrongLength either choose readFrom recordOf numberAt judged turn accepted inside onBoard both anyOf spotsTooNear spotOf feedOf withPinOf
+unfolding readMap wrongLength either choose readFrom recordOf numberAt judged turn accepted inside onBoard both anyOf spotsTooNear spotOf spotsOf withPinOf
 limits = (refl, refl)

@@ -15,7 +15,7 @@ use Rattle.drawing.specs.declared.Stand.the-variants.{Absent, There}
 use Rattle.drawing.specs.declared.Pin.{Pin}
 use Rattle.board.specs.declared.Spot.the-variants.{At}
 use Rattle.board.specs.Spots.{mostPins, tooNearAny}
-use Rattle.drawing.specs.Pins.{feedOf}
+use Rattle.drawing.specs.Pins.{spotsOf}
 use Rattle.pinmap.specs.declared.Record.{Record}
 
 -- Records of 12 bytes.
@@ -58,7 +58,7 @@ notAbove next r = ltb (r .pin) next
 
 -- Its place is that of an earlier record, or too near to it.
 abbrev pub placeTaken : List Pin → Record → Bool
-placeTaken earlier r = tooNearAny (At (r .place)) (feedOf earlier)
+placeTaken earlier r = tooNearAny (At (r .place)) (spotsOf earlier)
 
 -- A record after those that were read: 14 before 15, with its number, counted from 0.
 unfoldable pub judged : ℕ → ℕ → ℕ → List Pin → Record → Verdict

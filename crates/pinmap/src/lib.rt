@@ -112,7 +112,7 @@ fn has_place_taken(given: Record, earlier: [Pin; PINS]) -> bool
     ensures { λ r. ⌜ r ≡ placeTaken earlier given ⌝ }
 {
     let at = given.place;
-    let spots = drawing::feed_of(earlier);
+    let spots = drawing::spots_of(earlier);
     board::too_near_any(Spot::At(at), spots, 0)
 }
 

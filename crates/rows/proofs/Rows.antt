@@ -14,7 +14,7 @@ use Rattle.refusal.proofs.Rows.{Row, given, firstOf, NoneHolds, numberOf, unlik
 use Rattle.board.specs.declared.Place.{Place}
 use Rattle.board.specs.Place.{inside}
 use Rattle.board.specs.Spots.{mostPins, crowded}
-use Rattle.drawing.specs.Pins.{isThere, feedOf}
+use Rattle.drawing.specs.Pins.{isThere, spotsOf}
 use Rattle.drawing.specs.Edits.{standsAt}
 use Rattle.pinmap.specs.Map.{wrongLength, readFrom, readMap, noRoom}
 use Rattle.wiring.proofs.Refusing.{feedRows}
@@ -53,7 +53,7 @@ placingBeforeFull l p at =
     ++ (given (leb mostPins p) NoSuchPin
     ∷ given (isThere (pinAt l p)) PinThere
     ∷ given (not (inside at)) Outside
-    ∷ given (crowded (feedOf (l .pins)) p at) PlaceTaken
+    ∷ given (crowded (spotsOf (l .pins)) p at) PlaceTaken
     ∷ [])
 
 -- Placing: these and 12.
@@ -68,7 +68,7 @@ thereRows l p = namingRows l ++ (given (notThere l p) NoSuchPin ∷ [])
 abbrev pub movingBeforeFull : Look → ℕ → Place → List Row
 movingBeforeFull l p at =
     thereRows l p
-    ++ (given (not (inside at)) Outside ∷ given (either (standsAt (pinAt l p) at) (crowded (feedOf (l .pins)) p at)) PlaceTaken ∷ [])
+    ++ (given (not (inside at)) Outside ∷ given (either (standsAt (pinAt l p) at) (crowded (spotsOf (l .pins)) p at)) PlaceTaken ∷ [])
 
 -- Moving: 28, 1, 2, 6, 8, 9, 12.
 abbrev pub movingRows : Look → ℕ → Place → List Row
@@ -92,7 +92,7 @@ writingRows l room = namingRows l ++ (given (noRoom (l .pins) (l .job) room) Roo
 
 -- Wiring a seat: 28, 1, 2, 17, 18, 19.
 abbrev pub wiringRows : Look → ℕ → List Row
-wiringRows l room = namingRows l ++ feedRows (feedOf (l .pins)) room
+wiringRows l room = namingRows l ++ feedRows (spotsOf (l .pins)) room
 
 -- ---- rows that were read before
 

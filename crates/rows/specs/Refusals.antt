@@ -12,7 +12,7 @@ use Rattle.board.specs.declared.Place.{Place}
 use Rattle.board.specs.Place.{inside}
 use Rattle.drawing.specs.declared.Pin.{Pin}
 use Rattle.board.specs.Spots.{mostPins, crowded}
-use Rattle.drawing.specs.Pins.{absent, isThere, feedOf}
+use Rattle.drawing.specs.Pins.{absent, isThere, spotsOf, feedOf}
 use Rattle.drawing.specs.Edits.{standsAt}
 use Rattle.pinmap.specs.Map.{readMap, noRoom}
 use Rattle.wiring.specs.Answer.{wiringOf}
@@ -78,7 +78,7 @@ turnedPlacing l p at =
     (turn (leb mostPins p) NoSuchPin
     (turn (isThere (pinAt l p)) PinThere
     (turn (not (inside at)) Outside
-    (turn (crowded (feedOf (l .pins)) p at) PlaceTaken
+    (turn (crowded (spotsOf (l .pins)) p at) PlaceTaken
     (turn (full l) JournalFull Accepted)))))))
 
 -- Moving: 28, 1, 2, 6, 8, 9, 12. A move to the place where the pin already stands is 9.
@@ -89,7 +89,7 @@ turnedMoving l p at =
     (turn (not (l .opened)) NotOpen
     (turn (notThere l p) NoSuchPin
     (turn (not (inside at)) Outside
-    (turn (either (standsAt (pinAt l p) at) (crowded (feedOf (l .pins)) p at)) PlaceTaken
+    (turn (either (standsAt (pinAt l p) at) (crowded (spotsOf (l .pins)) p at)) PlaceTaken
     (turn (full l) JournalFull Accepted))))))
 
 -- Removing: 28, 1, 2, 6, 12.

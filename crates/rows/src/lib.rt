@@ -235,7 +235,7 @@ pub fn feed_wired(found: Found, room: usize) -> Laid
     if refusal::is_accepted(verdict) {
         let s = found.state;
         let pins = s.pins;
-        let feed = drawing::feed_of(pins);
+        let feed = drawing::spots_of(pins);
         wiring::wire_feed(feed, room)
     } else {
         wiring::refused(verdict)

@@ -13,7 +13,7 @@ use Rattle.refusal.specs.declared.Verdict.the-variants.{Accepted, PlaceTaken, D
 use Rattle.board.specs.Place.{place, onBoard, inside, difference, closer, tooNear, sameNumber, samePlace}
 use Rattle.drawing.specs.declared.Pin.{Pin}
 use Rattle.board.specs.Spots.{mostPins, spotsTooNear, crowded, within, tooNearOther}
-use Rattle.drawing.specs.Pins.{absent, there, holding, isThere, sameHeld, samePin, samePins, lawful, spotOf, feedOf}
+use Rattle.drawing.specs.Pins.{absent, there, holding, isThere, sameHeld, samePin, samePins, lawful, spotOf, spotsOf}
 use Rattle.drawing.specs.Edits.{movedPin, made, unmade, standsAt, fits, placeable, movable, makeable, takeable, heldBy, placed}
 use Rattle.pinmap.specs.Map.{readFrom, wrongLength, readMap}
 use Rattle.journal.specs.declared.Record.{Record}
@@ -37,7 +37,7 @@ drawn l = padded mostPins absent l
 pub own-place-refused : answers emptyDesk (opening 0 7 [] ∷ placing 0 0 (place (pos 1) (pos 1)) ∷ moving 0 0 (place (pos 1) (pos 1)) ∷ [])
     ≡ Accepted ∷ Accepted ∷ PlaceTaken ∷ []
 unfolding answers both either choose accepted turn onBoard inside difference closer tooNear sameNumber samePlace isThere sameHeld samePin samePins spotsTooNear
-    tooNearOther crowded within spotOf feedOf lawful movedPin made unmade standsAt fits placeable movable makeable takeable heldBy readFrom wrongLength readMap
+    tooNearOther crowded within spotOf spotsOf lawful movedPin made unmade standsAt fits placeable movable makeable takeable heldBy readFrom wrongLength readMap
     own kept filled inTurn sameJob turnedOpening turnedPlacing turnedMoving verdictOf jobOf soundOpen soundClosed soundSeat soundTo sound edited effect answerOf
     step emptyDesk anyOf eachOf noTwo
 own-place-refused = refl
@@ -90,6 +90,6 @@ undo d = answerOf d (undoing 0)
 -- Undo is accepted on the sound desk, and 28 on every broken one.
 pub broken-refused : (undo whole ≡ Accepted) × (map undo broken ≡ replicate 10 DeskBroken)
 unfolding both either choose turn onBoard inside difference closer tooNear sameNumber samePlace isThere sameHeld samePin samePins spotsTooNear tooNearOther
-    crowded within spotOf feedOf lawful movedPin made unmade standsAt fits placeable movable makeable takeable own kept filled inTurn sameJob turnedUndoing
+    crowded within spotOf spotsOf lawful movedPin made unmade standsAt fits placeable movable makeable takeable own kept filled inTurn sameJob turnedUndoing
     verdictOf jobOf soundOpen soundClosed soundSeat soundTo sound answerOf anyOf eachOf noTwo
 broken-refused = (refl, refl)

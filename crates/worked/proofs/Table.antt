@@ -15,7 +15,7 @@ use Rattle.pinmap.specs.Number.{firstByte, secondByte, thirdByte, fourthByte}
 use Rattle.board.specs.Place.{place, onBoard, inside, difference, closer, tooNear, sameNumber, samePlace}
 use Rattle.drawing.specs.declared.Pin.{Pin}
 use Rattle.board.specs.Spots.{spotsTooNear, crowded, within, tooNearOther}
-use Rattle.drawing.specs.Pins.{isThere, sameHeld, samePin, samePins, lawful, spotOf, feedOf}
+use Rattle.drawing.specs.Pins.{isThere, sameHeld, samePin, samePins, lawful, spotOf, spotsOf}
 use Rattle.drawing.specs.Edits.{movedPin, made, unmade, standsAt, fits, placeable, movable, makeable, takeable, heldBy}
 use Rattle.pinmap.specs.Record.{recordBytes, pinBytes}
 use Rattle.pinmap.specs.Map.{readFrom, wrongLength, readMap, mapFrom, mapOf, written}
@@ -76,7 +76,7 @@ table =
 -- W1 TO W8 AND D1 TO D3 HOLD.
 pub worked : AllHold table
 unfolding Holds AllHold after answers both either choose accepted turn onBoard inside difference closer tooNear sameNumber samePlace isThere sameHeld samePin
-    samePins spotsTooNear tooNearOther crowded within spotOf feedOf lawful movedPin made unmade standsAt fits placeable movable makeable takeable heldBy
+    samePins spotsTooNear tooNearOther crowded within spotOf spotsOf lawful movedPin made unmade standsAt fits placeable movable makeable takeable heldBy
     readFrom wrongLength readMap own kept filled inTurn sameJob turnedOpening turnedClosing turnedPlacing turnedMoving turnedRemoving turnedUndoing
     turnedRedoing verdictOf jobOf soundOpen soundClosed soundSeat soundTo sound edited effect answerOf step emptyDesk mapFrom mapOf recordBytes pinBytes
     firstByte secondByte thirdByte fourthByte turnedWriting written writtenOf bufferOf anyOf eachOf noTwo

@@ -51,8 +51,8 @@ taken-back-count-requires c κs =
     let a = f .before .before .before .args in
     few-used (a .desk) (a .seat) (f .find .ensures) (t .turned-naming .ensures) (sym (p .before .is-accepted .ensures) ∙ not-false _ (p .if2 .left))
 
-feed-of-requires : tie.Need-feed-of-requires
-feed-of-requires c κs = search needs
+spots-of-requires : tie.Need-spots-of-requires
+spots-of-requires c κs = search needs
 
 print-drawn-requires : tie.Need-print-drawn-requires
 print-drawn-requires c κs = search needs
@@ -68,7 +68,7 @@ returns-3 c =
     let a = f .before .before .before .args in
     pins-drawn (a .desk) (a .seat) (f .find .ensures) (t .turned-naming .ensures) (a .out .now)
     (sym (i .before .is-not-open .ensures) ∙ i .if1 .left) (sym (p .before .is-accepted .ensures) ∙ not-false _ (p .if2 .left))
-    (n .taken-back-count .ensures) (w .feed-of .ensures) (c .print-drawn .ensures)
+    (n .taken-back-count .ensures) (w .spots-of .ensures) (c .print-drawn .ensures)
 
 pub show-pins-spec : {M : Type 1} → statement M
 show-pins-spec =
@@ -83,6 +83,6 @@ show-pins-spec =
     print-verdict-requires
     returns-2
     taken-back-count-requires
-    feed-of-requires
+    spots-of-requires
     print-drawn-requires
     returns-3)

@@ -12,11 +12,11 @@ use Rattle.drawing.proofs.could_have_been_made.Tie as tie
 pin-of-requires : tie.Need-pin-of-requires
 pin-of-requires c κs = search needs
 
-feed-of-requires : tie.Need-feed-of-requires
-feed-of-requires c κs = search needs
+spots-of-requires : tie.Need-spots-of-requires
+spots-of-requires c κs = search needs
 
 can-be-made-requires : tie.Need-can-be-made-requires
-can-be-made-requires c κs = c .feed-of .ensures
+can-be-made-requires c κs = c .spots-of .ensures
 
 returns : tie.Need-returns
 returns c =
@@ -33,7 +33,7 @@ returns-2 c =
     let p = f .before in
     let s = p .before in
     unsettled _ (s .pre .0) _ (p .pin-of .ensures) (s .pre .1)
-    (ap (λ (feed : List Spot). settled feed (p .pin-of .result)) (sym (f .feed-of .ensures))
+    (ap (λ (feed : List Spot). settled feed (p .pin-of .result)) (sym (f .spots-of .ensures))
     ∙ sym (c .before .is-settled .ensures)
     ∙ not-true _ (c .if2 .taken))
 
@@ -63,7 +63,7 @@ returns-3 c =
     let p = f .before in
     let s = p .before in
     remade _ (s .pre .0) _ (p .pin-of .ensures) (s .pre .1) (s .pre .2) (sym (m .before .can-be-made .ensures) ∙ not-false _ (m .if1 .left))
-    (ap (λ (feed : List Spot). settled feed (p .pin-of .result)) (sym (f .feed-of .ensures))
+    (ap (λ (feed : List Spot). settled feed (p .pin-of .result)) (sym (f .spots-of .ensures))
     ∙ sym (t .before .is-settled .ensures)
     ∙ not-false _ (t .if2 .left))
     _ (c .before .before .before .make .ensures) (c .same-pin .ensures)
@@ -73,7 +73,7 @@ could-have-been-made-spec =
     tie.close
     (tie.spec
     pin-of-requires
-    feed-of-requires
+    spots-of-requires
     can-be-made-requires
     returns
     is-settled-requires

@@ -7,8 +7,8 @@ use Rattle.board.specs.Spots.{crowded}
 use Rattle.drawing.proofs.is_crowded.Statement.{statement}
 use Rattle.drawing.proofs.is_crowded.Tie as tie
 
-feed-of-requires : tie.Need-feed-of-requires
-feed-of-requires c κs = search needs
+spots-of-requires : tie.Need-spots-of-requires
+spots-of-requires c κs = search needs
 
 is-crowded-requires : tie.Need-is-crowded-requires
 is-crowded-requires c κs = search needs
@@ -16,7 +16,7 @@ is-crowded-requires c κs = search needs
 returns : tie.Need-returns
 returns c =
     let a = c .before .before .args in
-    c .is-crowded .ensures ∙ ap (λ (feed : List Spot). crowded feed (a .pin) (a .at)) (c .before .feed-of .ensures)
+    c .is-crowded .ensures ∙ ap (λ (feed : List Spot). crowded feed (a .pin) (a .at)) (c .before .spots-of .ensures)
 
 pub is-crowded-spec : {M : Type 1} → statement M
-is-crowded-spec = tie.close (tie.spec feed-of-requires is-crowded-requires returns)
+is-crowded-spec = tie.close (tie.spec spots-of-requires is-crowded-requires returns)

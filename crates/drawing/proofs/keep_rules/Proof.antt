@@ -10,8 +10,8 @@ use Rattle.drawing.specs.Pins.{lawful}
 use Rattle.drawing.proofs.keep_rules.Statement.{statement}
 use Rattle.drawing.proofs.keep_rules.Tie as tie
 
-feed-of-requires : tie.Need-feed-of-requires
-feed-of-requires c κs = search needs
+spots-of-requires : tie.Need-spots-of-requires
+spots-of-requires c κs = search needs
 
 are-within-requires : tie.Need-are-within-requires
 are-within-requires c κs = search needs
@@ -21,7 +21,7 @@ unfolding lawful
 returns c =
     let d = c .before .before in
     let h : length (d .before .args .pins) ≡ mostPins = omega arith in
-    let w = ap allWithin (sym (d .feed-of .ensures)) ∙ sym (c .before .are-within .ensures) ∙ not-true _ (c .if1 .taken) in
+    let w = ap allWithin (sym (d .spots-of .ensures)) ∙ sym (c .before .are-within .ensures) ∙ not-true _ (c .if1 .taken) in
     sym (both-yes _ (eq-eqb _ _ h) ∙ both-no _ w)
 
 are-apart-requires : tie.Need-are-apart-requires
@@ -32,9 +32,9 @@ unfolding lawful
 returns-2 c =
     let d = c .before .before .before in
     let h : length (d .before .args .pins) ≡ mostPins = omega arith in
-    let w = ap allWithin (sym (d .feed-of .ensures)) ∙ sym (c .before .before .are-within .ensures) ∙ not-false _ (c .before .if1 .left) in
-    c .are-apart .ensures ∙ ap allApart (d .feed-of .ensures) ∙ sym (both-yes _ (eq-eqb _ _ h) ∙ both-yes _ w)
+    let w = ap allWithin (sym (d .spots-of .ensures)) ∙ sym (c .before .before .are-within .ensures) ∙ not-false _ (c .before .if1 .left) in
+    c .are-apart .ensures ∙ ap allApart (d .spots-of .ensures) ∙ sym (both-yes _ (eq-eqb _ _ h) ∙ both-yes _ w)
 
 pub keep-rules-spec : {M : Type 1} → statement M
 keep-rules-spec =
-    tie.close (tie.spec feed-of-requires are-within-requires returns are-apart-requires returns-2)
+    tie.close (tie.spec spots-of-requires are-within-requires returns are-apart-requires returns-2)

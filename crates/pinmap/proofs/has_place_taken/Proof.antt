@@ -8,8 +8,8 @@ use Rattle.board.specs.Spots.{tooNearAny}
 use Rattle.pinmap.proofs.has_place_taken.Statement.{statement}
 use Rattle.pinmap.proofs.has_place_taken.Tie as tie
 
-feed-of-requires : tie.Need-feed-of-requires
-feed-of-requires c κs = search needs
+spots-of-requires : tie.Need-spots-of-requires
+spots-of-requires c κs = search needs
 
 too-near-any-requires : tie.Need-too-near-any-requires
 too-near-any-requires c κs = search needs
@@ -17,7 +17,7 @@ too-near-any-requires c κs = search needs
 returns : tie.Need-returns
 returns c =
     let a = c .before .before .before .args in
-    c .too-near-any .ensures ∙ ap (λ (feed : List Spot). tooNearAny (At (a .given .place)) feed) (c .before .feed-of .ensures)
+    c .too-near-any .ensures ∙ ap (λ (feed : List Spot). tooNearAny (At (a .given .place)) feed) (c .before .spots-of .ensures)
 
 pub has-place-taken-spec : {M : Type 1} → statement M
-has-place-taken-spec = tie.close (tie.spec feed-of-requires too-near-any-requires returns)
+has-place-taken-spec = tie.close (tie.spec spots-of-requires too-near-any-requires returns)

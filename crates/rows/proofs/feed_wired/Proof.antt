@@ -18,8 +18,8 @@ turned-naming-requires c κs = search needs
 is-accepted-requires : tie.Need-is-accepted-requires
 is-accepted-requires c κs = search needs
 
-feed-of-requires : tie.Need-feed-of-requires
-feed-of-requires c κs = search needs
+spots-of-requires : tie.Need-spots-of-requires
+spots-of-requires c κs = search needs
 
 wire-feed-requires : tie.Need-wire-feed-requires
 unfolding NoneHolds
@@ -28,7 +28,7 @@ wire-feed-requires c κs =
     let t = d .before .before in
     let n = naming-passed (lookAtFound (t .before .args .found) [] 0) (t .turned-naming .ensures) (sym (d .before .is-accepted .ensures) ∙ d .if1 .taken) in
     let h = lawful-parts _ (t .before .pre (n .0) (not-false _ (n .1 .1 .0))) in
-    rw (c .feed-of .ensures) (h .board, h .apart)
+    rw (c .spots-of .ensures) (h .board, h .apart)
 
 refused-requires : tie.Need-refused-requires
 refused-requires c κs = search needs
@@ -38,7 +38,7 @@ returns c =
     let d = c .before .before .before .before in
     let t = d .before .before in
     taken (t .turned-naming .ensures) _ (sym (d .before .is-accepted .ensures) ∙ d .if1 .taken)
-    (c .wire-feed .ensures ∙ ap (λ (f : List Spot). wiringOf f (t .before .args .room)) (c .before .feed-of .ensures))
+    (c .wire-feed .ensures ∙ ap (λ (f : List Spot). wiringOf f (t .before .args .room)) (c .before .spots-of .ensures))
 
 returns-2 : tie.Need-returns-2
 returns-2 c =
@@ -52,7 +52,7 @@ feed-wired-spec =
     (tie.spec
     turned-naming-requires
     is-accepted-requires
-    feed-of-requires
+    spots-of-requires
     wire-feed-requires
     refused-requires
     returns

@@ -1,16 +1,16 @@
--- `drawing::feed_of` meets its contract: the array is filled from the front with the spots of the feed. Assumes nothing.
+-- `drawing::spots_of` meets its contract: the array is filled from the front with the spots of the feed. Assumes nothing.
 use mathlib.Core.Path.{_≡_}
 use Prim.Native.Nat.{_-_}
 use borrow.Author.Needs.{needs}
 use native.Mathlib.Omega.{arith}
 use Rattle.basics.proofs.Lists.{overlaid, overlaid-none, mapped-turn, mapped-all}
 use Rattle.board.specs.Spots.{mostPins}
-use Rattle.drawing.specs.Pins.{absent, spotOf, feedOf}
-use Rattle.drawing.proofs.feed_of.Statement.{statement}
-use Rattle.drawing.proofs.feed_of.Tie as tie
+use Rattle.drawing.specs.Pins.{absent, spotOf, spotsOf}
+use Rattle.drawing.proofs.spots_of.Statement.{statement}
+use Rattle.drawing.proofs.spots_of.Tie as tie
 
 abbrev Inv-loop : tie.InvT-loop
-Inv-loop pins spots₀ i₀ spots i = spots ≡ overlaid (feedOf pins) spots₀ i
+Inv-loop pins spots₀ i₀ spots i = spots ≡ overlaid (spotsOf pins) spots₀ i
 
 abbrev μ-loop : tie.MeasureT-loop
 μ-loop pins spots₀ i₀ spots i = mostPins - i
@@ -40,17 +40,17 @@ loop-less : tie.Need-loop-less Inv-loop μ-loop
 loop-less c = search needs
 
 loop-again : tie.Need-loop-again Inv-loop μ-loop
-unfolding feedOf
+unfolding spotsOf
 loop-again c =
     let h = c .before .before .before in
     mapped-turn spotOf (h .before .args .t1) _ _ (h .loop .i) (h .loop .inv) absent _ (omega arith) (omega arith) (c .spot-of .ensures)
 
 returns : tie.Need-returns Inv-loop μ-loop
-unfolding feedOf
+unfolding spotsOf
 returns c = mapped-all spotOf (c .before .before .args .t1) _ _ (c .before .loop .i) (c .before .loop .inv) (omega arith) (omega arith)
 
-pub feed-of-spec : {M : Type 1} → statement M
-feed-of-spec =
+pub spots-of-spec : {M : Type 1} → statement M
+spots-of-spec =
     tie.close
     (tie.spec
     Inv-loop
