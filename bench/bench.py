@@ -1,5 +1,5 @@
 #!/usr/bin/env python3
-"""Compares and measures the proved programs: bench.py agree [FIRST LAST] | calls | stack. README.md beside it says what each does."""
+"""Compares and measures the proved programs: bench.py agree [FIRST LAST] | calls | wire | stack. README.md beside it says what each does."""
 import os
 import random
 import resource
@@ -86,6 +86,25 @@ def agree(first=1, last=100):
     print(f"{len(seeds)} logs and {len(seeds)} maps, {differ} differ")
 
 
+def best_times(programs, logs, turns=25):
+    """The least processor time of each program on each log, by turns."""
+    best = {}
+    for _ in range(turns):
+        for name, command in programs.items():
+            for log in logs:
+                wrote, seconds = run(command, log.encode())
+                assert wrote is not None, name
+                best[name, log] = min(seconds, best.get((name, log), seconds))
+    return best
+
+
+def ratio(what, took):
+    """Prints what both programs took, in seconds, and their ratio."""
+    for name, seconds in took.items():
+        print(f"{name}: {seconds * 1000:.0f} ms for {what}")
+    print(f"ratio {took['proved'] / took['plain C']:.2f}")
+
+
 def calls():
     """The time of 10,000 calls on a full journal (D4's desk), both programs by turns, the best of 25."""
     fill = ["open 0 7 -", "open 1 9 -", "place 0 0 0 0"] + [f"move 0 0 {x} 0" for x in range(1, 256)]
@@ -93,17 +112,36 @@ def calls():
     then = fill + "undo 0\nplace 1 0 2 2\nredo 0\nplace 1 0 2 2\n" * 2500
     with tempfile.TemporaryDirectory() as folder:
         programs = {"proved": proved("replay"), "plain C": plain(folder)}
-        best = {}
-        for _ in range(25):
-            for name, command in programs.items():
-                for log in (fill, then):
-                    wrote, seconds = run(command, log.encode())
-                    assert wrote and wrote.endswith(b"0\n" * 5 if log == fill else b"0\nrefused 12\n" * 2), name
-                    best[name, log] = min(seconds, best.get((name, log), seconds))
-    took = {name: best[name, then] - best[name, fill] for name in programs}
-    for name, seconds in took.items():
-        print(f"{name}: {seconds * 1000:.0f} ms for 10,000 calls on a full journal")
-    print(f"ratio {took['proved'] / took['plain C']:.2f}")
+        for name, command in programs.items():
+            assert run(command, then.encode())[0].endswith(b"0\nrefused 12\n" * 2), name
+        best = best_times(programs, (fill, then))
+    ratio("10,000 calls on a full journal", {name: best[name, then] - best[name, fill] for name in programs})
+
+
+def full_boards():
+    """Boards of 32 pins: each hanging on the one before it, and 20 at random."""
+    chain = [[(40 * p, 20 * p) for p in range(32)]]
+    random.seed(1)
+    scattered = [[(20 * x, 20 * y) for x, y in zip(random.sample(range(-500, 500), 32), random.sample(range(-500, 500), 32))] for _ in range(20)]
+    return {"a chain": chain, "at random": scattered}
+
+
+def wire():
+    """The time of 2,000 wirings of 32 pins, both programs by turns, the best of 25, less the time of reading the same lines: with one number left out they
+    are refused with 16. Once with the whole answer printed, once with no room for a leg, where the wiring is found and 19 is printed."""
+    with tempfile.TemporaryDirectory() as folder:
+        programs = {"proved": proved("replay"), "plain C": plain(folder)}
+        for what, boards in full_boards().items():
+            lists = [[[str(place[i]) for place in board] for i in (0, 1)] for board in boards]
+            logs = [
+                "".join(f"bare {room} {','.join(xs)} {','.join(ys[:count])}\n" for xs, ys in lists) * (2000 // len(boards))
+                for room, count in ((0, 31), (64, 32), (0, 32))
+            ]
+            wrote = [[run(command, log.encode())[0] for log in logs] for command in programs.values()]
+            assert wrote[0] == wrote[1] and wrote[0][0] == b"refused 16\n" * 2000 and wrote[0][2] == b"refused 19\n" * 2000
+            best = best_times(programs, logs)
+            for how, log in (("printed", logs[1]), ("with no room", logs[2])):
+                ratio(f"2,000 wirings of 32 pins, {what}, {how}", {name: best[name, log] - best[name, logs[0]] for name in programs})
 
 
 def smallest(command, log):
@@ -138,7 +176,7 @@ def stack():
 
 
 if __name__ == "__main__":
-    tasks = {"agree": agree, "calls": calls, "stack": stack}
+    tasks = {"agree": agree, "calls": calls, "wire": wire, "stack": stack}
     if len(sys.argv) < 2 or sys.argv[1] not in tasks:
         sys.exit(__doc__)
     tasks[sys.argv[1]](*sys.argv[2:])
