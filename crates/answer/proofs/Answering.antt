@@ -1,43 +1,52 @@
--- From the answer to what a line says to the answer to the line, and what the lent buffers hold of the line. Assumes nothing.
-use mathlib.Core.Path.{_≡_, sym, _∙_, ap}
+-- From the answer to what a line says to the answer to the line, lines that are too long, and what a buffer holds from its start on. Assumes nothing.
+use mathlib.Core.Path.{_≡_, refl, sym, _∙_, ap}
 use mathlib.Core.List.{List}
-use Prim.Native.Nat.{ℕ}
+use Prim.Native.Nat.{ℕ, _+_, _≤_, _<_}
 use native.Mathlib.Omega.{arith}
-use lib.IntN.{ℤ}
-use lib.ListN.{length, take}
+use lib.ListN.{length, take, drop, replicate, length-replicate}
+use lib.Seq.{sets-eq, length-sets, take-at, length-take-le}
 use Rattle.desk.specs.declared.Desk.{Desk}
-use Rattle.script.specs.declared.Said.{Said}
 use Rattle.text.specs.Text.{over, answerBytes, Holds}
-use Rattle.text.specs.Numbers.{mostPairs, mostNumbers}
-use Rattle.script.specs.Said.{saidBy, mapGiven, xsGiven, ysGiven}
+use Rattle.text.specs.Words.{withoutReturn}
+use Rattle.script.specs.declared.Said.{Said}
+use Rattle.script.specs.Said.{mostLine, saidBy}
+use Rattle.script.proofs.Asking.{line-long}
+use Rattle.printed.specs.Answers.{notACallLine}
 use Rattle.answer.specs.Answered.{followed, played, printed, answered}
-use Rattle.answer.proofs.Counts.{open-count, bare-counts, first-stored}
 
 -- The answer to what a line says is that to the line.
 pub answers : (d : Desk) (number : ℕ) (line old : List ℕ) {o p : Said} {r : Desk} {n : ℕ} {new : List ℕ} → o ≡ saidBy line → o ≡ p
-    → (r ≡ followed d (mapGiven line) p) × Holds answerBytes (printed d number (mapGiven line) (xsGiven line) (ysGiven line) p) old n new
+    → (r ≡ followed d line p) × Holds answerBytes (printed d number line p) old n new
     → (r ≡ played d line) × Holds answerBytes (answered d number line) old n new
 unfolding played answered
 answers d number line old e f h = rw (sym e ∙ f) h
 
-module _ (line : List ℕ) {o : Said} (e : o ≡ saidBy line) where
-  -- The map of an opening.
-  pub map-lent : {s job n : ℕ} (old : List ℕ) {map : List ℕ} → o ≡ Said.Open s job n → map ≡ over (mapGiven line) old
-      → length old ≡ mostPairs → take n map ≡ mapGiven line
-  map-lent {n} old f g k =
-      let h = open-count line e f in
-      ap (take n) g ∙ first-stored old (mapGiven line) (h .0) (omega arith)
+module _ (d : Desk) (line : List ℕ) (h : mostLine < length (withoutReturn line)) where
+  -- A line that is too long leaves the desk as it is,
+  pub long-played : d ≡ played d line
+  unfolding played followed
+  long-played = rw (← (line-long line refl h))
 
-  -- The x of a bare wiring.
-  pub across-lent : {legs across up : ℕ} (old : List ℤ) {xs : List ℤ} → o ≡ Said.Bare legs across up → xs ≡ over (xsGiven line) old
-      → length old ≡ mostNumbers → take across xs ≡ xsGiven line
-  across-lent {across} old f g k =
-      let h = bare-counts line e f .0 in
-      ap (take across) g ∙ first-stored old (xsGiven line) (h .0) (omega arith)
+  -- and prints that it is not a call.
+  pub long-answered : (number : ℕ) → notACallLine number ≡ answered d number line
+  unfolding answered printed
+  long-answered number = rw (← (line-long line refl h))
 
-  -- And its y.
-  pub up-lent : {legs across up : ℕ} (old : List ℤ) {ys : List ℤ} → o ≡ Said.Bare legs across up → ys ≡ over (ysGiven line) old
-      → length old ≡ mostNumbers → take up ys ≡ ysGiven line
-  up-lent {up} old f g k =
-      let h = bare-counts line e f .1 in
-      ap (take up) g ∙ first-stored old (ysGiven line) (h .0) (omega arith)
+-- A buffer filled from its start on:
+module _ {A : Type 0} (room : ℕ) (d : A) (new : List A) {last : List A} (f : last ≡ over new (replicate room d)) {n : ℕ} (h : n ≤ room) where
+  whole : length last ≡ room
+  whole = ap length f ∙ length-sets (replicate room d) 0 new ∙ length-replicate room d
+
+  -- what fits into it is there,
+  pub stored-within : n ≤ length last
+  stored-within = omega (arith, whole)
+
+  -- so many elements are its first ones,
+  pub stored-count : n ≡ length (take n last)
+  stored-count = sym (length-take-le n last stored-within)
+
+  -- and they are what was stored.
+  pub stored-first : n ≡ length new → take n last ≡ new
+  stored-first e =
+      ap (take n) (f ∙ sets-eq new (replicate room d) 0 (omega (arith, length-replicate room d)))
+      ∙ take-at new (drop (0 + length new) (replicate room d)) n (sym e)

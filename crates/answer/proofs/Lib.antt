@@ -1,5 +1,4 @@
 -- What is proved of answers to lines beside the functions' contracts.
-pub mod Counts
 pub mod Telling
 pub mod Showing
 pub mod Answering

@@ -14,24 +14,13 @@ use Rattle.desk.specs.declared.Desk.{Desk}
 use Rattle.desk.specs.declared.Answered.{Answered}
 use Rattle.desk.specs.declared.Written.{Written}
 use Rattle.desk.specs.declared.Wired.{Wired}
-use Rattle.desk.specs.Calls.{Call}
+use Rattle.rows.specs.Calls.{Call}
 use Rattle.desk.specs.Desk.{step, writtenOf, bufferOf, wiredOf}
-use Rattle.text.specs.Text.{answerBytes, Holds}
-use Rattle.script.specs.Said.{mostRoom}
+use Rattle.text.specs.Text.{mostRoom, answerBytes, Holds}
 use Rattle.printed.specs.Answers.{mostLineBytes, verdictLine, writtenLine}
 use Rattle.shown.specs.Shown.{laidText}
 use Rattle.shown.proofs.Lines.{held}
 use Rattle.answer.specs.Answered.{callText, lentBytes, writingText}
-
--- Writing leaves the desk as it is.
-write-kept : (d : Desk) (s : ℕ) (buffer : List ℕ) {w : Written} → w ≡ writtenOf d s buffer → w .desk ≡ d
-unfolding writtenOf
-write-kept d s buffer e = ap (λ (x : Written). x .desk) e
-
--- So does wiring.
-wire-kept : (d : Desk) (s legs : ℕ) {w : Wired} → w ≡ wiredOf d s legs → w .desk ≡ d
-unfolding wiredOf
-wire-kept d s legs e = ap (λ (x : Wired). x .desk) e
 
 module _ (d : Desk) (old : List ℕ) {n : ℕ} {new : List ℕ} where
   -- A call whose verdict is printed.
@@ -43,22 +32,21 @@ module _ (d : Desk) (old : List ℕ) {n : ℕ} {new : List ℕ} where
   -- A writing that was accepted: how many bytes it wrote and the whole buffer are printed.
   pub write-done : (s : ℕ) (buffer : List ℕ) {w : Written} {after : List ℕ} → w ≡ writtenOf d s buffer → after ≡ bufferOf d s buffer
       → accepted (w .verdict) ≡ true → Holds answerBytes (writtenLine (w .bytes) after) old n new
-      → (w .desk ≡ d) × Holds answerBytes (writingText d s buffer) old n new
+      → Holds answerBytes (writingText d s buffer) old n new
   unfolding writingText choose
-  write-done s buffer e f a h = (write-kept d s buffer e, rw (← e, a, ← f) h)
+  write-done s buffer e f a h = rw (← e, a, ← f) h
 
   -- One that was refused: its verdict is.
   pub write-refused : (s : ℕ) (buffer : List ℕ) {w : Written} → w ≡ writtenOf d s buffer
       → accepted (w .verdict) ≡ false → Holds mostLineBytes (verdictLine (w .verdict)) old n new
-      → (w .desk ≡ d) × Holds answerBytes (writingText d s buffer) old n new
+      → Holds answerBytes (writingText d s buffer) old n new
   unfolding writingText choose
-  write-refused s buffer {w} e a h =
-      (write-kept d s buffer e, rw (← e, a) (held old mostLineBytes {p = verdictLine (w .verdict)} (omega arith) refl h))
+  write-refused s buffer {w} e a h = rw (← e, a) (held old mostLineBytes {p = verdictLine (w .verdict)} (omega arith) refl h)
 
   -- A wiring of a seat, printed as it is laid.
   pub wire-done : (s legs : ℕ) {w : Wired} → w ≡ wiredOf d s legs → Holds answerBytes (laidText (w .laid)) old n new
-      → (w .desk ≡ d) × Holds answerBytes (laidText (wiredOf d s legs .laid)) old n new
-  wire-done s legs e h = (wire-kept d s legs e, rw (← e) h)
+      → Holds answerBytes (laidText (wiredOf d s legs .laid)) old n new
+  wire-done s legs e h = rw (← e) h
 
 -- A bare wiring is printed as it is laid.
 pub bare-done : (xs ys : List ℤ) (legs : ℕ) (old : List ℕ) {n : ℕ} {new : List ℕ} {l : Laid} → l ≡ bareOf xs ys legs

@@ -3,43 +3,43 @@ use mathlib.Core.Bool.{Bool}
 use mathlib.Core.List.{List, []}
 use Prim.Native.Nat.{ℕ}
 use lib.Dec.{eqb}
-use lib.IntN.{ℤ}
 use lib.ListN.{replicate}
 use Rattle.basics.specs.Tests.{choose}
 use Rattle.refusal.specs.Refusals.{accepted, toldOf}
+use Rattle.refusal.specs.Rows.{firstOf}
 use Rattle.refusal.specs.declared.Verdict.{Verdict}
 use Rattle.refusal.specs.declared.Verdict.the-variants.{NotOpen}
-use Rattle.drawing.specs.Pins.{spotsOf}
+use Rattle.drawing.specs.declared.stated.Making.the-variants.{Placing, Moving, Removing}
+use Rattle.drawing.specs.Pins.{holding}
 use Rattle.bare.specs.Bare.{bareOf}
+use Rattle.rows.specs.Calls.{Call, opening, closing, making, undoing, redoing}
+use Rattle.rows.specs.Refusals.{Look}
 use Rattle.desk.specs.declared.Desk.{Desk}
-use Rattle.desk.specs.Calls.{Call, opening, closing, placing, moving, removing, undoing, redoing}
-use Rattle.desk.specs.Refusals.{Look, turnedNaming}
-use Rattle.desk.specs.Desk.{lookAt, step, writtenOf, bufferOf, wiredOf}
+use Rattle.desk.specs.Desk.{lookAt, namingAt, step, writtenOf, bufferOf, wiredOf}
 use Rattle.script.specs.declared.Said.{Said}
 use Rattle.script.specs.Said.{saidBy, mapGiven, xsGiven, ysGiven}
 use Rattle.printed.specs.Answers.{verdictLine, writtenLine, closedLine, notACallLine}
 use Rattle.shown.specs.Shown.{laidText, drawnText}
 
--- What the desk is after what a line says, with the map of an opening. Writing, wiring and showing leave the desk as it is, and so does
--- what is not a call.
+-- What the desk is after what a line says. Writing, wiring and showing leave the desk as it is, and so does what is not a call.
 unfoldable pub followed : Desk → List ℕ → Said → Desk
-followed d map Said.Skip = d
-followed d map Said.NotACall = d
-followed d map (Said.Open s job n) = step d (opening s job map) .desk
-followed d map (Said.Close s) = step d (closing s) .desk
-followed d map (Said.Place s p at) = step d (placing s p at) .desk
-followed d map (Said.Move s p to) = step d (moving s p to) .desk
-followed d map (Said.Remove s p) = step d (removing s p) .desk
-followed d map (Said.Undo s) = step d (undoing s) .desk
-followed d map (Said.Redo s) = step d (redoing s) .desk
-followed d map (Said.Write s room) = d
-followed d map (Said.Wire s room) = d
-followed d map (Said.Bare room across up) = d
-followed d map (Said.Pins s) = d
+followed d line Said.Skip = d
+followed d line Said.NotACall = d
+followed d line (Said.Open s job) = step d (opening s job (mapGiven line)) .desk
+followed d line (Said.Close s) = step d (closing s) .desk
+followed d line (Said.Place s p at) = step d (making s (Placing p (holding at))) .desk
+followed d line (Said.Move s p to) = step d (making s (Moving p to)) .desk
+followed d line (Said.Remove s p) = step d (making s (Removing p)) .desk
+followed d line (Said.Undo s) = step d (undoing s) .desk
+followed d line (Said.Redo s) = step d (redoing s) .desk
+followed d line (Said.Write s room) = d
+followed d line (Said.Wire s room) = d
+followed d line (Said.Bare room) = d
+followed d line (Said.Pins s) = d
 
 -- What a line makes of the desk.
 unfoldable pub played : Desk → List ℕ → Desk
-played d line = followed d (mapGiven line) (saidBy line)
+played d line = followed d line (saidBy line)
 
 -- Opening, closing, edits, undo and redo print their verdict.
 unfoldable pub callText : Desk → Call → List ℕ
@@ -61,33 +61,28 @@ abbrev pub isNotOpen : Verdict → Bool
 isNotOpen v = eqb (toldOf v .number) (toldOf NotOpen .number)
 
 -- `pins SEAT`, by 28, 1 and 2 as every call naming a seat: `closed` where it is 2, else the drawing, or the refusal.
-unfoldable pub lookText : Look → List ℕ
-lookText l =
-    choose (isNotOpen (turnedNaming l)) closedLine
-    (choose (accepted (turnedNaming l)) (drawnText (l .job) (spotsOf (l .pins)) (l .standing) (l .takenBack))
-    (verdictLine (turnedNaming l)))
-
--- What `pins SEAT` prints of a seat of the desk.
 unfoldable pub seatText : Desk → ℕ → List ℕ
-seatText d s = lookText (lookAt d s)
+seatText d s =
+    let v : Verdict = firstOf (namingAt d s) in
+    let l : Look = lookAt d s in
+    choose (isNotOpen v) closedLine (choose (accepted v) (drawnText (l .job) (l .pins) (l .standing) (l .takenBack)) (verdictLine v))
 
--- What is printed for what a line says, with the number of the line, the map of an opening and the x and y of a bare wiring. A skipped line
--- prints nothing.
-unfoldable pub printed : Desk → ℕ → List ℕ → List ℤ → List ℤ → Said → List ℕ
-printed d number map xs ys Said.Skip = []
-printed d number map xs ys Said.NotACall = notACallLine number
-printed d number map xs ys (Said.Open s job n) = callText d (opening s job map)
-printed d number map xs ys (Said.Close s) = callText d (closing s)
-printed d number map xs ys (Said.Place s p at) = callText d (placing s p at)
-printed d number map xs ys (Said.Move s p to) = callText d (moving s p to)
-printed d number map xs ys (Said.Remove s p) = callText d (removing s p)
-printed d number map xs ys (Said.Undo s) = callText d (undoing s)
-printed d number map xs ys (Said.Redo s) = callText d (redoing s)
-printed d number map xs ys (Said.Write s room) = writingText d s (lentBytes room)
-printed d number map xs ys (Said.Wire s room) = laidText (wiredOf d s room .laid)
-printed d number map xs ys (Said.Bare room across up) = laidText (bareOf xs ys room)
-printed d number map xs ys (Said.Pins s) = seatText d s
+-- What is printed for what the line of that number says. A skipped line prints nothing.
+unfoldable pub printed : Desk → ℕ → List ℕ → Said → List ℕ
+printed d number line Said.Skip = []
+printed d number line Said.NotACall = notACallLine number
+printed d number line (Said.Open s job) = callText d (opening s job (mapGiven line))
+printed d number line (Said.Close s) = callText d (closing s)
+printed d number line (Said.Place s p at) = callText d (making s (Placing p (holding at)))
+printed d number line (Said.Move s p to) = callText d (making s (Moving p to))
+printed d number line (Said.Remove s p) = callText d (making s (Removing p))
+printed d number line (Said.Undo s) = callText d (undoing s)
+printed d number line (Said.Redo s) = callText d (redoing s)
+printed d number line (Said.Write s room) = writingText d s (lentBytes room)
+printed d number line (Said.Wire s room) = laidText (wiredOf d s room .laid)
+printed d number line (Said.Bare room) = laidText (bareOf (xsGiven line) (ysGiven line) room)
+printed d number line (Said.Pins s) = seatText d s
 
 -- What the line of that number prints.
 unfoldable pub answered : Desk → ℕ → List ℕ → List ℕ
-answered d number line = printed d number (mapGiven line) (xsGiven line) (ysGiven line) (saidBy line)
+answered d number line = printed d number line (saidBy line)

@@ -1,61 +1,64 @@
--- A feed that is filled from lists of x and y. Assumes nothing.
+-- Lists of x and y laid into lists of 32. Assumes nothing.
 use mathlib.Core.Path.{_≡_, refl, sym, ap, _∙_}
-use mathlib.Core.List.{List, [], _∷_}
-use Prim.Native.Nat.{ℕ, zero, suc, _+_, _<_, _≤_}
+use mathlib.Core.Bool.{Bool, true, false}
+use mathlib.Core.List.{List}
+use Prim.Native.Nat.{ℕ, _+_, _<_, _≤_}
 use native.Mathlib.Omega.{arith}
-use native.Mathlib.Nat.{not-suc-le-zero, le-of-suc-le-suc}
-use lib.IntN.{ℤ}
-use lib.ListN.{length, getD, set, take, replicate}
+use lib.IntN.{ℤ, pos}
+use lib.ListN.{length, getD, set, take, replicate, length-replicate, getD-replicate}
 use lib.Seq.{length-take-le, take-all}
 use Rattle.basics.specs.Lists.{padded}
-use Rattle.basics.proofs.Lists.{first-more, padded-long, padded-more}
-use Rattle.board.specs.declared.Spot.{Spot}
-use Rattle.board.specs.declared.Spot.the-variants.{Absent}
-use Rattle.board.specs.Spots.{mostPins}
-use Rattle.bare.specs.Bare.{listedPin, spotsOf, feedOfLists}
+use Rattle.basics.proofs.Lists.{first-more, padded-at, padded-more, values-same}
+use Rattle.board.specs.Spots.{mostPins, spotsFrom}
+use Rattle.board.proofs.Lent.{spots-many}
+use Rattle.bare.specs.Bare.{feedOfLists}
 
--- There are as many pins as positions.
-spots-many : (xs ys : List ℤ) → length xs ≡ length ys → length (spotsOf xs ys) ≡ length xs
-unfolding spotsOf
-spots-many [] ys e = refl
-spots-many (x ∷ xs) [] e = absurd (omega arith)
-spots-many (x ∷ xs) (y ∷ ys) e = ap suc (spots-many xs ys (omega arith))
+-- A feed has 32 spots.
+pub feed-many : (xs ys : List ℤ) → length (feedOfLists xs ys) ≡ mostPins
+unfolding feedOfLists
+feed-many xs ys = spots-many xs ys (replicate (length xs) true)
 
--- Pins are numbered by position.
-spots-at : (xs ys : List ℤ) → length xs ≡ length ys → (i : ℕ) → i < length xs → getD (spotsOf xs ys) i Absent ≡ listedPin xs ys i
-unfolding spotsOf listedPin
-spots-at [] ys e i h = absurd (not-suc-le-zero h)
-spots-at (x ∷ xs) [] e i h = absurd (omega arith)
-spots-at (x ∷ xs) (y ∷ ys) e zero h = refl
-spots-at (x ∷ xs) (y ∷ ys) e (suc i) h = spots-at xs ys (omega arith) i (le-of-suc-le-suc h)
+-- The first i entries of a list before blanks: one more.
+laid-turn : {A : Type 0} (n : ℕ) (d : A) (l o : List A) (i : ℕ) (v : A) → i < length l → length l ≤ n → o ≡ padded n d (take i l) → v ≡ getD l i d
+    → set o i v ≡ padded n d (take (i + 1) l)
+laid-turn n d l o i v h few so-far e =
+    let k : length (take i l) ≡ i = length-take-le i l (omega arith) in
+    rw (so-far, e, ← first-more d l i h)
+    (ap (λ (j : ℕ). set (padded n d (take i l)) j (getD l i d)) (sym k) ∙ padded-more n d (take i l) (getD l i d) (omega arith))
 
-module _ (xs ys : List ℤ) (alike : length xs ≡ length ys) (few : length xs ≤ mostPins) where
-  -- A feed has 32 spots.
-  pub feed-many : length (feedOfLists xs ys) ≡ mostPins
-  unfolding feedOfLists
-  feed-many = padded-long mostPins Absent (spotsOf xs ys) (omega (arith, spots-many xs ys alike))
+-- The pins of the first positions are laid.
+pub record Laid (xs ys across up : List ℤ) (there : List Bool) (i : ℕ) : Type 0 where
+  pub to : i ≤ length xs
+  pub x : across ≡ padded mostPins (pos 0) (take i xs)
+  pub y : up ≡ padded mostPins (pos 0) (take i ys)
+  pub stands : there ≡ padded mostPins false (take i (replicate (length xs) true))
 
--- A feed with the pins of the first positions.
-unfoldable pub feedUpTo : List ℤ → List ℤ → ℕ → List Spot
-feedUpTo xs ys i = padded mostPins Absent (take i (spotsOf xs ys))
+module _ (xs ys : List ℤ) where
+  -- At first none is.
+  pub laid-none : Laid xs ys (replicate mostPins (pos 0)) (replicate mostPins (pos 0)) (replicate mostPins false) 0
+  laid-none = record { to = omega arith; x = refl; y = refl; stands = refl }
 
--- At first it is empty.
-pub feed-none : (xs ys : List ℤ) → replicate mostPins Absent ≡ feedUpTo xs ys 0
-unfolding feedUpTo
-feed-none xs ys = refl
+  module _ (alike : length xs ≡ length ys) (few : length xs ≤ mostPins) (across up : List ℤ) (there : List Bool) (i : ℕ) (p : Laid xs ys across up there i) where
+    -- One pin more.
+    pub laid-more : i < length xs → (x y : ℤ) → x ≡ getD xs i (pos 0) → y ≡ getD ys i (pos 0) → Laid xs ys (set across i x) (set up i y) (set there i true) (i + 1)
+    laid-more h x y ex ey =
+        let long : length (replicate (length xs) true) ≡ length xs = length-replicate (length xs) true in
+        record {
+          to = omega arith;
+          x = laid-turn mostPins (pos 0) xs across i x h few (p .x) ex;
+          y = laid-turn mostPins (pos 0) ys up i y (omega arith) (omega arith) (p .y) ey;
+          stands = laid-turn mostPins false (replicate (length xs) true) there i true (omega arith) (omega arith) (p .stands) (sym (getD-replicate (length xs) i true false h));
+        }
 
-module _ (xs ys : List ℤ) (alike : length xs ≡ length ys) (few : length xs ≤ mostPins) (o : List Spot) (i : ℕ) (so-far : o ≡ feedUpTo xs ys i) where
-  -- One pin more.
-  pub feed-turn : i < length xs → (s : Spot) → s ≡ listedPin xs ys i → set o i s ≡ feedUpTo xs ys (i + 1)
-  unfolding feedUpTo
-  feed-turn h s e =
-      let n = spots-many xs ys alike in
-      let k : length (take i (spotsOf xs ys)) ≡ i = length-take-le i (spotsOf xs ys) (omega arith) in
-      rw (so-far, e, ← spots-at xs ys alike i h, ← first-more Absent (spotsOf xs ys) i (omega arith))
-      (ap (λ (j : ℕ). set (padded mostPins Absent (take i (spotsOf xs ys))) j (getD (spotsOf xs ys) i Absent)) (sym k)
-      ∙ padded-more mostPins Absent (take i (spotsOf xs ys)) (getD (spotsOf xs ys) i Absent) (omega arith))
-
-  -- All pins.
-  pub feed-full : length xs ≡ i → o ≡ feedOfLists xs ys
-  unfolding feedUpTo feedOfLists
-  feed-full h = so-far ∙ ap (padded mostPins Absent) (take-all i (spotsOf xs ys) (omega (arith, spots-many xs ys alike)))
+    -- All pins: they are the feed of the lists.
+    pub laid-all : length xs ≤ i → spotsFrom across up there ≡ feedOfLists xs ys
+    unfolding feedOfLists
+    laid-all h =
+        let ts = replicate (length xs) true in
+        let long : length ts ≡ length xs = length-replicate (length xs) true in
+        rw (p .x, p .y, p .stands, take-all i xs (omega arith), take-all i ys (omega arith), take-all i ts (omega arith)) (blanks ts)
+      where
+        blanks : (ts : List Bool) → spotsFrom (padded mostPins (pos 0) xs) (padded mostPins (pos 0) ys) (padded mostPins false ts) ≡ spotsFrom xs ys ts
+        blanks ts =
+            unfold spotsFrom in
+            values-same _ _ 0 mostPins (λ j. rw (padded-at mostPins (pos 0) xs j, padded-at mostPins (pos 0) ys j, padded-at mostPins false ts j))

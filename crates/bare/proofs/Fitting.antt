@@ -3,16 +3,16 @@ use mathlib.Core.List.{List}
 use Prim.Native.Nat.{ℕ}
 use lib.IntN.{ℤ}
 use Rattle.refusal.specs.Refusals.{accepted}
+use Rattle.refusal.specs.Rows.{firstOf}
 use Rattle.wiring.specs.Answer.{wiringOf}
 use Rattle.lent.proofs.Fitting.{Fits, fits-either, wiring-fits}
-use Rattle.bare.specs.Bare.{feedOfLists, bareVerdict, bareOf}
+use Rattle.bare.specs.Bare.{feedOfLists, listRows, bareOf}
 use Rattle.bare.proofs.Feeds.{feed-many}
-use Rattle.bare.proofs.Verdicts.{lengths-right, well}
 
 -- The legs of bare wiring are at most 62, and at most the room.
 pub bare-fits : (xs ys : List ℤ) (room : ℕ) → Fits room (bareOf xs ys room)
 unfolding bareOf
 bare-fits xs ys room =
-    let v = bareVerdict xs ys in
+    let v = firstOf (listRows xs ys) in
     fits-either (accepted v) v room (wiringOf (feedOfLists xs ys) room)
-    (λ e. let h = lengths-right xs ys (well xs ys e .0) in wiring-fits (feedOfLists xs ys) room (feed-many xs ys (h .0) (h .1)))
+    (λ e. wiring-fits (feedOfLists xs ys) room (feed-many xs ys))

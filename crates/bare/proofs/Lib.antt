@@ -5,3 +5,4 @@ pub mod Fitting
 pub mod Untouched
 pub mod Rows
 pub mod Worked
+pub mod Demand

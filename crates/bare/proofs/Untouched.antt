@@ -5,16 +5,19 @@ use mathlib.Core.List.{List}
 use Prim.Native.Nat.{ℕ}
 use lib.IntN.{ℤ}
 use Rattle.refusal.specs.Refusals.{accepted}
+use Rattle.refusal.specs.Rows.{firstOf}
 use Rattle.copper.specs.declared.Leg.{Leg}
 use Rattle.wiring.specs.Answer.{wiringOf}
 use Rattle.lent.specs.Lent.{filledWith}
 use Rattle.lent.proofs.Untouched.{Alone, turned-by, wiring-turned, untouched}
-use Rattle.bare.specs.Bare.{feedOfLists, bareVerdict, bareOf}
+use Rattle.bare.specs.Bare.{feedOfLists, listRows, bareOf}
 
 -- A refused answer is its verdict and nothing else.
 pub bare-turned : (xs ys : List ℤ) (room : ℕ) → Alone (bareOf xs ys room)
 unfolding bareOf
-bare-turned xs ys room = turned-by (accepted (bareVerdict xs ys)) (bareVerdict xs ys) (wiringOf (feedOfLists xs ys) room) (wiring-turned (feedOfLists xs ys) room)
+bare-turned xs ys room =
+    let v = firstOf (listRows xs ys) in
+    turned-by (accepted v) v (wiringOf (feedOfLists xs ys) room) (wiring-turned (feedOfLists xs ys) room)
 
 -- A refused bare wiring leaves the list as it was.
 pub bare-untouched : (xs ys : List ℤ) (room : ℕ) (lent : List Leg) → accepted (bareOf xs ys room .wiring .verdict) ≡ false → filledWith (bareOf xs ys room) lent ≡ lent

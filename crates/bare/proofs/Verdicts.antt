@@ -7,15 +7,16 @@ use lib.IntN.{ℤ}
 use lib.Dec.{eqb, ltb}
 use lib.ListN.{length}
 use borrow.Author.Tests.{not-false, eq-eqb, ne-eqb, eqb-true, ltb-false}
-use Rattle.basics.specs.Tests.{choose}
-use Rattle.refusal.specs.Refusals.{accepted, turn}
-use Rattle.refusal.proofs.Rows.{passed}
+use Rattle.basics.specs.Tests.{both}
 use Rattle.basics.proofs.Tests.{either-false, choose-yes, choose-no}
+use Rattle.refusal.specs.Refusals.{accepted}
+use Rattle.refusal.specs.Rows.{firstOf, NoneHolds}
+use Rattle.refusal.proofs.Rows.{hit, miss, none-accepted, distinct, unlike, Apart, apart-by}
 use Rattle.refusal.specs.declared.Verdict.{Verdict}
 use Rattle.refusal.specs.declared.Verdict.the-variants.{Accepted, ListLengths, NoPins, Outside, PlaceTaken}
 use Rattle.board.specs.Spots.{mostPins, allWithin, allApart}
 use Rattle.wiring.specs.Answer.{turnedAway, wiringOf}
-use Rattle.bare.specs.Bare.{feedOfLists, wrongLengths, bareVerdict, bareOf}
+use Rattle.bare.specs.Bare.{feedOfLists, wrongLengths, listRows, bareOf}
 
 module _ (xs ys : List ℤ) where
   -- Where the lengths are not wrong, they are equal and at most 32.
@@ -25,55 +26,43 @@ module _ (xs ys : List ℤ) where
       let h = either-false (not (eqb (length xs) (length ys))) (ltb mostPins (length xs)) e in
       (eqb-true (length xs) (length ys) (not-false _ (h .0)), ltb-false mostPins (length xs) (h .1))
 
-  -- Accepted lists are alike and few, and their pins are on the board and not too near.
-  pub well : accepted (bareVerdict xs ys) ≡ true → (wrongLengths xs ys ≡ false) × (allWithin (feedOfLists xs ys) ≡ true) × (allApart (feedOfLists xs ys) ≡ true)
-  unfolding bareVerdict accepted
-  well e =
-      let p = passed (wrongLengths xs ys) ListLengths _ refl e in
-      let q = passed (eqb (length xs) 0) NoPins _ refl (p .1) in
-      let r = passed (not (allWithin (feedOfLists xs ys))) Outside _ refl (q .1) in
-      let s = passed (not (allApart (feedOfLists xs ys))) PlaceTaken _ refl (r .1) in
-      (p .0, not-false (allWithin (feedOfLists xs ys)) (r .0), not-false (allApart (feedOfLists xs ys)) (s .0))
+  -- The rows are apart.
+  pub list-apart : Apart (listRows xs ys)
+  unfolding distinct unlike both accepted
+  list-apart = apart-by (listRows xs ys) refl
 
   -- Wrong lengths are refused with 16,
-  pub lengths-wrong : wrongLengths xs ys ≡ true → ListLengths ≡ bareVerdict xs ys
-  unfolding bareVerdict turn choose
-  lengths-wrong e = rw e
+  pub lengths-wrong : wrongLengths xs ys ≡ true → ListLengths ≡ firstOf (listRows xs ys)
+  lengths-wrong e = hit ListLengths _ e
 
   module _ (right : wrongLengths xs ys ≡ false) where
     -- then no pins with 17,
-    pub no-pins : length xs ≡ 0 → NoPins ≡ bareVerdict xs ys
-    unfolding bareVerdict turn choose
-    no-pins e = rw (right, eq-eqb (length xs) 0 e)
+    pub no-pins : length xs ≡ 0 → NoPins ≡ firstOf (listRows xs ys)
+    no-pins e = miss ListLengths _ right (hit NoPins _ (eq-eqb (length xs) 0 e))
 
     module _ (some : length xs ≡ 0 → ⊥) where
       -- then a pin outside the board with 8,
-      pub one-outside : allWithin (feedOfLists xs ys) ≡ false → Outside ≡ bareVerdict xs ys
-      unfolding bareVerdict turn choose
-      one-outside e = rw (right, ne-eqb (length xs) 0 some, e)
+      pub one-outside : allWithin (feedOfLists xs ys) ≡ false → Outside ≡ firstOf (listRows xs ys)
+      one-outside e = miss ListLengths _ right (miss NoPins _ (ne-eqb (length xs) 0 some) (hit Outside _ (ap not e)))
 
       -- then two pins at one place with 9;
-      pub two-near : allWithin (feedOfLists xs ys) ≡ true → allApart (feedOfLists xs ys) ≡ false → PlaceTaken ≡ bareVerdict xs ys
-      unfolding bareVerdict turn choose
-      two-near e f = rw (right, ne-eqb (length xs) 0 some, e, f)
+      pub two-near : allWithin (feedOfLists xs ys) ≡ true → allApart (feedOfLists xs ys) ≡ false → PlaceTaken ≡ firstOf (listRows xs ys)
+      two-near e f =
+          miss ListLengths _ right (miss NoPins _ (ne-eqb (length xs) 0 some) (miss Outside _ (ap not e) (hit PlaceTaken _ (ap not f))))
 
       -- and what is left is accepted.
-      pub all-well : allWithin (feedOfLists xs ys) ≡ true → allApart (feedOfLists xs ys) ≡ true → Accepted ≡ bareVerdict xs ys
-      unfolding bareVerdict turn choose
-      all-well e f = rw (right, ne-eqb (length xs) 0 some, e, f)
+      pub all-well : allWithin (feedOfLists xs ys) ≡ true → allApart (feedOfLists xs ys) ≡ true → Accepted ≡ firstOf (listRows xs ys)
+      unfolding NoneHolds
+      all-well e f = sym (none-accepted (listRows xs ys) (right, (ne-eqb (length xs) 0 some, (ap not e, (ap not f, tt)))))
 
 -- The whole answer: a refusal, or the wiring of the feed.
 module _ (xs ys : List ℤ) (room : ℕ) where
-  -- What the rows refuse is turned away with their verdict.
-  pub refused : accepted (bareVerdict xs ys) ≡ false → turnedAway (bareVerdict xs ys) ≡ bareOf xs ys room
+  -- What has a verdict that refuses, as the rows give it, is turned away.
+  pub turned : (v : Verdict) → accepted v ≡ false → v ≡ firstOf (listRows xs ys) → turnedAway v ≡ bareOf xs ys room
   unfolding bareOf
-  refused e = sym (choose-no _ _ e)
+  turned v n e = ap turnedAway e ∙ sym (choose-no _ _ (ap accepted (sym e) ∙ n))
 
-  -- So is what has the verdict that the rows give.
-  pub turned : (v : Verdict) → accepted v ≡ false → v ≡ bareVerdict xs ys → turnedAway v ≡ bareOf xs ys room
-  turned v n e = ap turnedAway e ∙ refused (ap accepted (sym e) ∙ n)
-
-  -- What they accept is wired.
-  pub wired : accepted (bareVerdict xs ys) ≡ true → wiringOf (feedOfLists xs ys) room ≡ bareOf xs ys room
+  -- What the rows accept is wired.
+  pub wired : accepted (firstOf (listRows xs ys)) ≡ true → wiringOf (feedOfLists xs ys) room ≡ bareOf xs ys room
   unfolding bareOf
   wired e = sym (choose-yes _ _ e)

@@ -4,16 +4,17 @@ use mathlib.Core.List.{List, [], _∷_, map}
 use Prim.Native.Nat.{ℕ}
 use lib.ListN.{length}
 use Rattle.basics.specs.Tests.{both, either, choose, anyOf, eachOf, noTwo}
-use Rattle.basics.specs.Lists.{padded}
+use Rattle.basics.specs.Lists.{padded, valuesFrom}
 use Rattle.basics.specs.Sums.{sum}
-use Rattle.refusal.specs.Refusals.{accepted, turn}
+use Rattle.refusal.specs.Refusals.{accepted}
+use Rattle.refusal.specs.Rows.{firstOf}
 use Rattle.refusal.specs.declared.Verdict.the-variants.{Accepted}
 use Rattle.board.specs.declared.Place.{Place}
 use Rattle.board.specs.Boards.{boards}
 use Rattle.board.specs.Place.{difference, larger, sameNumber, onBoard, inside, closer, tooNear, isStraight}
 use Rattle.tree.specs.Weight.{weightOf, pairOf, byPart, byNumber, comesBefore}
 use Rattle.board.specs.Place.{distanceOf}
-use Rattle.board.specs.Spots.{within, spotsTooNear}
+use Rattle.board.specs.Spots.{spotsFrom, within, spotsTooNear}
 use Rattle.tree.specs.Growth.{pairAt, sooner, keptIf, pinsFrom, without, runsFrom, runsBetween, earliest, earliestOf, nextRun, grown, runsAmong, pinsOf, runsOf}
 use Rattle.tree.specs.Boxes.{belowBoth, under, overlap, boxesShare, isEnd, common, clash}
 use Rattle.tree.specs.Bends.{bent}
@@ -26,8 +27,8 @@ use Rattle.board.specs.Place.{smaller}
 use Rattle.wiring.specs.declared.RunEntry.{RunEntry}
 use Rattle.wiring.specs.declared.Wiring.{Wiring}
 use Rattle.wiring.specs.Choices.{bentShapes, shapesOf, withShape, withShapes, choicesOf, legsOfChoice, lengthOfChoice, shortest, shortestOf, bestChoice, weighedAt, weighedOf}
-use Rattle.wiring.specs.Answer.{runEntry, noRun, mostLegs, shapedRuns, runEntries, legEntries, turnedAway, answerWith, wiringVerdict, wiringWith, wiringFavouring, wiringOf}
-use Rattle.bare.specs.Bare.{spotsOf, feedOfLists, wrongLengths, bareVerdict, bareOf}
+use Rattle.wiring.specs.Answer.{runEntry, noRun, mostLegs, shapedRuns, runEntries, legEntries, turnedAway, answerWith, wiringWith, wiringFavouring, wiringOf}
+use Rattle.bare.specs.Bare.{feedOfLists, wrongLengths, bareOf}
 
 -- Bare wiring of a board: its x and its y, pin by pin, with room for all legs.
 abbrev pub wiringOfBoard : List Place → Wiring
@@ -60,10 +61,10 @@ answers =
 
 -- W1 to W8.
 pub worked : map wiringOfBoard boards ≡ answers
-unfolding bareOf bareVerdict wrongLengths feedOfLists spotsOf within noTwo anyOf spotsTooNear wiringOf wiringFavouring wiringWith wiringVerdict answerWith
+unfolding bareOf wrongLengths feedOfLists spotsFrom valuesFrom within noTwo anyOf spotsTooNear wiringOf wiringFavouring wiringWith answerWith
     turnedAway legEntries runEntries shapedRuns weighedOf sum weighedAt howMany bent bestChoice shortestOf shortest lengthOfChoice legsOfChoice choicesOf withShapes
     withShape shapesOf bentShapes lengthOf different stepsOfAll stepsOf smaller stepsUp stepsAcross sameStep legsOf lowerCorner upperCorner isStraight clash
     common isEnd boxesShare overlap under belowBoth runsOf pinsOf runsAmong grown nextRun earliestOf earliest runsBetween runsFrom without pinsFrom keptIf
-    sooner pairAt eachOf comesBefore byPart byNumber pairOf weightOf distanceOf difference larger sameNumber onBoard inside closer tooNear accepted turn both
+    sooner pairAt eachOf comesBefore byPart byNumber pairOf weightOf distanceOf difference larger sameNumber onBoard inside closer tooNear accepted firstOf both
     either choose
 worked = refl

@@ -1,49 +1,41 @@
 -- Bare wiring: lists of x and y as a feed, and its refusals.
-use mathlib.Core.Bool.{Bool, not}
-use mathlib.Core.List.{List, [], _∷_}
+use mathlib.Core.Bool.{Bool, true, not}
+use mathlib.Core.List.{List, [], _∷_, _++_}
 use Prim.Native.Nat.{ℕ}
-use lib.IntN.{ℤ, pos}
+use lib.IntN.{ℤ}
 use lib.Dec.{eqb, ltb}
-use lib.ListN.{length, getD}
+use lib.ListN.{length, drop, replicate}
 use Rattle.basics.specs.Tests.{either, choose}
-use Rattle.basics.specs.Lists.{padded}
-use Rattle.refusal.specs.Refusals.{accepted, turn}
-use Rattle.refusal.specs.declared.Verdict.{Verdict}
-use Rattle.refusal.specs.declared.Verdict.the-variants.{Accepted, ListLengths, NoPins, Outside, PlaceTaken}
-use Rattle.board.specs.Place.{place}
+use Rattle.refusal.specs.Refusals.{accepted}
+use Rattle.refusal.specs.Rows.{Row, given, firstOf}
+use Rattle.refusal.specs.declared.Verdict.the-variants.{ListLengths, NoPins, Outside, PlaceTaken}
 use Rattle.board.specs.declared.Spot.{Spot}
-use Rattle.board.specs.declared.Spot.the-variants.{Absent, At}
-use Rattle.board.specs.Spots.{mostPins, allWithin, allApart}
+use Rattle.board.specs.Spots.{mostPins, spotsFrom, allWithin, allApart}
 use Rattle.wiring.specs.declared.Laid.{Laid}
-use Rattle.wiring.specs.Answer.{turnedAway, wiringOf}
+use Rattle.wiring.specs.Answer.{turnedAway, wiringOf, feedRows}
 
--- The pins of lists of x and y.
-unfoldable pub spotsOf : List ℤ → List ℤ → List Spot
-spotsOf [] ys = []
-spotsOf (x ∷ xs) [] = []
-spotsOf (x ∷ xs) (y ∷ ys) = At (place x y) ∷ spotsOf xs ys
-
--- The pin at one position of the lists.
-unfoldable pub listedPin : List ℤ → List ℤ → ℕ → Spot
-listedPin xs ys pin = At (place (getD xs pin (pos 0)) (getD ys pin (pos 0)))
-
--- Its pins are numbered by position.
+-- The pins of lists of x and y, numbered by position: one is there for each x.
 unfoldable pub feedOfLists : List ℤ → List ℤ → List Spot
-feedOfLists xs ys = padded mostPins Absent (spotsOf xs ys)
+feedOfLists xs ys = spotsFrom xs ys (replicate (length xs) true)
 
 -- x and y lists differ in length, or exceed 32.
 unfoldable pub wrongLengths : List ℤ → List ℤ → Bool
 wrongLengths xs ys = either (not (eqb (length xs) (length ys))) (ltb mostPins (length xs))
 
--- Bare wiring: 16, 17, 8, 9, before it is wired.
-unfoldable pub bareVerdict : List ℤ → List ℤ → Verdict
-bareVerdict xs ys =
-    turn (wrongLengths xs ys) ListLengths
-    (turn (eqb (length xs) 0) NoPins
-    (turn (not (allWithin (feedOfLists xs ys))) Outside
-    (turn (not (allApart (feedOfLists xs ys))) PlaceTaken Accepted)))
+-- What the lists say: 16, 17, 8, 9.
+abbrev pub listRows : List ℤ → List ℤ → List Row
+listRows xs ys =
+    given (wrongLengths xs ys) ListLengths
+    ∷ given (eqb (length xs) 0) NoPins
+    ∷ given (not (allWithin (feedOfLists xs ys))) Outside
+    ∷ given (not (allApart (feedOfLists xs ys))) PlaceTaken
+    ∷ []
 
--- Bare wiring: then 18, 19, and the answer.
+-- Bare wiring: 16, 17, 8, 9, then what wiring the feed says after its 17: 18, 19.
+abbrev pub bareRows : List ℤ → List ℤ → ℕ → List Row
+bareRows xs ys room = listRows xs ys ++ drop 1 (feedRows (feedOfLists xs ys) room)
+
+-- Bare wiring: what the lists say, or the wiring of their feed.
 unfoldable pub bareOf : List ℤ → List ℤ → ℕ → Laid
 bareOf xs ys room =
-    choose (accepted (bareVerdict xs ys)) (wiringOf (feedOfLists xs ys) room) (turnedAway (bareVerdict xs ys))
+    choose (accepted (firstOf (listRows xs ys))) (wiringOf (feedOfLists xs ys) room) (turnedAway (firstOf (listRows xs ys)))

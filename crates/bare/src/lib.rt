@@ -1,7 +1,6 @@
 // Bare wiring: lists of x and y as a feed, what is turned away, and the wiring of the rest.
 use board::PINS;
-use board::Place;
-use board::Spot;
+use board::spots;
 use copper::Leg;
 use lent::fill;
 use lent::wiring_of;
@@ -9,11 +8,10 @@ use refusal::Verdict;
 use wiring::Laid;
 use wiring::Wiring;
 ghost use mathlib.Core.Path.{_≡_};
-ghost use Prim.Native.Nat.{_≤_, _<_};
+ghost use mathlib.Core.Bool.{false};
 ghost use lib.ListN.{length};
-ghost use Rattle.board.specs.Spots.{mostPins};
 ghost use Rattle.lent.specs.Lent.{filledWith};
-ghost use Rattle.bare.specs.Bare.{listedPin, feedOfLists, wrongLengths, bareOf};
+ghost use Rattle.bare.specs.Bare.{wrongLengths, bareOf};
 
 // Whether x and y lists differ in length, or exceed 32.
 fn wrong_lengths(xs: &[i32], ys: &[i32]) -> bool
@@ -25,30 +23,30 @@ fn wrong_lengths(xs: &[i32], ys: &[i32]) -> bool
     PINS < xs.len()
 }
 
-// The pin at one position of the lists.
-fn listed_pin(xs: &[i32], ys: &[i32], pin: usize) -> Spot
-    requires { ⌜ (pin < length (now xs)) × (pin < length (now ys)) ⌝ }
-    ensures { λ r. ⌜ r ≡ listedPin (now (xs .entry)) (now (ys .entry)) pin ⌝ }
+// Wires lists whose lengths are right and that are not empty, or says why not: 8, 9, 18, 19. Pins are numbered by position.
+fn wire_listed(xs: &[i32], ys: &[i32], room: usize) -> Laid
+    requires { ⌜ (wrongLengths (now xs) (now ys) ≡ false) × (length (now xs) ≡ 0 → ⊥) ⌝ }
+    ensures { λ r. ⌜ r ≡ bareOf (now (xs .entry)) (now (ys .entry)) room ⌝ }
 {
-    let place = Place {
-        x: xs[pin],
-        y: ys[pin],
-    };
-    Spot::At(place)
-}
-
-// The pins of lists of x and y, numbered by position.
-fn feed_of_lists(xs: &[i32], ys: &[i32]) -> [Spot; PINS]
-    requires { ⌜ (length (now xs) ≡ length (now ys)) × (length (now xs) ≤ mostPins) ⌝ }
-    ensures { λ r. ⌜ r ≡ feedOfLists (now (xs .entry)) (now (ys .entry)) ⌝ }
-{
-    let mut feed = [Spot::Absent; PINS];
+    let mut across = [0i32; PINS];
+    let mut up = [0i32; PINS];
+    let mut there = [false; PINS];
     let mut pin = 0;
     while pin < xs.len() {
-        feed[pin] = listed_pin(xs, ys, pin);
+        let x = xs[pin];
+        let y = ys[pin];
+        across[pin] = x;
+        up[pin] = y;
+        there[pin] = true;
         pin += 1;
     }
-    feed
+    if !spots::are_within(&across, &up, &there) {
+        return wiring::refused(Verdict::Outside);
+    }
+    if !spots::are_apart(&across, &up, &there) {
+        return wiring::refused(Verdict::PlaceTaken);
+    }
+    wiring::wire_feed(&across, &up, &there, room)
 }
 
 // Wires lists of x and y with room for so many legs, or says why not: 16, 17, 8, 9, 18, 19.
@@ -61,14 +59,7 @@ pub fn wire_bare(xs: &[i32], ys: &[i32], room: usize) -> Laid
     if xs.len() == 0 {
         return wiring::refused(Verdict::NoPins);
     }
-    let feed = feed_of_lists(xs, ys);
-    if !board::are_within(feed) {
-        return wiring::refused(Verdict::Outside);
-    }
-    if !board::are_apart(feed) {
-        return wiring::refused(Verdict::PlaceTaken);
-    }
-    wiring::wire_feed(feed, room)
+    wire_listed(xs, ys, room)
 }
 
 // Wires lists of x and y, and fills the list that was lent with the legs; or says why not, and leaves the list as it was.

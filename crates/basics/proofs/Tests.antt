@@ -45,6 +45,12 @@ pub both-yes : {a : Bool} (b : Bool) → a ≡ true → both a b ≡ b
 unfolding both
 both-yes b p = rw p
 
+-- What comes second matters only where the first holds.
+pub both-if : (a : Bool) {b c : Bool} → (a ≡ true → b ≡ c) → both a b ≡ both a c
+unfolding both
+both-if true h = h refl
+both-if false h = refl
+
 -- Where not both hold, one of them fails.
 pub both-false : (a b : Bool) → both a b ≡ false → (a ≡ false) ⊎ (b ≡ false)
 unfolding both
@@ -56,6 +62,12 @@ pub both-none : (a : Bool) → both a false ≡ false
 unfolding both
 both-none true = refl
 both-none false = refl
+
+-- with one that holds it is the test itself,
+pub both-true : (a : Bool) → both a true ≡ a
+unfolding both
+both-true true = refl
+both-true false = refl
 
 -- and which comes first does not matter.
 pub both-swap : (a b : Bool) → both a b ≡ both b a

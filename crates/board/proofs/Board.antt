@@ -75,12 +75,12 @@ unfolding samePlace
 place-self a = both-of (number-self (a .x)) (number-self (a .y))
 
 -- A number below zero, negated, is its size.
-size-below : (z : ℤ) → ltZ z (pos 0) ≡ true → pos 0 -ℤ z ≡ pos (natAbs z)
+pub size-below : (z : ℤ) → ltZ z (pos 0) ≡ true → pos 0 -ℤ z ≡ pos (natAbs z)
 size-below (pos n) e = absurd (omega (arith, ltb-true n 0 e))
 size-below (negsuc n) e = ap pos (omega arith)
 
 -- A number that is not below zero is its own size.
-size-above : (z : ℤ) → ltZ z (pos 0) ≡ false → z ≡ pos (natAbs z)
+pub size-above : (z : ℤ) → ltZ z (pos 0) ≡ false → z ≡ pos (natAbs z)
 size-above (pos n) e = refl
 size-above (negsuc n) e = absurd (true≢false e)
 
@@ -93,7 +93,7 @@ pub difference-fits : {a b : ℤ} → SFits w32 a → SFits w32 b → SFits w64 
 difference-fits {a} {b} fa fb = record { sfits = omega (arith, difference-below a b (fa .sfits) (fb .sfits)) }
 
 -- The magnitude of a number, as the library has it, is at most its size.
-size : (z : ℤ) → mag z ≤ natAbs z
+pub size : (z : ℤ) → mag z ≤ natAbs z
 size (pos n) = omega arith
 size (negsuc n) = omega arith
 

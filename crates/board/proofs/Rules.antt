@@ -1,19 +1,15 @@
 -- The rules of a feed: what the tests say of each pin, and which pin can take another's number. Assumes nothing.
-use mathlib.Core.Path.{_≡_, refl, ap, sym, _∙_}
-use mathlib.Core.Bool.{true, false, not}
+use mathlib.Core.Path.{_≡_, refl}
+use mathlib.Core.Bool.{true, false}
 use mathlib.Core.List.{List}
 use Prim.Native.Nat.{ℕ, _<_}
-use borrow.Author.Tests.{not-true}
-use lib.ListN.{length, set}
-use lib.Seq.{getD-set-same, set-set}
+use lib.ListN.{set}
 use Rattle.basics.specs.Tests.{both}
-use Rattle.basics.proofs.Tests.{both-left, both-right, both-of}
 use Rattle.basics.proofs.Anyone.{none-ever, none-set, each-at, two-at, two-set, two-other}
 use Rattle.board.specs.Place.{inside, onBoard}
 use Rattle.board.specs.declared.Spot.{Spot}
 use Rattle.board.specs.declared.Spot.the-variants.{Absent, At}
 use Rattle.board.specs.Spots.{placeOf, spotAt, within, spotsTooNear, tooNearAny, tooNearOther, allWithin, allApart, placeAt}
-use Rattle.board.specs.Settled.{settled}
 use Rattle.board.proofs.Near.{near-turned}
 
 -- ---- pins that are too near
@@ -71,18 +67,3 @@ within-inside (At p) e = e
 -- So the place of every number is on the board.
 pub inside-at : (feed : List Spot) → allWithin feed ≡ true → (p : ℕ) → inside (placeAt feed p) ≡ true
 inside-at feed w p = within-inside (spotAt feed p) (within-at feed p w)
-
--- ---- pins that are settled
-
--- Every pin of a feed that keeps the rules is settled.
-pub all-settled : (feed : List Spot) (p : ℕ) → allWithin feed ≡ true → allApart feed ≡ true → settled feed p ≡ true
-unfolding settled
-all-settled feed p w a = both-of (within-at feed p w) (ap not (apart-at feed p a))
-
--- A pin that is settled where it was put is on the board, and no other is too near to it.
-pub settled-set : (feed : List Spot) (p : ℕ) (s : Spot) → p < length feed → settled (set feed p s) p ≡ true
-    → (within s ≡ true) × (tooNearOther feed p s ≡ false)
-unfolding settled tooNearOther
-settled-set feed p s k e =
-    let t : settled (set feed p s) p ≡ both (within s) (not (tooNearOther feed p s)) = rw (getD-set-same feed p s Absent k, set-set) in
-    (both-left _ _ (sym t ∙ e), not-true _ (both-right _ _ (sym t ∙ e)))

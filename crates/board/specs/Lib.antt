@@ -1,5 +1,4 @@
 -- What the board's words mean.
 pub mod Place
 pub mod Spots
-pub mod Settled
 pub mod Boards

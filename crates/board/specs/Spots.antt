@@ -1,10 +1,11 @@
 -- Feeds: what stands at each pin number, and the rules that the pins keep.
 use mathlib.Core.Bool.{Bool, true, false}
-use mathlib.Core.List.{List, [], _∷_}
+use mathlib.Core.List.{List}
 use Prim.Native.Nat.{ℕ}
-use lib.IntN.{ℤ}
+use lib.IntN.{ℤ, pos}
 use lib.ListN.{getD, set}
 use Rattle.basics.specs.Tests.{choose, anyOf, eachOf, noTwo}
+use Rattle.basics.specs.Lists.{valuesFrom}
 use Rattle.board.specs.declared.Place.{Place}
 use Rattle.board.specs.Place.{place, inside, middle, tooNear}
 use Rattle.board.specs.declared.Spot.{Spot}
@@ -32,16 +33,17 @@ spotAt feed i = getD feed i Absent
 abbrev pub placeAt : List Spot → ℕ → Place
 placeAt feed i = placeOf (spotAt feed i)
 
+-- The place of x and y at a number, told by lists of x and of y.
+abbrev pub placeIn : List ℤ → List ℤ → ℕ → Place
+placeIn xs ys i = place (getD xs i (pos 0)) (getD ys i (pos 0))
+
 -- What stands at a pin's number, told by whether a pin is there, its x and its y.
 abbrev pub spotBy : Bool → ℤ → ℤ → Spot
 spotBy t x y = choose t (At (place x y)) Absent
 
 -- What stands at each pin number, told by lists of x, of y and of whether a pin is there.
 unfoldable pub spotsFrom : List ℤ → List ℤ → List Bool → List Spot
-spotsFrom [] ys ts = []
-spotsFrom (x ∷ xs) [] ts = []
-spotsFrom (x ∷ xs) (y ∷ ys) [] = []
-spotsFrom (x ∷ xs) (y ∷ ys) (t ∷ ts) = spotBy t x y ∷ spotsFrom xs ys ts
+spotsFrom xs ys ts = valuesFrom (λ i. spotBy (getD ts i false) (getD xs i (pos 0)) (getD ys i (pos 0))) 0 mostPins
 
 -- A pin, if it is there, is on the board.
 unfoldable pub within : Spot → Bool

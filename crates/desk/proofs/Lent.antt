@@ -4,6 +4,7 @@ use mathlib.Core.List.{List}
 use Prim.Native.Nat.{ℕ}
 use lib.ListN.{length}
 use Rattle.refusal.specs.Refusals.{accepted}
+use Rattle.refusal.specs.Rows.{firstOf}
 use Rattle.drawing.specs.Pins.{spotsOf}
 use Rattle.copper.specs.declared.Leg.{Leg}
 use Rattle.wiring.specs.Answer.{wiringOf}
@@ -12,15 +13,14 @@ use Rattle.lent.proofs.Fitting.{Fits, fits-either, wiring-fits}
 use Rattle.desk.specs.declared.Desk.{Desk}
 use Rattle.desk.specs.declared.Wired.{Wired}
 use Rattle.desk.specs.declared.WiredSeat.{WiredSeat}
-use Rattle.desk.specs.Refusals.{turnedNaming}
-use Rattle.desk.specs.Desk.{seatOf, lookAt, wiredOf, wiredSeatOf, lentOf}
+use Rattle.desk.specs.Desk.{seatOf, namingAt, wiredOf, wiredSeatOf, lentOf}
 use Rattle.desk.proofs.Sound.{feed-whole}
 
 -- The legs of a seat's wiring are at most 62, and at most the room.
 pub seat-fits : (d : Desk) (s room : ℕ) → Fits room (wiredOf d s room .laid)
 unfolding wiredOf
 seat-fits d s room =
-    let v = turnedNaming (lookAt d s) in
+    let v = firstOf (namingAt d s) in
     fits-either (accepted v) v room (wiringOf (spotsOf (seatOf d s .pins)) room) (λ e. wiring-fits _ room (feed-whole d s e))
 
 module _ (d : Desk) (s : ℕ) (lent : List Leg) {w : Wired} (e : w ≡ wiredOf d s (length lent)) where

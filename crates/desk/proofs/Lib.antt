@@ -1,7 +1,6 @@
 -- The laws of the desk that other crates cite.
 pub mod Sound
 pub mod Found
-mod Back
 mod Steps
 mod Writing
 mod Lent

@@ -1,29 +1,26 @@
 -- What a sound desk says of its parts: each test that `sound` joins, as a fact. Assumes nothing.
-use mathlib.Core.Path.{_≡_, refl, ap, sym, _∙_}
-use mathlib.Core.Bool.{true, false}
+use mathlib.Core.Path.{_≡_, ap, sym, _∙_}
+use mathlib.Core.Bool.{true, false, not}
 use mathlib.Core.List.{_∷_, reverse}
 use Prim.Native.Nat.{ℕ, suc, _+_, _-_, _<_, _≤_}
 use native.Mathlib.Omega.{arith}
-use borrow.Author.Tests.{eqb-true, eqb-false, leb-true, leb-false, not-true, not-false}
+use borrow.Author.Tests.{eqb-true, eqb-false, leb-true, not-true, not-false}
 use lib.ListN.{length, take, drop, getD}
 use lib.Seq.{drop-cons, length-take-le}
 use Rattle.refusal.specs.Refusals.{accepted}
-use Rattle.refusal.proofs.Rows.{NoneHolds}
+use Rattle.refusal.specs.Rows.{firstOf}
+use Rattle.refusal.proofs.Rows.{none-holds}
 use Rattle.basics.proofs.Tests.{both-left, both-right, choose-yes, choose-no}
 use Rattle.board.specs.Spots.{mostPins}
 use Rattle.drawing.specs.Pins.{lawful, spotsOf}
 use Rattle.drawing.proofs.Rules.{feed-long}
-use Rattle.drawing.specs.Edits.{pinOf, makeable, made, takeable, unmade}
-use Rattle.drawing.proofs.Making.{makeable-number, takeable-number}
 use Rattle.journal.proofs.Cut.{stands-more}
 use Rattle.journal.proofs.Own.{own-length}
-use Rattle.journal.proofs.Turns.{turn-first}
 use Rattle.journal.specs.Journal.{mostSeats, mostRecords, noEdit, seated, makeableAll, takeableAll}
 use Rattle.seats.proofs.Tests.{seat-among}
-use Rattle.rows.proofs.Rows.{naming-passed}
+use Rattle.rows.proofs.Rows.{naming-apart, seat-open}
 use Rattle.desk.specs.declared.Desk.{Desk}
-use Rattle.desk.specs.Refusals.{turnedNaming}
-use Rattle.desk.specs.Desk.{seatOf, lookAt, inUse, editsOf, standingOf, takenBackOf, jobsOf, jobsApart, soundOpen, soundClosed, soundSeat, sound}
+use Rattle.desk.specs.Desk.{seatOf, namingAt, inUse, editsOf, standingOf, takenBackOf, jobsOf, jobsApart, soundOpen, soundClosed, soundSeat, sound}
 
 -- A sound desk.
 module _ (d : Desk) (h : sound d ≡ true) where
@@ -108,7 +105,7 @@ module _ (d : Desk) (h : sound d ≡ true) where
     pub standing-small : seatOf d s .standing ≤ mostRecords
     standing-small = omega (arith, standing-within, owned-within s, used-within)
 
-    -- The latest standing edit comes first among those that undo takes back;
+    -- The latest standing edit comes first among those that undo takes back.
     pub latest-first : (seatOf d s .standing ≡ 0 → ⊥)
         → standingOf d s ≡ getD (editsOf d s) (seatOf d s .standing - 1) noEdit ∷ reverse (take (seatOf d s .standing - 1) (editsOf d s))
     latest-first z =
@@ -116,27 +113,13 @@ module _ (d : Desk) (h : sound d ≡ true) where
         let b : seatOf d s .standing - 1 < length (editsOf d s) = omega (arith, standing-within) in
         ap (λ (n : ℕ). reverse (take n (editsOf d s))) w ∙ stands-more (editsOf d s) (seatOf d s .standing - 1) noEdit b
 
-    -- its pin is at most 31.
-    pub undo-numbered : (seatOf d s .standing ≡ 0 → ⊥) → pinOf (getD (editsOf d s) (seatOf d s .standing - 1) noEdit) < mostPins
-    undo-numbered z =
-        takeable-number (seatOf d s .pins) _
-        (turn-first takeable unmade (seatOf d s .pins) _ _ (rw (latest-first z) at standing-takeable))
-
-    -- The next to redo comes first among the taken-back ones;
+    -- The next to redo comes first among the taken-back ones.
     pub next-first : seatOf d s .standing < length (editsOf d s)
         → takenBackOf d s ≡ getD (editsOf d s) (seatOf d s .standing) noEdit ∷ drop (suc (seatOf d s .standing)) (editsOf d s)
     next-first b = drop-cons (editsOf d s) (seatOf d s .standing) noEdit b
 
-    -- its pin is at most 31 too.
-    pub redo-numbered : seatOf d s .standing < length (editsOf d s)
-        → pinOf (getD (editsOf d s) (seatOf d s .standing) noEdit) < mostPins
-    redo-numbered b =
-        makeable-number (seatOf d s .pins) _
-        (turn-first makeable made (seatOf d s .pins) _ _ (rw (next-first b) at taken-back-replayable))
-
 -- Where 28, 1 and 2 pass, the seat's feed has 32 spots.
-pub feed-whole : (d : Desk) (s : ℕ) → accepted (turnedNaming (lookAt d s)) ≡ true → length (spotsOf (seatOf d s .pins)) ≡ mostPins
-unfolding NoneHolds
-feed-whole d s e =
-    let n = naming-passed (lookAt d s) refl e in
-    feed-long _ (pins-lawful d (not-false _ (n .0)) s (leb-false mostSeats s (n .1 .0)) (not-false _ (n .1 .1 .0)))
+pub feed-whole : (d : Desk) (s : ℕ) → accepted (firstOf (namingAt d s)) ≡ true → length (spotsOf (seatOf d s .pins)) ≡ mostPins
+feed-whole d s y =
+    let o = seat-open (not (sound d)) s (seatOf d s .opened) (none-holds (namingAt d s) (naming-apart (not (sound d)) s (seatOf d s .opened)) y) in
+    feed-long _ (pins-lawful d (not-false _ (o .unbroken)) s (o .low) (o .shown))

@@ -1,66 +1,88 @@
 -- What writing a map and wiring a seat hand back: the answer, the number of bytes and the buffer, and the legs. From what is found; assumes nothing.
 use mathlib.Core.Path.{_≡_, refl, ap, _∙_}
 use mathlib.Core.Bool.{Bool, true, false, not, false≢true}
-use mathlib.Core.List.{List, []}
+use mathlib.Core.List.{List, _++_}
 use Prim.Native.Nat.{ℕ}
 use borrow.Author.Tests.{leb-false, not-false}
 use lib.Dec.{leb}
+use lib.ListN.{length}
 use Rattle.basics.specs.Tests.{choose}
-use Rattle.refusal.specs.Refusals.{accepted, turn}
-use Rattle.drawing.specs.Pins.{lawful}
+use Rattle.refusal.specs.Refusals.{accepted}
+use Rattle.refusal.specs.Rows.{Row, firstOf}
+use Rattle.drawing.specs.Pins.{lawful, feedOf}
 use Rattle.pinmap.specs.declared.Writing.{Writing}
+use Rattle.pinmap.specs.Map.{mapOf, roomRows, writeBy, bufferBy}
 use Rattle.wiring.specs.declared.Laid.{Laid}
 use Rattle.journal.specs.Journal.{mostSeats}
 use Rattle.rows.specs.declared.Found.{Found}
-use Rattle.rows.specs.Answers.{mapWritten, bufferWritten, feedWired}
-use Rattle.rows.specs.Found.{lookAtFound}
+use Rattle.rows.specs.Calls.{asking, writing}
+use Rattle.rows.specs.Found.{namingFound, wiredBy}
 use Rattle.desk.specs.declared.Desk.{Desk}
 use Rattle.desk.specs.declared.Written.{Written}
 use Rattle.desk.specs.declared.Wired.{Wired}
-use Rattle.desk.specs.Refusals.{turnedWriting}
-use Rattle.desk.specs.Desk.{closedSeat, seatOf, lookAt, sound, writtenOf, bufferOf, wiredOf}
+use Rattle.desk.specs.Desk.{closedSeat, seatOf, namingAt, rowsAt, mapAt, sound, writtenOf, bufferOf, wiredOf}
 use Rattle.desk.proofs.Sound.{pins-lawful}
 use Rattle.desk.proofs.Found.{foundAt}
+
+-- The map of what is found,
+abbrev mapFound : Found → List ℕ
+mapFound f = mapOf (f .state .job) (f .state .pins)
+
+-- the rows of writing it,
+abbrev rowsFound : Found → List ℕ → List Row
+rowsFound f buffer = namingFound f ++ roomRows (f .state .job) (f .state .pins) (length buffer)
+
+-- what is answered,
+abbrev writeFound : List ℕ → Found → Writing
+writeFound buffer f = writeBy (rowsFound f buffer) (mapFound f)
+
+-- what the buffer holds then,
+abbrev bufferFound : List ℕ → Found → List ℕ
+bufferFound buffer f = bufferBy (rowsFound f buffer) (mapFound f) buffer
+
+-- and how it is wired.
+abbrev wireFound : ℕ → Found → Laid
+wireFound room f = wiredBy (namingFound f) (feedOf (f .state .pins)) room
 
 -- Writing and wiring look at the seat only where neither 28 nor 1 applies.
 module _ (d : Desk) (s : ℕ) where
   -- What is found writes what the seat does,
   written-by : (buffer : List ℕ) (b t : Bool) → not (sound d) ≡ b → leb mostSeats s ≡ t
-      → (mapWritten (lookAtFound (foundAt d s) [] 0) buffer ≡ mapWritten (lookAt d s) buffer)
-      × (bufferWritten (lookAtFound (foundAt d s) [] 0) buffer ≡ bufferWritten (lookAt d s) buffer)
-  unfolding turnedWriting sound accepted turn choose
+      → (writeFound buffer (foundAt d s) ≡ writeBy (rowsAt d (asking s (writing (length buffer)))) (mapAt d s))
+      × (bufferFound buffer (foundAt d s) ≡ bufferBy (rowsAt d (asking s (writing (length buffer)))) (mapAt d s) buffer)
+  unfolding sound accepted firstOf choose
   written-by buffer true t k e = (rw k, rw k)
   written-by buffer false true k e = (rw (k, e), rw (k, e))
   written-by buffer false false k e = (rw (k, e), rw (k, e))
 
   -- and is wired as it is.
   wired-by : (room : ℕ) (b t : Bool) → not (sound d) ≡ b → leb mostSeats s ≡ t
-      → feedWired (lookAtFound (foundAt d s) [] 0) room ≡ feedWired (lookAt d s) room
-  unfolding sound accepted turn choose
+      → wireFound room (foundAt d s) ≡ wiredBy (namingAt d s) (feedOf (seatOf d s .pins)) room
+  unfolding sound accepted firstOf choose
   wired-by room true t k e = rw k
   wired-by room false true k e = rw (k, e)
   wired-by room false false k e = rw (k, e)
 
 module _ (d : Desk) (s : ℕ) {f : Found} (g : f ≡ foundAt d s) where
   -- Wiring: the answer with its legs.
-  pub wire-laid : (room : ℕ) {w : Laid} → w ≡ feedWired (lookAtFound f [] 0) room → _≡_ {A = Wired} (record { desk = d; laid = w }) (wiredOf d s room)
+  pub wire-laid : (room : ℕ) {w : Laid} → w ≡ wireFound room f → _≡_ {A = Wired} (record { desk = d; laid = w }) (wiredOf d s room)
   unfolding wiredOf
   wire-laid room e =
-      let q = e ∙ ap (λ (x : Found). feedWired (lookAtFound x [] 0) room) g ∙ wired-by d s room _ _ refl refl in
+      let q = e ∙ ap (wireFound room) g ∙ wired-by d s room _ _ refl refl in
       λ i. record { desk = d; laid = q i }
 
   -- Writing: the answer and the number of bytes,
-  pub write-done : (b : List ℕ) {w : Writing} → w ≡ mapWritten (lookAtFound f [] 0) b
+  pub write-done : (b : List ℕ) {w : Writing} → w ≡ writeFound b f
       → _≡_ {A = Written} (record { desk = d; verdict = w .verdict; bytes = w .bytes }) (writtenOf d s b)
   unfolding writtenOf
   write-done b e =
-      let q = e ∙ ap (λ (x : Found). mapWritten (lookAtFound x [] 0) b) g ∙ written-by d s b _ _ refl refl .0 in
+      let q = e ∙ ap (writeFound b) g ∙ written-by d s b _ _ refl refl .0 in
       λ i. record { desk = d; verdict = q i .verdict; bytes = q i .bytes }
 
   -- and the buffer.
-  pub write-left : (b : List ℕ) {x : List ℕ} → x ≡ bufferWritten (lookAtFound f [] 0) b → x ≡ bufferOf d s b
+  pub write-left : (b : List ℕ) {x : List ℕ} → x ≡ bufferFound b f → x ≡ bufferOf d s b
   unfolding bufferOf
-  write-left b e = e ∙ ap (λ (q : Found). bufferWritten (lookAtFound q [] 0) b) g ∙ written-by d s b _ _ refl refl .1
+  write-left b e = e ∙ ap (bufferFound b) g ∙ written-by d s b _ _ refl refl .1
 
 -- Above 7 a closed seat is found, else that of the desk, which keeps the rules where it is open.
 lawful-by : (d : Desk) (s : ℕ) (t : Bool) → leb mostSeats s ≡ t → not (sound d) ≡ false → choose t closedSeat (seatOf d s) .opened ≡ true

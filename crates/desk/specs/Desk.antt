@@ -4,26 +4,28 @@ use mathlib.Core.List.{List}
 use Prim.Native.Nat.{ℕ, _+_}
 use lib.ListN.{length, replicate, take, getD, set}
 use Rattle.basics.specs.Tests.{choose}
-use Rattle.refusal.specs.Refusals.{accepted, turn}
+use Rattle.refusal.specs.Refusals.{accepted}
+use Rattle.refusal.specs.Rows.{Row, firstOf}
 use Rattle.refusal.specs.declared.Verdict.{Verdict}
-use Rattle.refusal.specs.declared.Verdict.the-variants.{Accepted, JournalFull}
 use Rattle.drawing.specs.declared.Edit.{Edit}
-use Rattle.drawing.specs.Edits.{placed, moved, removed}
-use Rattle.pinmap.specs.Map.{readMap}
+use Rattle.drawing.specs.Pins.{feedOf}
+use Rattle.drawing.specs.Stated.{editOf}
+use Rattle.pinmap.specs.declared.Writing.{Writing}
+use Rattle.pinmap.specs.Map.{readMap, mapOf, writeBy, bufferBy}
 use Rattle.copper.specs.declared.Leg.{Leg}
 use Rattle.lent.specs.Lent.{filledWith}
 use Rattle.journal.specs.declared.Record.{Record}
 use Rattle.journal.specs.Journal.{mostSeats, mostRecords, blank, own, kept, added, compacted}
 use Rattle.seats.specs.declared.Seat.{Seat}
 use Rattle.seats.specs.Seats.{editedSeat, undoneSeat, redoneSeat, takenBackCount}
-use Rattle.rows.specs.Answers.{mapWritten, bufferWritten, feedWired}
+use Rattle.rows.specs.Calls.{Call, seatIn, opening, closing, making, undoing, redoing, asking, writing}
+use Rattle.rows.specs.Refusals.{Look, namingRows, rowsOf}
+use Rattle.rows.specs.Found.{wiredBy}
 use Rattle.desk.specs.declared.Desk.{Desk}
 use Rattle.desk.specs.declared.Answered.{Answered}
 use Rattle.desk.specs.declared.Written.{Written}
 use Rattle.desk.specs.declared.Wired.{Wired}
 use Rattle.desk.specs.declared.WiredSeat.{WiredSeat}
-use Rattle.desk.specs.Calls.{Call, seatIn, opening, closing, placing, moving, removing, undoing, redoing, writing, wiring}
-use Rattle.desk.specs.Refusals.{Look, full, verdictOf}
 pub use Rattle.seats.specs.Seats.{closedSeat, noSeat, openSeat, withPins, jobsIn, jobsApart}
 pub use Rattle.seats.specs.Sound.{standingAmong, takenBackAmong}
 unfoldable pub use Rattle.seats.specs.Seats.{jobOf}
@@ -103,41 +105,44 @@ edited d s e =
     withRecords d s (editedSeat (seatOf d s) e)
     (added s (seatOf d s .standing) e (inUse d))
 
--- An edit that no refusal before 12 meets: turned away where the journal is full, else made and recorded.
-unfoldable pub entered : Desk → ℕ → Edit → Answered
-entered d s e =
-    record {
-      desk = choose (full (lookAt d s)) d (edited d s e);
-      verdict = turn (full (lookAt d s)) JournalFull Accepted;
-    }
-
 -- What an accepted call makes of the desk.
 unfoldable pub effect : Desk → Call → Desk
 effect d (opening s job map) = withSeat d s (openSeat job (readMap map job .pins))
 effect d (closing s) = withRecords d s closedSeat (kept s 0 (inUse d))
-effect d (placing s p at) = edited d s (placed p at)
-effect d (moving s p at) = edited d s (moved (seatOf d s .pins) p at)
-effect d (removing s p) = edited d s (removed (seatOf d s .pins) p)
+effect d (making s m) = edited d s (editOf (seatOf d s .pins) m)
 effect d (undoing s) = withSeat d s (undoneSeat (seatOf d s) (editsOf d s))
 effect d (redoing s) = withSeat d s (redoneSeat (seatOf d s) (editsOf d s))
-effect d (writing s room) = d
-effect d (wiring s room) = d
+effect d (asking s a) = d
+
+-- 28, 1 and 2 of a seat of a desk.
+abbrev pub namingAt : Desk → ℕ → List Row
+namingAt d s = namingRows (not (sound d)) s (seatOf d s .opened)
+
+-- The rows of a call on a desk.
+abbrev pub rowsAt : Desk → Call → List Row
+rowsAt d c = rowsOf (lookAt d (seatIn c)) c
 
 -- What a call is answered on a desk.
 unfoldable pub answerOf : Desk → Call → Verdict
-answerOf d c = verdictOf (lookAt d (seatIn c)) c
+answerOf d c = firstOf (rowsAt d c)
 
 -- A call: accepted, with what it makes of the desk, or refused with the desk as it was.
 unfoldable pub step : Desk → Call → Answered
 step d c = record { desk = choose (accepted (answerOf d c)) (effect d c) d; verdict = answerOf d c }
 
+-- The map of the drawing at a seat.
+abbrev pub mapAt : Desk → ℕ → List ℕ
+mapAt d s = mapOf (seatOf d s .job) (seatOf d s .pins)
+
 -- Writing: the desk as it is, the answer, and the number of bytes written.
 unfoldable pub writtenOf : Desk → ℕ → List ℕ → Written
-writtenOf d s buffer = record { desk = d; verdict = mapWritten (lookAt d s) buffer .verdict; bytes = mapWritten (lookAt d s) buffer .bytes }
+writtenOf d s buffer =
+    let w : Writing = writeBy (rowsAt d (asking s (writing (length buffer)))) (mapAt d s) in
+    record { desk = d; verdict = w .verdict; bytes = w .bytes }
 
 -- The lent buffer after writing.
 unfoldable pub bufferOf : Desk → ℕ → List ℕ → List ℕ
-bufferOf d s buffer = bufferWritten (lookAt d s) buffer
+bufferOf d s buffer = bufferBy (rowsAt d (asking s (writing (length buffer)))) (mapAt d s) buffer
 
 -- The empty desk: eight closed seats, no record in use.
 unfoldable pub emptyDesk : Desk
@@ -145,7 +150,7 @@ emptyDesk = record { seats = replicate mostSeats closedSeat; journal = replicate
 
 -- Wiring a seat, with room for so many legs: the desk as it is, and the answer with its legs.
 unfoldable pub wiredOf : Desk → ℕ → ℕ → Wired
-wiredOf d s room = record { desk = d; laid = feedWired (lookAt d s) room }
+wiredOf d s room = record { desk = d; laid = wiredBy (namingAt d s) (feedOf (seatOf d s .pins)) room }
 
 -- Wiring into a lent list of legs: its length is the room. The desk as it is, and the answer.
 unfoldable pub wiredSeatOf : Desk → ℕ → List Leg → WiredSeat

@@ -1,4 +1,2 @@
 -- What the desk's words mean.
-pub mod Calls
-pub mod Refusals
 pub mod Desk

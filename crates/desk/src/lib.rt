@@ -2,6 +2,8 @@
 use board::Place;
 use copper::Leg;
 use drawing::Edit;
+use drawing::Held;
+use drawing::stated::Making;
 use journal::RECORDS;
 use journal::Record;
 use journal::SEATS;
@@ -13,12 +15,13 @@ use wiring::Wiring;
 ghost use mathlib.Core.Path.{_≡_};
 ghost use mathlib.Core.Bool.{true};
 ghost use Prim.Native.Nat.{_<_, _≤_};
-ghost use Rattle.board.specs.Spots.{mostPins};
-ghost use Rattle.drawing.specs.Edits.{pinOf};
-ghost use Rattle.journal.specs.Journal.{mostSeats, mostRecords, recorded};
+ghost use lib.ListN.{length};
+ghost use Rattle.drawing.specs.declared.stated.Making.the-variants.{Placing, Moving, Removing};
+ghost use Rattle.drawing.specs.Pins.{holding};
+ghost use Rattle.journal.specs.Journal.{mostSeats, mostRecords, recorded, kept};
+ghost use Rattle.rows.specs.Calls.{opening, closing, making, undoing, redoing};
 ghost use Rattle.rows.specs.Found.{foundIn};
-ghost use Rattle.desk.specs.Calls.{opening, closing, placing, moving, removing, undoing, redoing};
-ghost use Rattle.desk.specs.Desk.{emptyDesk, seatOf, sound, refused, withSeat, withRecord, freed, entered, step, writtenOf, bufferOf, wiredOf, wiredSeatOf, lentOf};
+ghost use Rattle.desk.specs.Desk.{emptyDesk, seatOf, inUse, sound, refused, withSeat, withRecord, freed, edited, step, writtenOf, bufferOf, wiredOf, wiredSeatOf, lentOf};
 
 // A desk: its seats, and the journal that they share, of which the first `used` records are in use.
 pub struct Desk {
@@ -138,21 +141,35 @@ impl Desk {
         }
     }
 
-    // Makes and records an edit of the seat `s` of that number that no refusal before 12 meets, unless the journal is full.
-    fn entered(self, seat: usize, s: Seat, edit: Edit) -> Answered
-        requires { ⌜ (sound self ≡ true) × (seat < mostSeats) × (s ≡ seatOf self seat) × (seatOf self seat .opened ≡ true) × (pinOf edit < mostPins) ⌝ }
-        ensures { λ r. ⌜ r ≡ entered self seat edit ⌝ }
+    // Makes and records an edit of the seat `s` of that number, where there is room: the taken-back records of the seat are freed first.
+    fn edited(self, seat: usize, s: Seat, edit: Edit) -> Desk
+        requires { ⌜ (sound self ≡ true) × (seat < mostSeats) × (s ≡ seatOf self seat) × (seatOf self seat .opened ≡ true) × (length (kept seat (s .standing) (inUse self)) < mostRecords) ⌝ }
+        ensures { λ r. ⌜ r ≡ edited self seat edit ⌝ }
     {
         let left = self.freed(seat, s.standing);
-        if RECORDS <= left.used {
-            return self.refused(Verdict::JournalFull);
-        }
         let following = left.recorded(seat, edit);
         let t = seats::edited(s, edit);
-        let edited = following.with_seat(seat, t);
-        Answered {
-            desk: edited,
-            verdict: Verdict::Accepted,
+        following.with_seat(seat, t)
+    }
+
+    // Makes the edit that a call states on the drawing at `seat`, or says why not.
+    fn make(self, seat: usize, stated: Making) -> Answered
+        ensures { λ r. ⌜ r ≡ step self (making seat stated) ⌝ }
+    {
+        let found = self.find(seat);
+        let records = self.journal;
+        let verdict = rows::turned_making(found, stated, records, self.used);
+        if refusal::is_accepted(verdict) {
+            let s = found.state;
+            let pins = s.pins;
+            let edit = drawing::stated::edit_of(pins, stated);
+            let edited = self.edited(seat, s, edit);
+            Answered {
+                desk: edited,
+                verdict,
+            }
+        } else {
+            self.refused(verdict)
         }
     }
 }
@@ -201,49 +218,23 @@ impl Desk {
 
     // Places a pin of the drawing at `seat`, or says why not.
     pub fn place(self, seat: usize, pin: usize, at: Place) -> Answered
-        ensures { λ r. ⌜ r ≡ step self (placing seat pin at) ⌝ }
+        ensures { λ r. ⌜ r ≡ step self (making seat (Placing pin (holding at))) ⌝ }
     {
-        let found = self.find(seat);
-        let verdict = rows::turned_placing(found, pin, at);
-        if refusal::is_accepted(verdict) {
-            let s = found.state;
-            let edit = drawing::edit_placing(pin, at);
-            self.entered(seat, s, edit)
-        } else {
-            self.refused(verdict)
-        }
+        self.make(seat, Making::Placing(pin, Held { place: at }))
     }
 
     // Moves a pin of the drawing at `seat`, or says why not. (`move` is a word of the language.)
     pub fn shift(self, seat: usize, pin: usize, to: Place) -> Answered
-        ensures { λ r. ⌜ r ≡ step self (moving seat pin to) ⌝ }
+        ensures { λ r. ⌜ r ≡ step self (making seat (Moving pin to)) ⌝ }
     {
-        let found = self.find(seat);
-        let verdict = rows::turned_moving(found, pin, to);
-        if refusal::is_accepted(verdict) {
-            let s = found.state;
-            let pins = s.pins;
-            let edit = drawing::edit_moving(pins, pin, to);
-            self.entered(seat, s, edit)
-        } else {
-            self.refused(verdict)
-        }
+        self.make(seat, Making::Moving(pin, to))
     }
 
     // Removes a pin of the drawing at `seat`, or says why not.
     pub fn remove(self, seat: usize, pin: usize) -> Answered
-        ensures { λ r. ⌜ r ≡ step self (removing seat pin) ⌝ }
+        ensures { λ r. ⌜ r ≡ step self (making seat (Removing pin)) ⌝ }
     {
-        let found = self.find(seat);
-        let verdict = rows::turned_removing(found, pin);
-        if refusal::is_accepted(verdict) {
-            let s = found.state;
-            let pins = s.pins;
-            let edit = drawing::edit_removing(pins, pin);
-            self.entered(seat, s, edit)
-        } else {
-            self.refused(verdict)
-        }
+        self.make(seat, Making::Removing(pin))
     }
 
     // Takes back the latest standing edit of the drawing at `seat`, or says why not. No other drawing changes.

@@ -1,5 +1,7 @@
--- The laws of drawings that other crates cite.
+-- The laws of drawings that other crates cite, and worked cases.
 pub mod Rules
 pub mod Making
-mod Tests
+pub mod Changing
+pub mod Told
+pub mod Stepping
 mod Worked

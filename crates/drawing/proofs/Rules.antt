@@ -1,23 +1,25 @@
 -- Pins that are the same, the feed of a drawing, and the rules that it keeps with one pin changed. From the rules of a feed; assumes nothing.
 use mathlib.Core.Path.{_≡_, refl, ap, _∙_}
-use mathlib.Core.Bool.{Bool, true, false}
+use mathlib.Core.Bool.{true, false, not}
 use mathlib.Core.List.{List, [], _∷_, map}
 use Prim.Native.Nat.{ℕ, zero, suc, _<_}
 use native.Mathlib.Omega.{arith}
-use borrow.Author.Tests.{eqb-true, eq-eqb}
+use borrow.Author.Tests.{eqb-true, eq-eqb, not-true}
 use lib.ListN.{length, getD, set, length-set, length-map, List·getD-map}
-use Rattle.basics.proofs.Tests.{both-left, both-right, both-of, both-yes}
+use lib.Seq.{getD-set-same, set-set}
+use Rattle.basics.proofs.Tests.{both-left, both-right, both-of, same-test}
 use Rattle.basics.proofs.Anyone.{each-set}
-use Rattle.basics.specs.Tests.{both}
 use Rattle.board.proofs.Board.{place-same, place-self}
 use Rattle.board.specs.Spots.{mostPins, spotAt, within, tooNearOther, allWithin, allApart}
-use Rattle.board.specs.Settled.{settled}
-use Rattle.board.proofs.Rules.{apart-set, all-settled, settled-set}
+use Rattle.board.specs.declared.Spot.{Spot}
+use Rattle.board.specs.declared.Spot.the-variants as spot
+use Rattle.board.proofs.Rules.{apart-set, apart-at, within-at}
 use Rattle.drawing.specs.declared.Held.{Held}
 use Rattle.drawing.specs.declared.Stand.{Stand}
 use Rattle.drawing.specs.declared.Stand.the-variants.{Absent, There}
 use Rattle.drawing.specs.declared.Pin.{Pin}
 use Rattle.drawing.specs.Pins.{absent, sameHeld, sameIn, samePin, samePins, lawful, spotOf, spotsOf}
+use Rattle.drawing.specs.Changes.{fits}
 
 -- ---- pins that are the same
 
@@ -62,19 +64,6 @@ pub pins-self : (l : List Pin) → samePins l l ≡ true
 unfolding samePins
 pins-self [] = refl
 pins-self (q ∷ l) = both-of (pin-self q) (pins-self l)
-
--- A test joined with one that holds is that test.
-both-true : (t : Bool) → both t true ≡ t
-unfolding both
-both-true true = refl
-both-true false = refl
-
--- A drawing with one pin changed is the same just where that pin is.
-pub one-changed : (l : List Pin) (p : ℕ) (q : Pin) → p < length l → samePins (set l p q) l ≡ samePin q (getD l p absent)
-unfolding samePins
-one-changed [] p q h = absurd (omega arith)
-one-changed (r ∷ l) zero q h = ap (both (samePin q r)) (pins-self l) ∙ both-true (samePin q r)
-one-changed (r ∷ l) (suc p) q h = both-yes _ (pin-self r) ∙ one-changed l p q (omega arith)
 
 -- ---- the feed of a drawing
 
@@ -134,15 +123,19 @@ lawful-set l p q e w m =
       apart = rw (feed-set l p q) (apart-set (spotOf q) (spotsOf l) p (h .apart) m);
     })
 
--- Every pin of a drawing is settled,
-pub lawful-settled : (l : List Pin) (p : ℕ) → lawful l ≡ true → settled (spotsOf l) p ≡ true
-lawful-settled l p e = let h : Lawful l = lawful-parts l e in all-settled (spotsOf l) p (h .board) (h .apart)
+-- A pin that was put among others, all of which keep the rules with it, fits among them.
+put-fits : (feed : List Spot) (p : ℕ) (s : Spot) → p < length feed → allWithin (set feed p s) ≡ true → allApart (set feed p s) ≡ true → fits feed p s ≡ true
+unfolding fits tooNearOther
+put-fits feed p s k w a =
+    let g = getD-set-same feed p s spot.Absent k in
+    both-of (rw g at (within-at (set feed p s) p w)) (ap not (rw (g, set-set) at (apart-at (set feed p s) p a)))
 
--- and a change to a settled pin keeps the rules.
-pub settled-lawful : (l : List Pin) (p : ℕ) (q : Pin) → lawful l ≡ true → p < mostPins → settled (spotsOf (set l p q)) p ≡ true
-    → lawful (set l p q) ≡ true
-settled-lawful l p q e n s =
-    let f = feed-long l e in
-    let k : p < length (spotsOf l) = omega arith in
-    let w = settled-set (spotsOf l) p (spotOf q) k (rw (feed-set l p q) at s) in
-    lawful-set l p q e (w .0) (w .1)
+-- With pin p of a drawing changed, the drawing keeps the rules just where that pin fits.
+pub lawful-change : (l : List Pin) (p : ℕ) (q : Pin) → lawful l ≡ true → p < mostPins → lawful (set l p q) ≡ fits (spotsOf l) p (spotOf q)
+unfolding fits
+lawful-change l p q e n =
+    same-test (lawful (set l p q)) (fits (spotsOf l) p (spotOf q))
+    (λ t.
+    let h : Lawful (set l p q) = lawful-parts (set l p q) t in
+    put-fits (spotsOf l) p (spotOf q) (omega (arith, feed-long l e)) (rw (feed-set l p q) at (h .board)) (rw (feed-set l p q) at (h .apart)))
+    (λ t. lawful-set l p q e (both-left _ _ t) (not-true _ (both-right _ _ t)))

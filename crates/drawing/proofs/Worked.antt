@@ -3,13 +3,14 @@ use mathlib.Core.Path.{_≡_, refl}
 use mathlib.Core.Bool.{true, false}
 use mathlib.Core.List.{List, [], _∷_, map}
 use lib.IntN.{pos, negsuc}
-use Rattle.basics.specs.Tests.{both, either, anyOf, eachOf, noTwo}
+use Rattle.basics.specs.Tests.{both, either, choose, anyOf, eachOf, noTwo}
+use Rattle.basics.specs.Lists.{numbered}
 use Rattle.board.specs.Place.{place, onBoard, inside, difference, closer, tooNear, sameNumber, samePlace}
 use Rattle.drawing.specs.declared.Pin.{Pin}
 use Rattle.drawing.specs.declared.Edit.the-variants.{Placed, Moved, Removed}
 use Rattle.board.specs.Spots.{spotsTooNear, crowded, within, tooNearOther}
 use Rattle.drawing.specs.Pins.{holding, isThere, sameHeld, samePin, samePins, lawful, spotOf, spotsOf, noPins}
-use Rattle.drawing.specs.Edits.{movedPin, made, unmade, standsAt, fits, placeable, movable, makeable, takeable}
+use Rattle.drawing.specs.Edits.{movedPin, pinMade, pinUnmade, made, unmade, standsAt, foundAs, allFound, proper, makeable, takeable}
 
 -- A drawing with pin 0 at (1,1).
 abbrev one : List Pin
@@ -18,26 +19,26 @@ one = made noPins (Placed 0 (holding (place (pos 1) (pos 1))))
 -- Both drawings keep the rules; a pin outside the board, or two at one place, break them.
 rules : map lawful (noPins ∷ one ∷ made noPins (Placed 3 (holding (place (pos 20001) (pos 0)))) ∷ made one (Placed 1 (holding (place (pos 1) (pos 1)))) ∷ [])
     ≡ true ∷ true ∷ false ∷ false ∷ []
-unfolding both either onBoard inside difference closer tooNear sameNumber samePlace isThere sameHeld samePin samePins spotsTooNear tooNearOther crowded within spotOf spotsOf lawful movedPin made unmade standsAt fits placeable movable makeable takeable anyOf eachOf noTwo
+unfolding both either onBoard inside difference closer tooNear sameNumber samePlace isThere sameHeld samePin samePins spotsTooNear tooNearOther crowded within spotOf spotsOf lawful movedPin pinMade pinUnmade made unmade standsAt foundAs allFound proper makeable takeable choose numbered anyOf eachOf noTwo
 rules = refl
 
 -- Placing: at the board's end; beyond it; a pin above 31; a pin that is there; a place that is taken; the place beside it.
 placing : map (makeable one) (Placed 1 (holding (place (negsuc 19999) (pos 20000))) ∷ Placed 1 (holding (place (pos 0) (pos 20001))) ∷ Placed 32 (holding (place (pos 0) (pos 0)))
     ∷ Placed 0 (holding (place (pos 5) (pos 5))) ∷ Placed 1 (holding (place (pos 1) (pos 1))) ∷ Placed 1 (holding (place (pos 1) (pos 2))) ∷ [])
     ≡ true ∷ false ∷ false ∷ false ∷ false ∷ true ∷ []
-unfolding both either onBoard inside difference closer tooNear sameNumber samePlace isThere sameHeld samePin samePins spotsTooNear tooNearOther crowded within spotOf spotsOf lawful movedPin made unmade standsAt fits placeable movable makeable takeable anyOf eachOf noTwo
+unfolding both either onBoard inside difference closer tooNear sameNumber samePlace isThere sameHeld samePin samePins spotsTooNear tooNearOther crowded within spotOf spotsOf lawful movedPin pinMade pinUnmade made unmade standsAt foundAs allFound proper makeable takeable choose numbered anyOf eachOf noTwo
 placing = refl
 
 -- Moving: away; to its own place; from where it does not stand. Removing: with what it holds; with another place.
 moving : map (makeable one) (Moved 0 (place (pos 1) (pos 1)) (place (pos 1) (pos 2)) ∷ Moved 0 (place (pos 1) (pos 1)) (place (pos 1) (pos 1))
     ∷ Moved 0 (place (pos 2) (pos 1)) (place (pos 3) (pos 3)) ∷ Removed 0 (holding (place (pos 1) (pos 1))) ∷ Removed 0 (holding (place (pos 2) (pos 1))) ∷ [])
     ≡ true ∷ false ∷ false ∷ true ∷ false ∷ []
-unfolding both either onBoard inside difference closer tooNear sameNumber samePlace isThere sameHeld samePin samePins spotsTooNear tooNearOther crowded within spotOf spotsOf lawful movedPin made unmade standsAt fits placeable movable makeable takeable anyOf eachOf noTwo
+unfolding both either onBoard inside difference closer tooNear sameNumber samePlace isThere sameHeld samePin samePins spotsTooNear tooNearOther crowded within spotOf spotsOf lawful movedPin pinMade pinUnmade made unmade standsAt foundAs allFound proper makeable takeable choose numbered anyOf eachOf noTwo
 moving = refl
 
 -- Taking back: the placing of pin 0; a placing elsewhere; a move from another place; from outside the board; a removal of pin 1; one from where pin 0 stands.
 taking : map (takeable one) (Placed 0 (holding (place (pos 1) (pos 1))) ∷ Placed 0 (holding (place (pos 2) (pos 1))) ∷ Moved 0 (place (pos 2) (pos 1)) (place (pos 1) (pos 1))
     ∷ Moved 0 (place (pos 20001) (pos 1)) (place (pos 1) (pos 1)) ∷ Removed 1 (holding (place (pos 2) (pos 1))) ∷ Removed 1 (holding (place (pos 1) (pos 1))) ∷ [])
     ≡ true ∷ false ∷ true ∷ false ∷ true ∷ false ∷ []
-unfolding both either onBoard inside difference closer tooNear sameNumber samePlace isThere sameHeld samePin samePins spotsTooNear tooNearOther crowded within spotOf spotsOf lawful movedPin made unmade standsAt fits placeable movable makeable takeable anyOf eachOf noTwo
+unfolding both either onBoard inside difference closer tooNear sameNumber samePlace isThere sameHeld samePin samePins spotsTooNear tooNearOther crowded within spotOf spotsOf lawful movedPin pinMade pinUnmade made unmade standsAt foundAs allFound proper makeable takeable choose numbered anyOf eachOf noTwo
 taking = refl

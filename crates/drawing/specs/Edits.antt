@@ -1,48 +1,54 @@
--- Edits: what one makes of the pins, what taking it back makes of them, and when one could have been made.
-use mathlib.Core.Bool.{Bool, false, not}
+-- Edits: what one makes of each pin, what taking it back makes of it, and when one could have been made.
+use mathlib.Core.Bool.{Bool, true, false, not}
 use mathlib.Core.List.{List}
 use Prim.Native.Nat.{ℕ}
-use lib.Dec.{ltb}
-use lib.ListN.{getD, set}
-use Rattle.basics.specs.Tests.{both}
+use lib.Dec.{eqb, ltb}
+use lib.ListN.{getD}
+use Rattle.basics.specs.Tests.{both, choose, eachOf}
+use Rattle.basics.specs.Lists.{numbered}
 use Rattle.board.specs.declared.Place.{Place}
-use Rattle.board.specs.Place.{inside, samePlace, middle}
+use Rattle.board.specs.Place.{samePlace, middle}
+use Rattle.board.specs.Spots.{mostPins}
 use Rattle.drawing.specs.declared.Held.{Held}
 use Rattle.drawing.specs.declared.Stand.{Stand}
 use Rattle.drawing.specs.declared.Stand.the-variants.{Absent, There}
 use Rattle.drawing.specs.declared.Pin.{Pin}
 use Rattle.drawing.specs.declared.Edit.{Edit}
 use Rattle.drawing.specs.declared.Edit.the-variants.{Placed, Moved, Removed}
-use Rattle.board.specs.declared.Spot.{Spot}
-use Rattle.board.specs.Spots.{mostPins, crowded}
-use Rattle.drawing.specs.Pins.{absent, there, holding, isThere, samePin, samePins, spotsOf, lawful}
+use Rattle.drawing.specs.Pins.{absent, there, holding, isThere, samePin, samePins, lawful}
 
--- The number of the pin that an edit names.
-abbrev pub pinOf : Edit → ℕ
-pinOf (Placed p h) = p
-pinOf (Moved p a b) = p
-pinOf (Removed p h) = p
+-- What a pin holds, at another place: a move keeps the rest.
+abbrev pub heldAt : Held → Place → Held
+heldAt h to = record { place = to }
 
--- What stands at a pin, moved to a place, which is all that a pin holds; where it is absent it stays so.
+-- What stands at a pin, moved to a place; where it is absent it stays so.
 abbrev pub movedIn : Stand → Place → Pin
 movedIn Absent to = absent
-movedIn (There h) to = there (holding to)
+movedIn (There h) to = there (heldAt h to)
 
 -- The pin, moved to a place.
 unfoldable pub movedPin : Pin → Place → Pin
 movedPin q to = movedIn (q .stand) to
 
+-- What pin n holds with an edit made, where it held q.
+unfoldable pub pinMade : Edit → ℕ → Pin → Pin
+pinMade (Placed p h) n q = choose (eqb n p) (there h) q
+pinMade (Moved p a b) n q = choose (eqb n p) (movedPin q b) q
+pinMade (Removed p h) n q = choose (eqb n p) absent q
+
+-- What pin n holds with an edit taken back, where it held q.
+unfoldable pub pinUnmade : Edit → ℕ → Pin → Pin
+pinUnmade (Placed p h) n q = choose (eqb n p) absent q
+pinUnmade (Moved p a b) n q = choose (eqb n p) (movedPin q a) q
+pinUnmade (Removed p h) n q = choose (eqb n p) (there h) q
+
 -- The pins with an edit made.
 unfoldable pub made : List Pin → Edit → List Pin
-made l (Placed p h) = set l p (there h)
-made l (Moved p a b) = set l p (movedPin (getD l p absent) b)
-made l (Removed p h) = set l p absent
+made l e = numbered (pinMade e) 0 l
 
 -- The pins with an edit taken back.
 unfoldable pub unmade : List Pin → Edit → List Pin
-unmade l (Placed p h) = set l p absent
-unmade l (Moved p a b) = set l p (movedPin (getD l p absent) a)
-unmade l (Removed p h) = set l p (there h)
+unmade l e = numbered (pinUnmade e) 0 l
 
 -- A pin stands at that place.
 abbrev pub standsIn : Stand → Place → Bool
@@ -53,23 +59,25 @@ standsIn (There h) at = samePlace (h .place) at
 unfoldable pub standsAt : Pin → Place → Bool
 standsAt q at = standsIn (q .stand) at
 
--- Pin p could stand at that place: it is on the board, and no other pin is too near.
-unfoldable pub fits : List Spot → ℕ → Place → Bool
-fits feed p at = both (inside at) (not (crowded feed p at))
+-- Pin n, holding q, is as the edit finds it: to be placed it is absent, to be moved it stands where the move begins, to be removed it holds what the edit says.
+unfoldable pub foundAs : Edit → ℕ → Pin → Bool
+foundAs (Placed p h) n q = choose (eqb n p) (not (isThere q)) true
+foundAs (Moved p a b) n q = choose (eqb n p) (standsAt q a) true
+foundAs (Removed p h) n q = choose (eqb n p) (samePin q (there h)) true
 
--- A pin that is not there can be placed, as pin p of a feed, where it fits.
-unfoldable pub placeable : Pin → List Spot → ℕ → Held → Bool
-placeable q feed p h = both (not (isThere q)) (fits feed p (h .place))
+-- Every pin is as the edit finds it.
+unfoldable pub allFound : List Pin → Edit → Bool
+allFound l e = eachOf (λ t. t) (numbered (foundAs e) 0 l)
 
--- A pin, pin p of a feed, can be moved from where it stands to another place where it fits.
-unfoldable pub movable : Pin → List Spot → ℕ → Place → Place → Bool
-movable q feed p a b = both (standsAt q a) (both (not (samePlace a b)) (fits feed p b))
+-- An edit names a pin from 0 to 31, and a move goes to another place.
+unfoldable pub proper : Edit → Bool
+proper (Placed p h) = ltb p mostPins
+proper (Moved p a b) = both (ltb p mostPins) (not (samePlace a b))
+proper (Removed p h) = ltb p mostPins
 
--- An edit can be made on these pins.
+-- An edit can be made on these pins: it is a proper one, finds every pin as it says, and leaves pins that keep the rules.
 unfoldable pub makeable : List Pin → Edit → Bool
-makeable l (Placed p h) = both (ltb p mostPins) (placeable (getD l p absent) (spotsOf l) p h)
-makeable l (Moved p a b) = both (ltb p mostPins) (movable (getD l p absent) (spotsOf l) p a b)
-makeable l (Removed p h) = both (ltb p mostPins) (samePin (getD l p absent) (there h))
+makeable l e = both (proper e) (both (allFound l e) (lawful (made l e)))
 
 -- An edit that stands on these pins could have been made: with it taken back the pins keep the rules, the edit can be made there, and
 -- making it gives these pins.
@@ -84,15 +92,3 @@ heldIn (There h) = h
 -- What a pin holds, an absent one as if it stood in the middle of the board.
 unfoldable pub heldBy : Pin → Held
 heldBy q = heldIn (q .stand)
-
--- The edit that places a pin at a place.
-abbrev pub placed : ℕ → Place → Edit
-placed p at = Placed p (holding at)
-
--- The edit that moves a pin from where it stands.
-abbrev pub moved : List Pin → ℕ → Place → Edit
-moved l p at = Moved p (heldBy (getD l p absent) .place) at
-
--- The edit that removes a pin, with what it holds.
-abbrev pub removed : List Pin → ℕ → Edit
-removed l p = Removed p (heldBy (getD l p absent))

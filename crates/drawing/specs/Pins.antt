@@ -2,7 +2,8 @@
 use mathlib.Core.Bool.{Bool, true, false}
 use mathlib.Core.List.{List, [], _∷_, map}
 use lib.Dec.{eqb}
-use lib.ListN.{length, replicate}
+use Prim.Native.Nat.{ℕ}
+use lib.ListN.{length, replicate, getD}
 use Rattle.basics.specs.Tests.{both}
 use Rattle.board.specs.declared.Place.{Place}
 use Rattle.board.specs.declared.Spot.{Spot}
@@ -17,6 +18,10 @@ use Rattle.board.specs.Spots.{mostPins, allWithin, allApart}
 -- A pin that is absent holds nothing else.
 abbrev pub absent : Pin
 absent = record { stand = Absent }
+
+-- What a drawing has at a pin number; above 31, an absent pin.
+abbrev pub pinAt : List Pin → ℕ → Pin
+pinAt l p = getD l p absent
 
 -- A drawing without pins.
 abbrev pub noPins : List Pin

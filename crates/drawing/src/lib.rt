@@ -1,13 +1,15 @@
 // Drawings: the pins of one, what stands at each pin number, the rules that they keep, and the edits that are made on them and taken back.
+pub mod stated;
+
 use board::PINS;
 use board::Place;
-use board::Spot;
+use board::spots;
 ghost use mathlib.Core.Path.{_≡_};
-ghost use mathlib.Core.Bool.{true};
-ghost use Prim.Native.Nat.{_<_};
-ghost use Rattle.board.specs.Spots.{mostPins, crowded};
-ghost use Rattle.drawing.specs.Pins.{absent, there, isThere, sameHeld, samePin, spotOf, spotsOf, lawful, noPins};
-ghost use Rattle.drawing.specs.Edits.{pinOf, movedPin, standsAt, fits, placeable, movable, makeable, made, unmade, takeable, heldBy, placed, moved, removed};
+ghost use Rattle.board.specs.declared.Spot.the-variants.{At};
+ghost use Rattle.board.specs.Spots.{crowded, spotsFrom};
+ghost use Rattle.drawing.specs.Pins.{absent, there, isThere, sameHeld, samePin, spotOf, spotsOf, lawful, noPins, pinAt};
+ghost use Rattle.drawing.specs.Edits.{heldAt, movedPin, standsAt, heldBy, pinMade, pinUnmade, made, unmade, foundAs, proper};
+ghost use Rattle.drawing.specs.Changes.{pinOf, listsOf, fits, makeableAt, leftBy, takeableAt};
 
 // What a pin holds: its place.
 pub struct Held {
@@ -32,10 +34,11 @@ pub enum Edit {
     Removed(usize, Held),
 }
 
-// The pins with an edit taken back, and whether it could have been made on them.
-pub struct TakenBack {
-    pub able: bool,
-    pub pins: [Pin; PINS],
+// What stands at each pin number of a drawing, told by lists of x, of y and of whether a pin is there.
+pub struct SpotLists {
+    pub xs: [i32; PINS],
+    pub ys: [i32; PINS],
+    pub there: [bool; PINS],
 }
 
 // A pin that is absent.
@@ -102,153 +105,71 @@ fn same_pin(a: Pin, b: Pin) -> bool
     }
 }
 
-// What stands at the number of this pin.
-fn spot_of(pin: Pin) -> Spot
-    ensures { λ r. ⌜ r ≡ spotOf pin ⌝ }
+// What a pin holds; as if it stood in the middle of the board where it is not there.
+fn held_by(pin: Pin) -> Held
+    ensures { λ r. ⌜ r ≡ heldBy pin ⌝ }
 {
     let s = pin.stand;
     match s {
-        Stand::Absent => Spot::Absent,
-        Stand::There(h) => {
-            let p = h.place;
-            Spot::At(p)
-        }
+        Stand::Absent => Held {
+            place: board::middle(),
+        },
+        Stand::There(h) => h,
     }
 }
 
-// What stands at each pin number of a drawing.
-pub fn spots_of(pins: [Pin; PINS]) -> [Spot; PINS]
-    ensures { λ r. ⌜ r ≡ spotsOf pins ⌝ }
+// Where a pin stands; the middle of the board where it is not there.
+pub fn place_of(pin: Pin) -> Place
+    ensures { λ r. ⌜ r ≡ heldBy pin .place ⌝ }
 {
-    let mut spots = [Spot::Absent; PINS];
-    let mut i = 0;
-    while i < PINS {
-        let q = pins[i];
-        spots[i] = spot_of(q);
-        i += 1;
+    let h = held_by(pin);
+    h.place
+}
+
+// What stands at each pin number of a drawing, as lists.
+pub fn lists_of(pins: [Pin; PINS]) -> SpotLists
+    ensures { λ r. ⌜ r ≡ listsOf pins ⌝ }
+{
+    let mut xs = [0i32; PINS];
+    let mut ys = [0i32; PINS];
+    let mut there = [false; PINS];
+    let mut number = 0;
+    while number < PINS {
+        let q = pins[number];
+        let p = place_of(q);
+        let x = p.x;
+        let y = p.y;
+        xs[number] = x;
+        ys[number] = y;
+        there[number] = is_there(q);
+        number += 1;
     }
-    spots
+    SpotLists { xs, ys, there }
 }
 
 // Whether the pins keep the rules of a drawing.
 pub fn keep_rules(pins: [Pin; PINS]) -> bool
     ensures { λ r. ⌜ r ≡ lawful pins ⌝ }
 {
-    let spots = spots_of(pins);
-    if !board::are_within(spots) {
+    let lists = lists_of(pins);
+    let xs = lists.xs;
+    let ys = lists.ys;
+    let there = lists.there;
+    if !spots::are_within(&xs, &ys, &there) {
         return false;
     }
-    board::are_apart(spots)
+    spots::are_apart(&xs, &ys, &there)
 }
 
 // Whether a pin other than `pin` stands too near to a place.
 pub fn is_crowded(pins: [Pin; PINS], pin: usize, at: Place) -> bool
-    requires { ⌜ pin < mostPins ⌝ }
     ensures { λ r. ⌜ r ≡ crowded (spotsOf pins) pin at ⌝ }
 {
-    let spots = spots_of(pins);
-    board::is_crowded(spots, pin, at)
-}
-
-// The number of the pin that an edit names.
-fn pin_of(edit: Edit) -> usize
-    ensures { λ r. ⌜ r ≡ pinOf edit ⌝ }
-{
-    match edit {
-        Edit::Placed(pin, held) => pin,
-        Edit::Moved(pin, from, to) => pin,
-        Edit::Removed(pin, held) => pin,
-    }
-}
-
-// The pin with another place, where it is there.
-fn moved_pin(pin: Pin, to: Place) -> Pin
-    ensures { λ r. ⌜ r ≡ movedPin pin to ⌝ }
-{
-    let s = pin.stand;
-    match s {
-        Stand::Absent => absent_pin(),
-        Stand::There(h) => pin_with(Held { place: to }),
-    }
-}
-
-// The pins with an edit made.
-pub fn make(pins: [Pin; PINS], edit: Edit) -> [Pin; PINS]
-    requires { ⌜ pinOf edit < mostPins ⌝ }
-    ensures { λ r. ⌜ r ≡ made pins edit ⌝ }
-{
-    let mut next = pins;
-    match edit {
-        Edit::Placed(pin, held) => {
-            next[pin] = pin_with(held);
-        }
-        Edit::Moved(pin, from, to) => {
-            let q = next[pin];
-            next[pin] = moved_pin(q, to);
-        }
-        Edit::Removed(pin, held) => {
-            next[pin] = absent_pin();
-        }
-    }
-    next
-}
-
-// The pins with an edit taken back.
-pub fn take_back(pins: [Pin; PINS], edit: Edit) -> [Pin; PINS]
-    requires { ⌜ pinOf edit < mostPins ⌝ }
-    ensures { λ r. ⌜ r ≡ unmade pins edit ⌝ }
-{
-    let mut next = pins;
-    match edit {
-        Edit::Placed(pin, held) => {
-            next[pin] = absent_pin();
-        }
-        Edit::Moved(pin, from, to) => {
-            let q = next[pin];
-            next[pin] = moved_pin(q, from);
-        }
-        Edit::Removed(pin, held) => {
-            next[pin] = pin_with(held);
-        }
-    }
-    next
-}
-
-// Whether a pin of this number could stand at a place: it is on the board, and no other pin is too near.
-fn can_stand(spots: [Spot; PINS], number: usize, at: Place) -> bool
-    requires { ⌜ number < mostPins ⌝ }
-    ensures { λ r. ⌜ r ≡ fits spots number at ⌝ }
-{
-    if !board::is_inside(at) {
-        return false;
-    }
-    !board::is_crowded(spots, number, at)
-}
-
-// Whether a pin of this number could be placed among these spots.
-fn can_place(pin: Pin, spots: [Spot; PINS], number: usize, held: Held) -> bool
-    requires { ⌜ number < mostPins ⌝ }
-    ensures { λ r. ⌜ r ≡ placeable pin spots number held ⌝ }
-{
-    if is_there(pin) {
-        return false;
-    }
-    let at = held.place;
-    can_stand(spots, number, at)
-}
-
-// Whether a pin of this number could be moved among these spots.
-fn can_move(pin: Pin, spots: [Spot; PINS], number: usize, from: Place, to: Place) -> bool
-    requires { ⌜ number < mostPins ⌝ }
-    ensures { λ r. ⌜ r ≡ movable pin spots number from to ⌝ }
-{
-    if !stands_at(pin, from) {
-        return false;
-    }
-    if board::same_place(from, to) {
-        return false;
-    }
-    can_stand(spots, number, to)
+    let lists = lists_of(pins);
+    let xs = lists.xs;
+    let ys = lists.ys;
+    let there = lists.there;
+    spots::is_crowded(&xs, &ys, &there, pin, at)
 }
 
 // Whether a pin is there at a place.
@@ -265,100 +186,212 @@ pub fn stands_at(pin: Pin, at: Place) -> bool
     }
 }
 
-// Whether an edit could be made on these pins, with what stands at each number at hand.
-fn can_be_made(pins: [Pin; PINS], spots: [Spot; PINS], edit: Edit) -> bool
-    requires { ⌜ spots ≡ spotsOf pins ⌝ }
-    ensures { λ r. ⌜ r ≡ makeable pins edit ⌝ }
+// What a pin holds, at another place.
+fn held_at(held: Held, to: Place) -> Held
+    ensures { λ r. ⌜ r ≡ heldAt held to ⌝ }
 {
-    let number = pin_of(edit);
-    if PINS <= number {
-        return false;
-    }
-    let q = pins[number];
-    match edit {
-        Edit::Placed(pin, held) => can_place(q, spots, number, held),
-        Edit::Moved(pin, from, to) => can_move(q, spots, number, from, to),
-        Edit::Removed(pin, held) => same_pin(q, pin_with(held)),
-    }
+    let mut h = held;
+    h.place = to;
+    h
 }
 
-// Whether an edit could be made on these pins.
-pub fn can_make(pins: [Pin; PINS], edit: Edit) -> bool
-    ensures { λ r. ⌜ r ≡ makeable pins edit ⌝ }
-{
-    let spots = spots_of(pins);
-    can_be_made(pins, spots, edit)
-}
-
-// Whether an edit that stands on these pins could have been made on those before it. Since the pins keep the rules, of those before only the one that the edit names is judged.
-fn could_have_been_made(pins: [Pin; PINS], before: [Pin; PINS], edit: Edit) -> bool
-    requires { ⌜ (lawful pins ≡ true) × (before ≡ unmade pins edit) × (pinOf edit < mostPins) ⌝ }
-    ensures { λ r. ⌜ r ≡ takeable pins edit ⌝ }
-{
-    let number = pin_of(edit);
-    let spots = spots_of(before);
-    if !can_be_made(before, spots, edit) {
-        return false;
-    }
-    if !board::is_settled(spots, number) {
-        return false;
-    }
-    let after = make(before, edit);
-    let remade = after[number];
-    let pin = pins[number];
-    same_pin(remade, pin)
-}
-
-// The pins with an edit taken back, from pins that keep the rules, and whether it could have been made there.
-pub fn taken_back(pins: [Pin; PINS], edit: Edit) -> TakenBack
-    requires { ⌜ lawful pins ≡ true ⌝ }
-    ensures { λ r. ⌜ (r .able ≡ takeable pins edit) × (r .pins ≡ unmade pins edit) ⌝ }
-{
-    if PINS <= pin_of(edit) {
-        return TakenBack { able: false, pins };
-    }
-    let before = take_back(pins, edit);
-    let able = could_have_been_made(pins, before, edit);
-    TakenBack { able, pins: before }
-}
-
-// What a pin holds; as if it stood in the middle of the board where it is not there.
-fn held_by(pin: Pin) -> Held
-    ensures { λ r. ⌜ r ≡ heldBy pin ⌝ }
+// The pin at another place, where it is there.
+fn moved_pin(pin: Pin, to: Place) -> Pin
+    ensures { λ r. ⌜ r ≡ movedPin pin to ⌝ }
 {
     let s = pin.stand;
     match s {
-        Stand::Absent => Held {
-            place: board::middle(),
-        },
-        Stand::There(h) => h,
+        Stand::Absent => absent_pin(),
+        Stand::There(h) => pin_with(held_at(h, to)),
     }
 }
 
-// The edit that places a pin.
-pub fn edit_placing(pin: usize, at: Place) -> Edit
-    ensures { λ r. ⌜ r ≡ placed pin at ⌝ }
+// The number of the pin that an edit names.
+pub fn pin_of(edit: Edit) -> usize
+    ensures { λ r. ⌜ r ≡ pinOf edit ⌝ }
 {
-    Edit::Placed(pin, Held { place: at })
+    match edit {
+        Edit::Placed(number, held) => number,
+        Edit::Moved(number, from, to) => number,
+        Edit::Removed(number, held) => number,
+    }
 }
 
-// The edit that moves a pin from where it stands.
-pub fn edit_moving(pins: [Pin; PINS], pin: usize, to: Place) -> Edit
-    requires { ⌜ pin < mostPins ⌝ }
-    ensures { λ r. ⌜ r ≡ moved pins pin to ⌝ }
+// The pin that an edit names, with the edit made.
+pub fn pin_made(edit: Edit, pin: Pin) -> Pin
+    ensures { λ r. ⌜ r ≡ pinMade edit (pinOf edit) pin ⌝ }
 {
-    let q = pins[pin];
-    let h = held_by(q);
-    let from = h.place;
-    Edit::Moved(pin, from, to)
+    match edit {
+        Edit::Placed(number, held) => pin_with(held),
+        Edit::Moved(number, from, to) => moved_pin(pin, to),
+        Edit::Removed(number, held) => absent_pin(),
+    }
 }
 
-// The edit that removes a pin, with what it holds.
-pub fn edit_removing(pins: [Pin; PINS], pin: usize) -> Edit
-    requires { ⌜ pin < mostPins ⌝ }
-    ensures { λ r. ⌜ r ≡ removed pins pin ⌝ }
+// The pin that an edit names, with the edit taken back.
+pub fn pin_unmade(edit: Edit, pin: Pin) -> Pin
+    ensures { λ r. ⌜ r ≡ pinUnmade edit (pinOf edit) pin ⌝ }
 {
+    match edit {
+        Edit::Placed(number, held) => absent_pin(),
+        Edit::Moved(number, from, to) => moved_pin(pin, from),
+        Edit::Removed(number, held) => pin_with(held),
+    }
+}
+
+// The pins with an edit made.
+pub fn make(pins: [Pin; PINS], edit: Edit) -> [Pin; PINS]
+    ensures { λ r. ⌜ r ≡ made pins edit ⌝ }
+{
+    let number = pin_of(edit);
+    let mut next = pins;
+    if PINS <= number {
+        return next;
+    }
+    let q = next[number];
+    next[number] = pin_made(edit, q);
+    next
+}
+
+// The pins with an edit taken back.
+pub fn take_back(pins: [Pin; PINS], edit: Edit) -> [Pin; PINS]
+    ensures { λ r. ⌜ r ≡ unmade pins edit ⌝ }
+{
+    let number = pin_of(edit);
+    let mut former = pins;
+    if PINS <= number {
+        return former;
+    }
+    let q = former[number];
+    former[number] = pin_unmade(edit, q);
+    former
+}
+
+// Whether an edit names a pin up to 31, and a move goes to another place.
+fn is_proper(edit: Edit) -> bool
+    ensures { λ r. ⌜ r ≡ proper edit ⌝ }
+{
+    match edit {
+        Edit::Placed(number, held) => number < PINS,
+        Edit::Moved(number, from, to) => number < PINS && !board::same_place(from, to),
+        Edit::Removed(number, held) => number < PINS,
+    }
+}
+
+// Whether the pin that an edit names is as the edit finds it.
+fn is_found(edit: Edit, pin: Pin) -> bool
+    ensures { λ r. ⌜ r ≡ foundAs edit (pinOf edit) pin ⌝ }
+{
+    match edit {
+        Edit::Placed(number, held) => !is_there(pin),
+        Edit::Moved(number, from, to) => stands_at(pin, from),
+        Edit::Removed(number, held) => same_pin(pin, pin_with(held)),
+    }
+}
+
+// Whether a pin of this number could stand at a place: it is on the board, and no other pin is too near.
+fn can_stand(
+    xs: &[i32; PINS],
+    ys: &[i32; PINS],
+    there: &[bool; PINS],
+    number: usize,
+    at: Place,
+) -> bool
+    ensures { λ r. ⌜ r ≡ fits (spotsFrom (now (xs .entry)) (now (ys .entry)) (now (there .entry))) number (At at) ⌝ }
+{
+    if !board::is_inside(at) {
+        return false;
+    }
+    !spots::is_crowded(xs, ys, there, number, at)
+}
+
+// Whether a pin fits among the others as the one of this number: it is absent, or could stand where it does.
+fn does_fit(
+    xs: &[i32; PINS],
+    ys: &[i32; PINS],
+    there: &[bool; PINS],
+    number: usize,
+    pin: Pin,
+) -> bool
+    ensures { λ r. ⌜ r ≡ fits (spotsFrom (now (xs .entry)) (now (ys .entry)) (now (there .entry))) number (spotOf pin) ⌝ }
+{
+    let s = pin.stand;
+    match s {
+        Stand::Absent => true,
+        Stand::There(h) => {
+            let at = h.place;
+            can_stand(xs, ys, there, number, at)
+        }
+    }
+}
+
+// Whether an edit can be made on pins that keep the rules, of which it names `pin`.
+pub fn can_make(
+    xs: &[i32; PINS],
+    ys: &[i32; PINS],
+    there: &[bool; PINS],
+    edit: Edit,
+    pin: Pin,
+) -> bool
+    ensures { λ r. ⌜ r ≡ makeableAt edit pin (spotsFrom (now (xs .entry)) (now (ys .entry)) (now (there .entry))) ⌝ }
+{
+    if !is_proper(edit) {
+        return false;
+    }
+    if !is_found(edit, pin) {
+        return false;
+    }
+    let number = pin_of(edit);
+    let next = pin_made(edit, pin);
+    does_fit(xs, ys, there, number, next)
+}
+
+// Whether an edit could have been made of `former`, the pin that it names, so that it left `pin`, on pins that keep the rules.
+fn could_have_made(
+    xs: &[i32; PINS],
+    ys: &[i32; PINS],
+    there: &[bool; PINS],
+    edit: Edit,
+    former: Pin,
+    pin: Pin,
+) -> bool
+    ensures { λ r. ⌜ r ≡ leftBy edit former pin (spotsFrom (now (xs .entry)) (now (ys .entry)) (now (there .entry))) ⌝ }
+{
+    if !is_proper(edit) {
+        return false;
+    }
+    if !is_found(edit, former) {
+        return false;
+    }
+    let next = pin_made(edit, former);
+    if !same_pin(next, pin) {
+        return false;
+    }
+    let number = pin_of(edit);
+    does_fit(xs, ys, there, number, former)
+}
+
+// Whether an edit that stands on pins that keep the rules, of which it names `pin`, could have been made.
+pub fn can_take_back(
+    xs: &[i32; PINS],
+    ys: &[i32; PINS],
+    there: &[bool; PINS],
+    edit: Edit,
+    pin: Pin,
+) -> bool
+    ensures { λ r. ⌜ r ≡ takeableAt edit pin (spotsFrom (now (xs .entry)) (now (ys .entry)) (now (there .entry))) ⌝ }
+{
+    let former = pin_unmade(edit, pin);
+    could_have_made(xs, ys, there, edit, former, pin)
+}
+
+// What a drawing has at a pin number; above 31, a pin that is absent.
+pub fn pin_at(pins: [Pin; PINS], pin: usize) -> Pin
+    ensures { λ r. ⌜ r ≡ pinAt pins pin ⌝ }
+{
+    if PINS <= pin {
+        return absent_pin();
+    }
     let q = pins[pin];
-    let h = held_by(q);
-    Edit::Removed(pin, h)
+    q
 }

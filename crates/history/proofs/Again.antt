@@ -9,7 +9,8 @@ use borrow.Author.Tests.{not-false, ne-eqb, lt-leb}
 use lib.ListN.{length, getD, set}
 use lib.Seq.{getD-set-same, set-set, set-getD}
 use Rattle.basics.specs.Tests.{choose}
-use Rattle.refusal.specs.Refusals.{accepted, turn}
+use Rattle.refusal.specs.Refusals.{accepted}
+use Rattle.refusal.specs.Rows.{firstOf}
 use Rattle.refusal.specs.declared.Verdict.the-variants.{Accepted}
 use Rattle.drawing.specs.declared.Pin.{Pin}
 use Rattle.drawing.specs.declared.Edit.{Edit}
@@ -19,23 +20,23 @@ use Rattle.journal.specs.Journal.{mostSeats, noEdit}
 use Rattle.journal.proofs.Turns.{turn-first}
 use Rattle.seats.specs.declared.Seat.{Seat}
 use Rattle.desk.specs.declared.Desk.{Desk}
-use Rattle.desk.specs.Calls.{Call, undoing, redoing}
-use Rattle.desk.specs.Refusals.{Look, turnedUndoing, turnedRedoing, verdictOf}
+use Rattle.rows.specs.Calls.{Call, undoing, redoing}
+use Rattle.rows.specs.Refusals.{Look, rowsOf}
+use Rattle.rows.proofs.Passed.{Passes, passes}
 use Rattle.desk.specs.Desk.{noSeat, seatOf, editsOf, withSeat, withPins, sound, lookAt, effect, answerOf, step}
 use Rattle.desk.proofs.Sound.{eight-seats, standing-within, standing-takeable, taken-back-replayable, latest-first, next-first}
-use Rattle.history.proofs.Passed.{undoes, redoes}
 use Rattle.history.proofs.Untouched.{accepted-takes-effect}
 use Rattle.history.proofs.Sounding.{sound-step}
 
 -- Undo is accepted where no row applies,
-undo-accepted : (l : Look) → l .broken ≡ false → l .seat < mostSeats → l .opened ≡ true → (l .standing ≡ 0 → ⊥) → turnedUndoing l ≡ Accepted
-unfolding turnedUndoing turn choose
-undo-accepted l a b c n = rw (a, lt-leb mostSeats (l .seat) b, c, ne-eqb _ _ n)
+undo-accepted : (l : Look) (s : ℕ) → l .broken ≡ false → l .seat < mostSeats → l .opened ≡ true → (l .standing ≡ 0 → ⊥) → firstOf (rowsOf l (undoing s)) ≡ Accepted
+unfolding firstOf choose
+undo-accepted l s a b c n = rw (a, lt-leb mostSeats (l .seat) b, c, ne-eqb _ _ n)
 
 -- and redo.
-redo-accepted : (l : Look) → l .broken ≡ false → l .seat < mostSeats → l .opened ≡ true → (l .takenBack ≡ 0 → ⊥) → turnedRedoing l ≡ Accepted
-unfolding turnedRedoing turn choose
-redo-accepted l a b c n = rw (a, lt-leb mostSeats (l .seat) b, c, ne-eqb _ _ n)
+redo-accepted : (l : Look) (s : ℕ) → l .broken ≡ false → l .seat < mostSeats → l .opened ≡ true → (l .takenBack ≡ 0 → ⊥) → firstOf (rowsOf l (redoing s)) ≡ Accepted
+unfolding firstOf choose
+redo-accepted l s a b c n = rw (a, lt-leb mostSeats (l .seat) b, c, ne-eqb _ _ n)
 
 -- A step that is accepted.
 step-is : (d : Desk) (c : Call) → answerOf d c ≡ Accepted → step d c ≡ record { desk = effect d c; verdict = Accepted }
@@ -82,20 +83,20 @@ module _ (d : Desk) (s : ℕ) (h : sound d ≡ true) (k : s < mostSeats) (o : se
     redo-here : r .opened ≡ true → (length (editsOf d s) - r .standing ≡ 0 → ⊥)
         → withPins r (made (r .pins) (getD (editsOf d s) (r .standing) noEdit)) (r .standing + 1) ≡ seatOf d s
         → step (withSeat d s r) (redoing s) ≡ record { desk = d; verdict = Accepted }
-    unfolding answerOf verdictOf effect
+    unfolding answerOf effect
     redo-here p n e =
         step-is (withSeat d s r) (redoing s)
-        (redo-accepted (lookAt (withSeat d s r) s) (ap not g) k (rw here p) (rw here n))
+        (redo-accepted (lookAt (withSeat d s r) s) s (ap not g) k (rw here p) (rw here n))
         ∙ ap (λ (x : Desk). record { desk = x; verdict = Accepted }) (rw here (desk-back d s r _ e))
 
     -- So does undo, where taking the latest edit back does.
     undo-here : r .opened ≡ true → (r .standing ≡ 0 → ⊥)
         → withPins r (unmade (r .pins) (getD (editsOf d s) (r .standing - 1) noEdit)) (r .standing - 1) ≡ seatOf d s
         → step (withSeat d s r) (undoing s) ≡ record { desk = d; verdict = Accepted }
-    unfolding answerOf verdictOf effect
+    unfolding answerOf effect
     undo-here p n e =
         step-is (withSeat d s r) (undoing s)
-        (undo-accepted (lookAt (withSeat d s r) s) (ap not g) k (rw here p) (rw here n))
+        (undo-accepted (lookAt (withSeat d s r) s) s (ap not g) k (rw here p) (rw here n))
         ∙ ap (λ (x : Desk). record { desk = x; verdict = Accepted }) (rw here (desk-back d s r _ e))
 
   -- An undo, and the redo after it.
@@ -119,9 +120,9 @@ module _ (d : Desk) (s : ℕ) (h : sound d ≡ true) (k : s < mostSeats) (o : se
 -- After an accepted undo, redo is accepted and gives the very desk before: the same drawing, the same journal.
 pub redo-after-undo : (d : Desk) (s : ℕ) → accepted (step d (undoing s) .verdict) ≡ true
     → step (step d (undoing s) .desk) (redoing s) ≡ record { desk = d; verdict = Accepted }
-unfolding step answerOf verdictOf
+unfolding step answerOf Passes
 redo-after-undo d s z =
-    let m = undoes (lookAt d s) z in
+    let m = passes (lookAt d s) (undoing s) z in
     let h : sound d ≡ true = not-false _ (m .0 .unbroken) in
     let e : step d (undoing s) .desk ≡ effect d (undoing s) = accepted-takes-effect d (undoing s) z in
     rw e (redo-undone d s h (m .0 .low) (m .0 .shown) (m .1) (rw e at (sound-step d h (undoing s))))
@@ -129,9 +130,9 @@ redo-after-undo d s z =
 -- After an accepted redo, undo is accepted and gives the very desk before.
 pub undo-after-redo : (d : Desk) (s : ℕ) → accepted (step d (redoing s) .verdict) ≡ true
     → step (step d (redoing s) .desk) (undoing s) ≡ record { desk = d; verdict = Accepted }
-unfolding step answerOf verdictOf
+unfolding step answerOf Passes
 undo-after-redo d s z =
-    let m = redoes (lookAt d s) z in
+    let m = passes (lookAt d s) (redoing s) z in
     let h : sound d ≡ true = not-false _ (m .0 .unbroken) in
     let n : length (editsOf d s) - seatOf d s .standing ≡ 0 → ⊥ = m .1 in
     let e : step d (redoing s) .desk ≡ effect d (redoing s) = accepted-takes-effect d (redoing s) z in

@@ -1,18 +1,17 @@
 -- DEMAND 3: after any calls from the empty desk the desk is sound and is as the history of the calls says, seat by seat; and every call is
 -- answered as the history answers it. From Sane, Simulation and Steps; assumes nothing.
 use mathlib.Core.Path.{_≡_, refl}
-use mathlib.Core.Bool.{true}
 use mathlib.Core.List.{List, [], _∷_}
-use Prim.Native.Nat.{ℕ, _<_}
 use native.Mathlib.Omega.{arith}
 use lib.ListN.{length-replicate, getD-replicate}
 use Rattle.basics.specs.Tests.{eachOf}
 use Rattle.journal.specs.Journal.{mostSeats, mostRecords, blank, own}
 use Rattle.basics.specs.Sums.{sum}
 use Rattle.desk.specs.declared.Desk.{Desk}
-use Rattle.desk.specs.Calls.{Call}
-use Rattle.desk.specs.Desk.{closedSeat, noSeat, seatOf, editsOf, standingOf, takenBackOf, sound, step, emptyDesk}
-use Rattle.history.specs.History.{Past, closed, isOpen, jobIn, pinsIn, standingIn, takenBackIn, pastOf, usedIn, pastAfter, nothing, history, after, answers, answersIn}
+use Rattle.rows.specs.Calls.{Call}
+use Rattle.desk.specs.Desk.{closedSeat, noSeat, seatOf, editsOf, step, emptyDesk}
+use Rattle.history.specs.History.{Past, closed, pastOf, pastAfter, nothing, history, after, answers, answersIn}
+use Rattle.history.specs.AsPast.{DeskAsPast}
 use Rattle.history.proofs.Sane.{Sane, sane-after, sane-nothing, sane-history}
 use Rattle.history.proofs.Simulation.{At, Agrees, used-same, shown-open, shown-job, shown-pins, shown-standing, shown-takenBack}
 use Rattle.history.proofs.Steps.{agrees-sound, step-answer, step-agrees}
@@ -46,20 +45,6 @@ unfolding answers answersIn
 answers-after [] d h g f = refl
 answers-after (c ∷ calls) d h g f =
     rw (step-answer d h g f c, answers-after calls (step d c .desk) (pastAfter h c) (step-agrees d h g f c) (sane-after h f c))
-
--- A seat is as its past: open exactly where that is, then with its job and its pins; the standing and the taken-back edits are its own.
-pub record AsPast (d : Desk) (s : ℕ) (t : Past) : Type 0 where
-  pub opened : seatOf d s .opened ≡ isOpen t
-  pub job : isOpen t ≡ true → seatOf d s .job ≡ jobIn t
-  pub pins : isOpen t ≡ true → seatOf d s .pins ≡ pinsIn t
-  pub standing : standingOf d s ≡ standingIn t
-  pub takenBack : takenBackOf d s ≡ takenBackIn t
-
--- A desk is as a history says: sound, every seat as its past, the used count the sum over the seats of standing and taken-back edits.
-pub record DeskAsPast (d : Desk) (h : List Past) : Type 0 where
-  pub unbroken : sound d ≡ true
-  pub used : d .used ≡ usedIn h
-  pub seat : (s : ℕ) → s < mostSeats → AsPast d s (pastOf h s)
 
 -- A desk that agrees with a sane history is as that history says.
 pub seats-as-past : (d : Desk) (h : List Past) → Agrees d h → Sane h → DeskAsPast d h

@@ -9,7 +9,7 @@ use lib.ListN.{set}
 use Rattle.basics.specs.Tests.{both}
 use Rattle.basics.proofs.Anyone.{none-ever, none-set, two-set}
 use Rattle.basics.proofs.Tests.{both-none}
-use Rattle.desk.specs.Refusals.{sameJob, jobAmong}
+use Rattle.seats.specs.Seats.{sameJob, jobAmong}
 use Rattle.desk.specs.Desk.{jobsApart}
 
 -- By whether the two jobs are one.

@@ -1,5 +1,4 @@
 -- The theorems about any calls: from the empty desk, from any sound desk, and on any desk.
-mod Passed
 mod Jobs
 mod Stood
 mod Sane
@@ -10,7 +9,9 @@ pub mod Untouched
 pub mod Opened
 pub mod Sounding
 pub mod Again
-pub mod Ascending
 pub mod Refused
 pub mod Wired
 pub mod Maps
+pub mod Leaving
+pub mod Best
+pub mod Standing

@@ -1,38 +1,38 @@
 -- Maps across desks: a map written from a seat opens under its job, at any seat of any desk that can take it, with the same pins; a map that was opened,
 -- written before any accepted edit or closing of its seat, gives the same bytes. From the round trip of pin maps, Passed and Opened; assumes nothing.
 use mathlib.Core.Path.{_≡_, ap, _∙_}
-use mathlib.Core.Bool.{true}
+use mathlib.Core.Bool.{true, not}
 use mathlib.Core.List.{List, _++_}
 use Prim.Native.Nat.{ℕ, _<_}
 use native.Mathlib.Omega.{arith}
 use borrow.Author.Tests.{not-false, leb-false}
-use lib.ListN.{length, take, drop}
+use lib.ListN.{length, drop}
 use lib.Seq.{getD-set-same, take-append-seam, drop-append-seam}
 use Rattle.basics.specs.Tests.{choose}
-use Rattle.refusal.specs.Refusals.{accepted, turn}
+use Rattle.refusal.specs.Refusals.{accepted}
+use Rattle.refusal.specs.Rows.{Row, NoneHolds}
 use Rattle.refusal.specs.declared.Verdict.the-variants.{Accepted}
 use Rattle.basics.proofs.Tests.{choose-yes}
-use Rattle.refusal.proofs.Rows.{NoneHolds}
+use Rattle.refusal.proofs.Rows.{none-first}
 use Rattle.drawing.specs.declared.Pin.{Pin}
-use Rattle.pinmap.specs.Map.{readAs, readMap, mapOf, written}
+use Rattle.pinmap.specs.declared.Reading.{Reading}
+use Rattle.pinmap.specs.Map.{mapRows, readMap, mapOf, written}
+use Rattle.pinmap.proofs.Judging.{readAs}
 use Rattle.pinmap.proofs.Records.{Bytes}
 use Rattle.pinmap.proofs.RoundTrip.{map-opens, same-bytes}
 use Rattle.journal.specs.Journal.{mostSeats}
 use Rattle.seats.specs.declared.Seat.{Seat}
-use Rattle.rows.proofs.Rows.{takingRows}
+use Rattle.rows.specs.Calls.{Call, opening, asking, writing}
+use Rattle.rows.specs.Refusals.{takingRows}
+use Rattle.rows.proofs.Passed.{Passes, passes}
 use Rattle.desk.specs.declared.Desk.{Desk}
 use Rattle.desk.specs.declared.Answered.{Answered}
-use Rattle.desk.specs.Calls.{Call, opening}
-use Rattle.desk.specs.Refusals.{turnedOpening, verdictOf}
-use Rattle.desk.specs.Desk.{noSeat, seatOf, openSeat, withSeat, sound, lookAt, effect, answerOf, step, emptyDesk, writtenOf, bufferOf}
+use Rattle.desk.specs.Desk.{noSeat, seatOf, jobsOf, openSeat, withSeat, sound, lookAt, effect, answerOf, step, emptyDesk, writtenOf, bufferOf}
 use Rattle.desk.proofs.Sound.{eight-seats, pins-lawful}
 use Rattle.history.specs.History.{after}
-use Rattle.history.proofs.Passed.{writes}
-use Rattle.history.proofs.Opened.{NoneAt, isEditOrClosing, JobsFit, job-fits, opened-map-read, opened-seat, opened-without-edits, same-until-edit}
-
--- The bytes that writing a seat wrote: so many of the lent buffer.
-abbrev pub bytesFrom : Desk → ℕ → List ℕ → List ℕ
-bytesFrom d s buffer = take (writtenOf d s buffer .bytes) (bufferOf d s buffer)
+use Rattle.history.specs.Until.{NoneAt, isEditOrClosing}
+use Rattle.history.specs.Leaving.{bytesFrom, JobsFit}
+use Rattle.history.proofs.Opened.{job-fits, opened-map-read, opened-seat, opened-without-edits, same-until-edit}
 
 module _ (d : Desk) (s : ℕ) (buffer : List ℕ) (z : accepted (writtenOf d s buffer .verdict) ≡ true) where
   -- An accepted writing says how long the seat's map is,
@@ -55,14 +55,23 @@ module _ (d : Desk) (s : ℕ) (buffer : List ℕ) (z : accepted (writtenOf d s b
 
 -- ---- written, then opened
 
--- A map whose reading is known opens where the desk can take it.
-opens-as : (e : Desk) (t job : ℕ) (map : List ℕ) (l : List Pin) → readMap map job ≡ readAs l → NoneHolds (takingRows (lookAt e t) job)
+-- 28, 1, 3, 4 and 5 on a desk: where none of them holds, the desk can take the job at that seat.
+abbrev pub takingAt : Desk → ℕ → ℕ → List Row
+takingAt e t job = takingRows (not (sound e)) t (seatOf e t .opened) job (jobsOf e)
+
+-- A map whose reading is known is accepted where the desk can take it,
+opens-so : (e : Desk) (t job : ℕ) (map : List ℕ) (l : List Pin) → readMap map job ≡ readAs l → NoneHolds (takingAt e t job) → answerOf e (opening t job map) ≡ Accepted
+unfolding answerOf readMap
+opens-so e t job map l r n = none-first (takingAt e t job) (mapRows map job) n ∙ ap (λ (x : Reading). x .verdict) r
+
+-- and opens there.
+opens-as : (e : Desk) (t job : ℕ) (map : List ℕ) (l : List Pin) → readMap map job ≡ readAs l → NoneHolds (takingAt e t job)
     → step e (opening t job map) ≡ record { desk = withSeat e t (openSeat job l); verdict = Accepted }
-unfolding step answerOf verdictOf turnedOpening effect NoneHolds turn choose accepted
-opens-as e t job map l r n = rw (r, n .0, n .1 .0, n .1 .1 .0, n .1 .1 .1 .0, n .1 .1 .1 .1 .0)
+unfolding step effect choose accepted
+opens-as e t job map l r n = rw (opens-so e t job map l r n, r)
 
 -- A desk that can take it has that seat.
-taking-low : (e : Desk) (t job : ℕ) → NoneHolds (takingRows (lookAt e t) job) → t < length (e .seats)
+taking-low : (e : Desk) (t job : ℕ) → NoneHolds (takingAt e t job) → t < length (e .seats)
 unfolding NoneHolds
 taking-low e t job n =
     let h : sound e ≡ true = not-false _ (n .0) in
@@ -71,7 +80,7 @@ taking-low e t job n =
 
 -- The map of an open seat of a sound desk opens under its job at any seat of any desk that can take it (28, 1, 3, 4 and 5 do not apply), with the same pins.
 pub map-of-a-seat-opens : (d e : Desk) (s t : ℕ) → sound d ≡ true → s < mostSeats → seatOf d s .opened ≡ true → seatOf d s .job < 65536
-    → NoneHolds (takingRows (lookAt e t) (seatOf d s .job))
+    → NoneHolds (takingAt e t (seatOf d s .job))
     → step e (opening t (seatOf d s .job) (mapOf (seatOf d s .job) (seatOf d s .pins)))
     ≡ record { desk = withSeat e t (openSeat (seatOf d s .job) (seatOf d s .pins)); verdict = Accepted }
 map-of-a-seat-opens d e s t h k o j n =
@@ -79,13 +88,13 @@ map-of-a-seat-opens d e s t h k o j n =
     (map-opens (seatOf d s .job) (seatOf d s .pins) j (pins-lawful d h s k o)) n
 
 module _ (d e : Desk) (s t : ℕ) (buffer : List ℕ) (z : accepted (writtenOf d s buffer .verdict) ≡ true) (j : seatOf d s .job < 65536)
-    (n : NoneHolds (takingRows (lookAt e t) (seatOf d s .job))) where
+    (n : NoneHolds (takingAt e t (seatOf d s .job))) where
   -- The bytes that an accepted writing wrote open under the seat's job at any seat of any desk that can take it,
   pub written-map-opens : step e (opening t (seatOf d s .job) (bytesFrom d s buffer))
       ≡ record { desk = withSeat e t (openSeat (seatOf d s .job) (seatOf d s .pins)); verdict = Accepted }
-  unfolding writtenOf answerOf verdictOf
+  unfolding writtenOf Passes
   written-map-opens =
-      let w = writes (lookAt d s) (length buffer) z in
+      let w = passes (lookAt d s) (asking s (writing (length buffer))) z in
       rw (writing-writes-the-map d s buffer z)
       (map-of-a-seat-opens d e s t (not-false _ (w .0 .unbroken)) (w .0 .low) (w .0 .shown) j n)
 
@@ -98,7 +107,7 @@ module _ (d e : Desk) (s t : ℕ) (buffer : List ℕ) (z : accepted (writtenOf d
 -- After any calls from the empty desk (their jobs of two bytes), a map written from a seat opens under the seat's job at any seat of any desk that can take it,
 -- with the same pins.
 pub map-written-after-calls-opens : (calls : List Call) (e : Desk) (s t : ℕ) (buffer : List ℕ) → JobsFit calls
-    → accepted (writtenOf (after emptyDesk calls) s buffer .verdict) ≡ true → NoneHolds (takingRows (lookAt e t) (seatOf (after emptyDesk calls) s .job))
+    → accepted (writtenOf (after emptyDesk calls) s buffer .verdict) ≡ true → NoneHolds (takingAt e t (seatOf (after emptyDesk calls) s .job))
     → step e (opening t (seatOf (after emptyDesk calls) s .job) (bytesFrom (after emptyDesk calls) s buffer))
     ≡ record { desk = withSeat e t (openSeat (seatOf (after emptyDesk calls) s .job) (seatOf (after emptyDesk calls) s .pins)); verdict = Accepted }
 map-written-after-calls-opens calls e s t buffer j z n = written-map-opens (after emptyDesk calls) e s t buffer z (job-fits calls j s) n

@@ -20,24 +20,17 @@ use Rattle.journal.proofs.Own.{own-kept}
 use Rattle.journal.proofs.Filled.{take-filled}
 use Rattle.seats.specs.declared.Seat.{Seat}
 use Rattle.desk.specs.declared.Desk.{Desk}
-use Rattle.desk.specs.Calls.{Call, seatIn, opening, closing, placing, moving, removing, undoing, redoing, writing, wiring}
-use Rattle.desk.specs.Refusals.{verdictOf}
+use Rattle.rows.specs.Calls.{Call, seatIn, opening, closing, making, undoing, redoing, asking}
+use Rattle.rows.proofs.Passed.{Opens, Passes, passes}
 use Rattle.desk.specs.Desk.{closedSeat, noSeat, seatOf, inUse, editsOf, standingOf, takenBackOf, openSeat, withPins, sound, lookAt, edited, effect, answerOf, step, emptyDesk}
 use Rattle.desk.proofs.Sound.{eight-seats, closed-owns-none}
 use Rattle.history.specs.History.{after}
-use Rattle.history.proofs.Passed.{Opens, opens, closes, places, moves, removes, undoes, redoes, writes, wires}
-use Rattle.history.proofs.Untouched.{Untouched, other-seats-untouched, accepted-takes-effect, refused-leaves-the-desk, writing-leaves-the-desk, wiring-leaves-the-desk}
+use Rattle.history.specs.AsPast.{Untouched}
+use Rattle.history.specs.Until.{NoneAt, isOpening, isClosing, isEditOrClosing}
+use Rattle.history.specs.Leaving.{JobsFit}
+use Rattle.history.proofs.Untouched.{other-seats-untouched, accepted-takes-effect, refused-leaves-the-desk, asking-leaves-the-desk}
 
 -- ---- calls that leave a seat as it is
-
--- On this desk the call is an accepted one of these, and names the seat.
-abbrev pub isOneAt : (Call → Bool) → Desk → ℕ → Call → Bool
-isOneAt these d s c = both (eqb s (seatIn c)) (both (accepted (step d c .verdict)) (these c))
-
--- None of the calls, made one after the other from this desk, is an accepted one of these that names the seat.
-unfoldable pub NoneAt : (Call → Bool) → Desk → ℕ → List Call → Type 0
-NoneAt these d s [] = Unit {0}
-NoneAt these d s (c ∷ calls) = (isOneAt these d s c ≡ false) × NoneAt these (step d c .desk) s calls
 
 -- What a seat that is untouched has, and every accepted call at its own seat but one of these keeps, stays where none of these comes.
 module _ {A : Type 0} (part : Desk → ℕ → A) (a : A) (these : Call → Bool)
@@ -66,48 +59,10 @@ module _ {A : Type 0} (part : Desk → ℕ → A) (a : A) (these : Call → Bool
   stays [] d s p n = p
   stays (c ∷ calls) d s p n = stays calls (step d c .desk) s (stays-by d c s (eqb s (seatIn c)) refl p (n .0)) (n .1)
 
--- ---- the calls
-
--- The call is an opening.
-abbrev pub isOpening : Call → Bool
-isOpening (opening t job map) = true
-isOpening (closing t) = false
-isOpening (placing t p at) = false
-isOpening (moving t p at) = false
-isOpening (removing t p) = false
-isOpening (undoing t) = false
-isOpening (redoing t) = false
-isOpening (writing t room) = false
-isOpening (wiring t room) = false
-
--- The call is a closing.
-abbrev pub isClosing : Call → Bool
-isClosing (opening t job map) = false
-isClosing (closing t) = true
-isClosing (placing t p at) = false
-isClosing (moving t p at) = false
-isClosing (removing t p) = false
-isClosing (undoing t) = false
-isClosing (redoing t) = false
-isClosing (writing t room) = false
-isClosing (wiring t room) = false
-
--- The call is an edit (placing, moving, removing) or a closing.
-abbrev pub isEditOrClosing : Call → Bool
-isEditOrClosing (opening t job map) = false
-isEditOrClosing (closing t) = true
-isEditOrClosing (placing t p at) = true
-isEditOrClosing (moving t p at) = true
-isEditOrClosing (removing t p) = true
-isEditOrClosing (undoing t) = false
-isEditOrClosing (redoing t) = false
-isEditOrClosing (writing t room) = false
-isEditOrClosing (wiring t room) = false
-
 -- An open seat is not opened again.
 not-again : {A : Type 0} (d : Desk) (t job : ℕ) (map : List ℕ) → seatOf d t .opened ≡ true → accepted (step d (opening t job map) .verdict) ≡ true → A
-unfolding step answerOf verdictOf
-not-again d t job map o z = absurd (true≢false (sym o ∙ opens (lookAt d t) job map z .shown))
+unfolding step answerOf Passes
+not-again d t job map o z = absurd (true≢false (sym o ∙ passes (lookAt d t) (opening t job map) z .shown))
 
 -- ---- open until a closing
 
@@ -138,13 +93,10 @@ keeps-open : (job : ℕ) (d : Desk) (c : Call) → openFor (seatOf d (seatIn c))
 unfolding effect edited
 keeps-open job d (opening t j map) p z n = not-again d t j map (ap (λ (x : Bool × ℕ). x .0) p) z
 keeps-open job d (closing t) p z n = absurd (true≢false n)
-keeps-open job d (placing t i at) p z n = same-job d (placing t i at) z _ _ refl ∙ p
-keeps-open job d (moving t i at) p z n = same-job d (moving t i at) z _ _ refl ∙ p
-keeps-open job d (removing t i) p z n = same-job d (removing t i) z _ _ refl ∙ p
+keeps-open job d (making t m) p z n = same-job d (making t m) z _ _ refl ∙ p
 keeps-open job d (undoing t) p z n = same-job d (undoing t) z _ _ refl ∙ p
 keeps-open job d (redoing t) p z n = same-job d (redoing t) z _ _ refl ∙ p
-keeps-open job d (writing t room) p z n = ap (λ (x : Desk). openFor (seatOf x t)) (writing-leaves-the-desk d t room) ∙ p
-keeps-open job d (wiring t room) p z n = ap (λ (x : Desk). openFor (seatOf x t)) (wiring-leaves-the-desk d t room) ∙ p
+keeps-open job d (asking t a) p z n = ap (λ (x : Desk). openFor (seatOf x t)) (asking-leaves-the-desk d t a) ∙ p
 
 -- A seat that is open stays open, for the same job, until an accepted closing.
 pub open-until-closing : (calls : List Call) (d : Desk) (s : ℕ) → seatOf d s .opened ≡ true → NoneAt isClosing d s calls
@@ -165,18 +117,15 @@ module _ (q : Seat) (o : q .opened ≡ true) (none : q .standing ≡ 0) where
   -- No accepted call but an edit or a closing changes it: undo and redo are refused without edits (10 and 11), and opening at an open seat.
   keeps-whole : (d : Desk) (c : Call) → whole d (seatIn c) ≡ (q, []) → accepted (step d c .verdict) ≡ true → isEditOrClosing c ≡ false
       → whole (step d c .desk) (seatIn c) ≡ (q, [])
-  unfolding step answerOf verdictOf
+  unfolding step answerOf Passes
   keeps-whole d (opening t job map) p z n = not-again d t job map (ap (λ (x : Seat × List Edit). x .0 .opened) p ∙ o) z
   keeps-whole d (closing t) p z n = absurd (true≢false n)
-  keeps-whole d (placing t i at) p z n = absurd (true≢false n)
-  keeps-whole d (moving t i at) p z n = absurd (true≢false n)
-  keeps-whole d (removing t i) p z n = absurd (true≢false n)
-  keeps-whole d (undoing t) p z n = absurd (undoes (lookAt d t) z .1 (ap (λ (x : Seat × List Edit). x .0 .standing) p ∙ none))
+  keeps-whole d (making t m) p z n = absurd (true≢false n)
+  keeps-whole d (undoing t) p z n = absurd (passes (lookAt d t) (undoing t) z .1 (ap (λ (x : Seat × List Edit). x .0 .standing) p ∙ none))
   keeps-whole d (redoing t) p z n =
       let e : length (editsOf d t) ≡ 0 = ap (λ (x : Seat × List Edit). length (x .1)) p in
-      absurd (redoes (lookAt d t) z .1 (omega (arith, e)))
-  keeps-whole d (writing t room) p z n = ap (λ (x : Desk). whole x t) (writing-leaves-the-desk d t room) ∙ p
-  keeps-whole d (wiring t room) p z n = ap (λ (x : Desk). whole x t) (wiring-leaves-the-desk d t room) ∙ p
+      absurd (passes (lookAt d t) (redoing t) z .1 (omega (arith, e)))
+  keeps-whole d (asking t a) p z n = ap (λ (x : Desk). whole x t) (asking-leaves-the-desk d t a) ∙ p
 
 -- A seat that is open, without edits, stays as it is until an accepted edit or closing.
 pub same-until-edit : (calls : List Call) (d : Desk) (s : ℕ) → seatOf d s .opened ≡ true → seatOf d s .standing ≡ 0 → editsOf d s ≡ []
@@ -188,19 +137,20 @@ same-until-edit calls d s o m e n =
 
 -- ---- closed until an opening
 
+-- An accepted call but opening finds its seat open.
+found-open : (d : Desk) (c : Call) → accepted (step d c .verdict) ≡ true → isOpening c ≡ false → seatOf d (seatIn c) .opened ≡ true
+unfolding step answerOf Passes
+found-open d (opening t job map) z n = absurd (true≢false n)
+found-open d (closing t) z n = passes (lookAt d t) (closing t) z .shown
+found-open d (making t m) z n = passes (lookAt d t) (making t m) z .reaches .shown
+found-open d (undoing t) z n = passes (lookAt d t) (undoing t) z .0 .shown
+found-open d (redoing t) z n = passes (lookAt d t) (redoing t) z .0 .shown
+found-open d (asking t a) z n = passes (lookAt d t) (asking t a) z .0 .shown
+
 -- No accepted call but opening opens a closed seat: no other is accepted there.
 keeps-closed : (d : Desk) (c : Call) → seatOf d (seatIn c) .opened ≡ false → accepted (step d c .verdict) ≡ true → isOpening c ≡ false
     → seatOf (step d c .desk) (seatIn c) .opened ≡ false
-unfolding step answerOf verdictOf
-keeps-closed d (opening t job map) p z n = absurd (true≢false n)
-keeps-closed d (closing t) p z n = absurd (true≢false (sym (closes (lookAt d t) z .shown) ∙ p))
-keeps-closed d (placing t i at) p z n = absurd (true≢false (sym (places (lookAt d t) i at z .reaches .shown) ∙ p))
-keeps-closed d (moving t i at) p z n = absurd (true≢false (sym (moves (lookAt d t) i at z .reaches .shown) ∙ p))
-keeps-closed d (removing t i) p z n = absurd (true≢false (sym (removes (lookAt d t) i z .reaches .shown) ∙ p))
-keeps-closed d (undoing t) p z n = absurd (true≢false (sym (undoes (lookAt d t) z .0 .shown) ∙ p))
-keeps-closed d (redoing t) p z n = absurd (true≢false (sym (redoes (lookAt d t) z .0 .shown) ∙ p))
-keeps-closed d (writing t room) p z n = absurd (true≢false (sym (writes (lookAt d t) room z .0 .shown) ∙ p))
-keeps-closed d (wiring t room) p z n = absurd (true≢false (sym (wires (lookAt d t) room z .shown) ∙ p))
+keeps-closed d c p z n = absurd (true≢false (sym (found-open d c z n) ∙ p))
 
 -- A seat that is closed stays closed until an accepted opening.
 pub closed-until-opening : (calls : List Call) (d : Desk) (s : ℕ) → seatOf d s .opened ≡ false → NoneAt isOpening d s calls
@@ -213,8 +163,8 @@ closed-until-opening calls d s o n =
 module _ (d : Desk) (s job : ℕ) (map : List ℕ) (z : accepted (step d (opening s job map) .verdict) ≡ true) where
   -- What the opening has passed.
   opens-here : Opens (lookAt d s) job map
-  unfolding step answerOf verdictOf
-  opens-here = opens (lookAt d s) job map z
+  unfolding step answerOf Passes
+  opens-here = passes (lookAt d s) (opening s job map) z
 
   -- The map of an accepted opening is read.
   pub opened-map-read : accepted (readMap map job .verdict) ≡ true
@@ -245,20 +195,15 @@ module _ (d : Desk) (s job : ℕ) (map : List ℕ) (z : accepted (step d (openin
 -- An accepted closing leaves the seat closed, and frees all of its records.
 pub closed-seat : (d : Desk) (s : ℕ) → accepted (step d (closing s) .verdict) ≡ true
     → (seatOf (step d (closing s) .desk) s ≡ closedSeat) × (editsOf (step d (closing s) .desk) s ≡ [])
-unfolding step answerOf verdictOf effect
+unfolding step answerOf Passes effect
 closed-seat d s z =
-    let r = closes (lookAt d s) z in
+    let r = passes (lookAt d s) (closing s) z in
     let k : s < length (d .seats) = omega (arith, eight-seats d (not-false _ (r .unbroken)), r .low) in (
       here-is d (closing s) z ∙ getD-set-same (d .seats) s closedSeat noSeat k,
       ap (λ (x : Desk). editsOf x s) (accepted-takes-effect d (closing s) z) ∙ ap (own s) (take-filled (kept s 0 (inUse d))) ∙ own-kept s 0 (inUse d),
     )
 
 -- ---- a job has two bytes
-
--- Each job that the calls state has two bytes: a job is a u16 wherever it enters.
-unfoldable pub JobsFit : List Call → Type 0
-JobsFit [] = Unit {0}
-JobsFit (c ∷ calls) = ((t job : ℕ) (map : List ℕ) → c ≡ opening t job map → job < 65536) × JobsFit calls
 
 -- Jobs of two bytes stay so with one seat changed,
 job-set : (l : List Seat) (s : ℕ) (q : Seat) → q .job < 65536 → ((t : ℕ) → getD l t noSeat .job < 65536) → (t : ℕ) → getD (set l s q) t noSeat .job < 65536
@@ -274,13 +219,10 @@ job-effect : (d : Desk) (c : Call) → ((t job : ℕ) (map : List ℕ) → c ≡
 unfolding effect edited
 job-effect d (opening s job map) j h = job-set (d .seats) s _ (j s job map refl) h
 job-effect d (closing s) j h = job-set (d .seats) s closedSeat (omega arith) h
-job-effect d (placing s p at) j h = job-set (d .seats) s _ (h s) h
-job-effect d (moving s p at) j h = job-set (d .seats) s _ (h s) h
-job-effect d (removing s p) j h = job-set (d .seats) s _ (h s) h
+job-effect d (making s m) j h = job-set (d .seats) s _ (h s) h
 job-effect d (undoing s) j h = job-set (d .seats) s _ (h s) h
 job-effect d (redoing s) j h = job-set (d .seats) s _ (h s) h
-job-effect d (writing s room) j h = h
-job-effect d (wiring s room) j h = h
+job-effect d (asking s a) j h = h
 
 -- accepted or not,
 job-by : (b : Bool) (d e : Desk) → ((t : ℕ) → seatOf d t .job < 65536) → ((t : ℕ) → seatOf e t .job < 65536)

@@ -15,18 +15,20 @@ use Rattle.board.proofs.Flat.{same-or-not}
 use Rattle.drawing.specs.declared.Pin.{Pin}
 use Rattle.drawing.specs.declared.Edit.{Edit}
 use Rattle.drawing.specs.Pins.{lawful}
-use Rattle.drawing.specs.Edits.{makeable, made, placed, moved, removed}
+use Rattle.drawing.specs.Edits.{makeable, made}
+use Rattle.drawing.specs.Stated.{editOf}
 use Rattle.drawing.proofs.Rules.{map-set}
 use Rattle.pinmap.proofs.RoundTrip.{read-lawful}
 use Rattle.journal.specs.Journal.{mostSeats, makeableAll}
 use Rattle.journal.proofs.Turns.{turn-nil, turn-first, turn-rest, turn-cons}
-use Rattle.desk.specs.Calls.{Call, seatIn, opening, closing, placing, moving, removing, undoing, redoing, writing, wiring}
-use Rattle.desk.specs.Refusals.{sameJob, jobAmong, verdictOf}
+use Rattle.seats.specs.Seats.{sameJob, jobAmong}
+use Rattle.rows.specs.Calls.{Call, seatIn, opening, closing, making, undoing, redoing, asking}
+use Rattle.rows.proofs.Rows.{seat-low}
+use Rattle.rows.proofs.Passed.{Passes, passes}
 use Rattle.desk.specs.Desk.{jobsApart}
 use Rattle.history.specs.History.{Past, closed, opened, pinsBy, jobIn, pinsIn, pastOf, lookIn, anew, undone, redone, next, answerIn, pastAfter, nothing, history}
-use Rattle.history.proofs.Passed.{opens, places, moves, removes, seat-low}
 use Rattle.history.proofs.Jobs.{none-among, apart-set}
-use Rattle.history.proofs.Stood.{stood}
+use Rattle.history.proofs.Stood.{stood, stood-lawful}
 
 -- An open seat: its job is set, its opening keeps the rules, its standing edits stood, its taken-back ones can be made again.
 pub record Drawn (job : ℕ) (first : List Pin) (standing takenBack : List Edit) : Type 0 where
@@ -49,11 +51,11 @@ pub record Sane (h : List Past) : Type 0 where
 -- ---- one seat
 
 -- A new edit that can be made keeps a past sane,
-sane-anew : (e : Edit) (t : Past) → sane t → makeable (pinsIn t) e ≡ true → sane (anew e t)
+sane-anew : (e : Edit) (t : Past) → sane t → (lawful (pinsIn t) ≡ true → makeable (pinsIn t) e ≡ true) → sane (anew e t)
 unfolding sane anew stood
 sane-anew e closed g m = tt
 sane-anew e (opened job first standing takenBack) g m =
-    record { numbered = g .numbered; start = g .start; stands = (m, g .stands); redoes = turn-nil makeable made _ }
+    record { numbered = g .numbered; start = g .start; stands = (m (stood-lawful first standing (g .start) (g .stands)), g .stands); redoes = turn-nil makeable made _ }
 
 -- and so does undo,
 sane-undone : (t : Past) → sane t → sane (undone t)
@@ -106,17 +108,14 @@ job-redone (opened job first standing (e ∷ takenBack)) = refl
 module _ (h : List Past) (g : Sane h) where
   -- What an accepted call makes of its own seat is sane.
   sane-next : (c : Call) → accepted (answerIn h c) ≡ true → sane (next c (pastOf h (seatIn c)))
-  unfolding next answerIn verdictOf sane stood
+  unfolding next answerIn Passes sane stood
   sane-next (opening s job map) z =
-      record { numbered = opens (lookIn h s) job map z .set; start = read-lawful job map; stands = tt; redoes = turn-nil makeable made _ }
+      record { numbered = passes (lookIn h s) (opening s job map) z .set; start = read-lawful job map; stands = tt; redoes = turn-nil makeable made _ }
   sane-next (closing s) z = tt
-  sane-next (placing s p at) z = sane-anew (placed p at) (pastOf h s) (g .each s) (places (lookIn h s) p at z .fits)
-  sane-next (moving s p at) z = sane-anew (moved (pinsIn (pastOf h s)) p at) (pastOf h s) (g .each s) (moves (lookIn h s) p at z .fits)
-  sane-next (removing s p) z = sane-anew (removed (pinsIn (pastOf h s)) p) (pastOf h s) (g .each s) (removes (lookIn h s) p z .fits)
+  sane-next (making s m) z = sane-anew (editOf (pinsIn (pastOf h s)) m) (pastOf h s) (g .each s) (passes (lookIn h s) (making s m) z .fits)
   sane-next (undoing s) z = sane-undone (pastOf h s) (g .each s)
   sane-next (redoing s) z = sane-redone (pastOf h s) (g .each s)
-  sane-next (writing s room) z = g .each s
-  sane-next (wiring s room) z = g .each s
+  sane-next (asking s a) z = g .each s
 
   -- A seat that keeps its job repeats none,
   jobs-kept : (s : ℕ) (t : Past) → jobIn t ≡ jobIn (pastOf h s) → jobsApart (map jobIn (set h s t)) ≡ true
@@ -128,16 +127,13 @@ module _ (h : List Past) (g : Sane h) where
 
   -- So no accepted call makes a job repeat,
   jobs-next : (c : Call) → accepted (answerIn h c) ≡ true → jobsApart (map jobIn (set h (seatIn c) (next c (pastOf h (seatIn c))))) ≡ true
-  unfolding next answerIn verdictOf
-  jobs-next (opening s job map) z = jobs-set s _ (opens (lookIn h s) job map z .fresh)
+  unfolding next answerIn Passes
+  jobs-next (opening s job map) z = jobs-set s _ (passes (lookIn h s) (opening s job map) z .fresh)
   jobs-next (closing s) z = jobs-set s _ (none-among _)
-  jobs-next (placing s p at) z = jobs-kept s _ (job-anew _ (pastOf h s))
-  jobs-next (moving s p at) z = jobs-kept s _ (job-anew _ (pastOf h s))
-  jobs-next (removing s p) z = jobs-kept s _ (job-anew _ (pastOf h s))
+  jobs-next (making s m) z = jobs-kept s _ (job-anew _ (pastOf h s))
   jobs-next (undoing s) z = jobs-kept s _ (job-undone (pastOf h s))
   jobs-next (redoing s) z = jobs-kept s _ (job-redone (pastOf h s))
-  jobs-next (writing s room) z = jobs-kept s _ refl
-  jobs-next (wiring s room) z = jobs-kept s _ refl
+  jobs-next (asking s a) z = jobs-kept s _ refl
 
   -- and every past is sane after it.
   each-next : (c : Call) → accepted (answerIn h c) ≡ true → seatIn c < mostSeats → (t : ℕ)
@@ -152,7 +148,7 @@ module _ (h : List Past) (g : Sane h) where
   -- An accepted call names one of the eight seats.
   low : (c : Call) → accepted (answerIn h c) ≡ true → seatIn c < mostSeats
   unfolding answerIn
-  low c z = seat-low (lookIn h (seatIn c)) c z
+  low c z = seat-low (lookIn h (seatIn c)) c z .1
 
   -- So an accepted call keeps the history sane; a refused one leaves it as it is.
   sane-by : (c : Call) (b : Bool) → accepted (answerIn h c) ≡ b → Sane (choose b (set h (seatIn c) (next c (pastOf h (seatIn c)))) h)

@@ -15,32 +15,16 @@ use Rattle.board.proofs.Flat.{order, same-or-not}
 use Rattle.journal.specs.Journal.{mostSeats}
 use Rattle.journal.proofs.Seated.{ownedBelow, owned-all}
 use Rattle.desk.specs.declared.Desk.{Desk}
-use Rattle.desk.specs.Calls.{Call}
+use Rattle.rows.specs.Calls.{Call}
 use Rattle.desk.specs.Desk.{seatOf, inUse, editsOf, standingOf, takenBackOf, sound, step}
 use Rattle.desk.proofs.Sound.{eight-seats, whole-journal, used-within, all-seated, jobs-apart, closed-owns-none, job-not-zero, standing-within, pins-lawful, standing-takeable, taken-back-replayable}
 use Rattle.history.specs.History.{Past, closed, opened, editsIn, pastOf, usedIn, pastAfter, history, after, answers, answersIn}
-use Rattle.history.proofs.Stood.{pinsBefore, Traced, traced}
+use Rattle.history.specs.AsPast.{DeskAsPast, openPast, pastAt, pastsBelow, historyOf}
+use Rattle.history.proofs.Stood.{Traced, traced}
 use Rattle.history.proofs.Sane.{sane, Sane, sane-after, sane-history}
 use Rattle.history.proofs.Simulation.{At, Agrees, shown-length, jobs-same}
 use Rattle.history.proofs.Steps.{agrees-sound, step-agrees}
-use Rattle.history.proofs.Demand.{DeskAsPast, seats-as-past, agrees-after, answers-after}
-
--- The past of an open seat of a desk: its job, the pins before its standing edits, these edits, and those taken back.
-abbrev pub openPast : Desk → ℕ → Past
-openPast d s = opened (seatOf d s .job) (pinsBefore (seatOf d s .pins) (standingOf d s)) (standingOf d s) (takenBackOf d s)
-
--- The past of a seat, open or closed.
-unfoldable pub pastAt : Desk → ℕ → Past
-pastAt d s = choose (seatOf d s .opened) (openPast d s) closed
-
--- The pasts of the first n seats.
-unfoldable pub pastsBelow : ℕ → Desk → List Past
-pastsBelow zero d = []
-pastsBelow (suc n) d = pastsBelow n d ++ (pastAt d n ∷ [])
-
--- The history that a desk has.
-abbrev pub historyOf : Desk → List Past
-historyOf d = pastsBelow mostSeats d
+use Rattle.history.proofs.Demand.{seats-as-past, agrees-after, answers-after}
 
 -- ---- one seat
 

@@ -6,16 +6,18 @@ use mathlib.Core.List.{List, [], _∷_, _++_, map, reverseAux-eq}
 use mathlib.Core.Logic.{⊎-elim}
 use Prim.Native.Nat.{ℕ, zero, suc, _+_, _-_, _<_, _≤_}
 use native.Mathlib.Omega.{arith}
-use borrow.Author.Tests.{eq-eqb, ne-eqb, eqb-false, le-leb}
+use borrow.Author.Tests.{eq-eqb, ne-eqb, le-leb}
 use lib.ListN.{length, getD, set, take, List·getD-eq-default}
 use lib.Seq.{set-getD}
 use Rattle.basics.specs.Tests.{choose}
-use Rattle.refusal.specs.Refusals.{accepted, turn}
+use Rattle.refusal.specs.Refusals.{accepted}
+use Rattle.refusal.specs.Rows.{firstOf}
 use Rattle.basics.proofs.Tests.{both-of}
 use Rattle.board.proofs.Flat.{order}
 use Rattle.drawing.specs.declared.Pin.{Pin}
 use Rattle.drawing.specs.declared.Edit.{Edit}
-use Rattle.drawing.specs.Edits.{made, unmade, placed, moved, removed}
+use Rattle.drawing.specs.Edits.{made, unmade}
+use Rattle.drawing.specs.Stated.{editOf}
 use Rattle.drawing.proofs.Making.{unmade-made}
 use Rattle.pinmap.specs.Map.{readMap}
 use Rattle.journal.specs.Journal.{mostSeats, mostRecords, noEdit, kept, added}
@@ -23,11 +25,11 @@ use Rattle.journal.proofs.Own.{own-kept, own-other, own-added, other-added, add
 use Rattle.journal.proofs.Seated.{seated-kept, seated-added}
 use Rattle.seats.specs.declared.Seat.{Seat}
 use Rattle.desk.specs.declared.Desk.{Desk}
-use Rattle.desk.specs.Calls.{Call, seatIn, opening, closing, placing, moving, removing, undoing, redoing, writing, wiring}
-use Rattle.desk.specs.Refusals.{Look, full, turnedOpening, turnedClosing, turnedPlacing, turnedMoving, turnedRemoving, turnedUndoing, turnedRedoing, turnedWriting, turnedWiring, verdictOf}
+use Rattle.rows.specs.Calls.{Call, seatIn, opening, closing, making, undoing, redoing, asking}
+use Rattle.rows.specs.Refusals.{Look, rowsOf}
+use Rattle.rows.proofs.Passed.{Passes, passes}
 use Rattle.desk.specs.Desk.{closedSeat, noSeat, seatOf, inUse, editsOf, openSeat, withPins, soundOpen, soundClosed, soundSeat, soundTo, sound, lookAt, edited, effect, answerOf, step}
 use Rattle.history.specs.History.{Past, closed, opened, pinsBy, isOpen, pinsIn, standingIn, takenBackIn, editsIn, pastOf, usedIn, lookIn, anew, undone, redone, next, answerIn, pastAfter}
-use Rattle.history.proofs.Passed.{Enters, opens, closes, places, moves, removes, undoes, redoes}
 use Rattle.history.proofs.Stood.{stood, stood-lawful, stood-takeable}
 use Rattle.history.proofs.Sane.{sane, Sane}
 use Rattle.history.proofs.Simulation.{At, Agrees, zip-take, zip-at, shown-open, shown-job, shown-pins, shown-count, shown-standing, shown-takenBack, shown-length, agrees-seat, agrees-records, used-in-use, jobs-same, used-same}
@@ -158,17 +160,14 @@ module _ (d : Desk) (h : List Past) (g : Agrees d h) (f : Sane h) where
 
 -- At a closed seat nothing is looked at but the seat's number and the jobs.
 closed-verdict : (k m : Look) (c : Call) → k .broken ≡ false → m .broken ≡ false → k .seat ≡ m .seat → k .opened ≡ false → m .opened ≡ false
-    → k .jobs ≡ m .jobs → verdictOf k c ≡ verdictOf m c
-unfolding verdictOf turnedOpening turnedClosing turnedPlacing turnedMoving turnedRemoving turnedUndoing turnedRedoing turnedWriting turnedWiring turn choose
+    → k .jobs ≡ m .jobs → firstOf (rowsOf k c) ≡ firstOf (rowsOf m c)
+unfolding firstOf choose
 closed-verdict k m (opening s job map) a b e o p j = rw (a, b, e, o, p, j)
 closed-verdict k m (closing s) a b e o p j = rw (a, b, e, o, p)
-closed-verdict k m (placing s q at) a b e o p j = rw (a, b, e, o, p)
-closed-verdict k m (moving s q at) a b e o p j = rw (a, b, e, o, p)
-closed-verdict k m (removing s q) a b e o p j = rw (a, b, e, o, p)
+closed-verdict k m (making s q) a b e o p j = rw (a, b, e, o, p)
 closed-verdict k m (undoing s) a b e o p j = rw (a, b, e, o, p)
 closed-verdict k m (redoing s) a b e o p j = rw (a, b, e, o, p)
-closed-verdict k m (writing s room) a b e o p j = rw (a, b, e, o, p)
-closed-verdict k m (wiring s room) a b e o p j = rw (a, b, e, o, p)
+closed-verdict k m (asking s q) a b e o p j = rw (a, b, e, o, p)
 
 module _ (d : Desk) (h : List Past) (g : Agrees d h) (f : Sane h) where
   -- Row 28 is passed.
@@ -203,7 +202,7 @@ module _ (d : Desk) (h : List Past) (g : Agrees d h) (f : Sane h) where
   -- So the answers are the same at one of the eight seats, open or closed,
   answer-open : (c : Call) → seatIn c < mostSeats → (b : Bool) → isOpen (pastOf h (seatIn c)) ≡ b → answerOf d c ≡ answerIn h c
   unfolding answerOf answerIn
-  answer-open c k true o = ap (λ (l : Look). verdictOf l c) (look-same (seatIn c) k o)
+  answer-open c k true o = ap (λ (l : Look). firstOf (rowsOf l c)) (look-same (seatIn c) k o)
   answer-open c k false o =
       closed-verdict (lookAt d (seatIn c)) (lookIn h (seatIn c)) c unbroken refl refl
       (shown-open _ _ _ (g .holds .at (seatIn c) k) ∙ o) o (jobs-same d h g)
@@ -239,10 +238,9 @@ module _ (d : Desk) (h : List Past) (g : Agrees d h) (f : Sane h) where
         omega (arith, added-length s (seatOf d s .standing) e (inUse d), kept-length s (seatOf d s .standing) (inUse d), n, c)
 
     -- So after a new edit the desk agrees,
-    agrees-edited : (e : Edit) → isOpen (pastOf h s) ≡ true → full (lookIn h s) ≡ false → Agrees (edited d s e) (set h s (anew e (pastOf h s)))
+    agrees-edited : (e : Edit) → isOpen (pastOf h s) ≡ true → (usedIn h - length (takenBackIn (pastOf h s)) ≡ mostRecords → ⊥) → Agrees (edited d s e) (set h s (anew e (pastOf h s)))
     unfolding edited
-    agrees-edited e o z =
-        let n : usedIn h - length (takenBackIn (pastOf h s)) ≡ mostRecords → ⊥ = eqb-false _ _ z in
+    agrees-edited e o n =
         let r : usedIn h - length (takenBackIn (pastOf h s)) < mostRecords = omega (arith, n, used-same d h g, g .room) in
         agrees-records d h s _ _ g k (added s (seatOf d s .standing) e (inUse d))
         (omega (arith, edited-length e o, r, g .holds .sized))
@@ -266,34 +264,26 @@ module _ (d : Desk) (h : List Past) (g : Agrees d h) (f : Sane h) where
     pins-same : isOpen (pastOf h s) ≡ true → seatOf d s .pins ≡ pinsIn (pastOf h s)
     pins-same o = shown-pins _ _ _ at-seat o
 
-  -- An accepted placing, move or removal is such an edit.
-  agrees-entered : (s : ℕ) (e : Edit) → Enters (lookIn h s) e → Agrees (edited d s e) (set h s (anew e (pastOf h s)))
-  agrees-entered s e p = agrees-edited s (p .reaches .low) e (p .reaches .shown) (p .room)
-
   -- After any accepted call the desk agrees,
   agrees-next : (c : Call) → accepted (answerIn h c) ≡ true → Agrees (effect d c) (set h (seatIn c) (next c (pastOf h (seatIn c))))
-  unfolding effect next answerIn verdictOf
+  unfolding effect next answerIn Passes
   agrees-next (opening s job map) z =
-      let o = opens (lookIn h s) job map z in
+      let o = passes (lookIn h s) (opening s job map) z in
       agrees-seat d h s _ _ g (o .low) (edits-opened (pastOf h s) (o .shown))
       (at-opened _ _ (pastOf h s) job (readMap map job .pins) (at-seat s (o .low)) (o .shown))
-  agrees-next (closing s) z = agrees-closed s (closes (lookIn h s) z .low)
-  agrees-next (placing s p at) z = agrees-entered s (placed p at) (places (lookIn h s) p at z)
-  agrees-next (moving s p at) z =
-      let m = moves (lookIn h s) p at z in
-      rw (pins-same s (m .reaches .low) (m .reaches .shown)) (agrees-entered s (moved (pinsIn (pastOf h s)) p at) m)
-  agrees-next (removing s p) z =
-      let m = removes (lookIn h s) p z in
-      rw (pins-same s (m .reaches .low) (m .reaches .shown)) (agrees-entered s (removed (pinsIn (pastOf h s)) p) m)
+  agrees-next (closing s) z = agrees-closed s (passes (lookIn h s) (closing s) z .low)
+  agrees-next (making s m) z =
+      let p = passes (lookIn h s) (making s m) z in
+      rw (pins-same s (p .reaches .low) (p .reaches .shown))
+      (agrees-edited s (p .reaches .low) (editOf (pinsIn (pastOf h s)) m) (p .reaches .shown) (p .room))
   agrees-next (undoing s) z =
-      let m = undoes (lookIn h s) z in
+      let m = passes (lookIn h s) (undoing s) z in
       agrees-seat d h s _ _ g (m .0 .low) (edits-undone (pastOf h s))
       (at-undone _ _ (pastOf h s) (at-seat s (m .0 .low)) (f .each s) (m .1))
   agrees-next (redoing s) z =
-      let m = redoes (lookIn h s) z in
+      let m = passes (lookIn h s) (redoing s) z in
       agrees-seat d h s _ _ g (m .0 .low) (edits-redone (pastOf h s)) (at-redone _ _ (pastOf h s) (at-seat s (m .0 .low)) (m .1))
-  agrees-next (writing s room) z = rw (set-getD h s closed) g
-  agrees-next (wiring s room) z = rw (set-getD h s closed) g
+  agrees-next (asking s a) z = rw (set-getD h s closed) g
 
   -- and after a refused one, which changes nothing.
   agrees-by : (c : Call) (b : Bool) → accepted (answerIn h c) ≡ b

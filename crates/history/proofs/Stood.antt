@@ -11,6 +11,7 @@ use Rattle.drawing.proofs.Making.{unmade-made, made-lawful, made-takeable, unma
 use Rattle.journal.specs.Journal.{takeableAll}
 use Rattle.journal.proofs.Turns.{turn-nil, turn-first, turn-rest, turn-cons}
 use Rattle.history.specs.History.{pinsBy}
+use Rattle.history.specs.AsPast.{pinsBefore}
 
 -- Standing edits, the latest first, each of which could be made in its turn.
 unfoldable pub stood : List Pin → List Edit → Type 0
@@ -21,7 +22,7 @@ stood first (e ∷ earlier) = (makeable (pinsBy first earlier) e ≡ true) × st
 pub stood-lawful : (first : List Pin) (l : List Edit) → lawful first ≡ true → stood first l → lawful (pinsBy first l) ≡ true
 unfolding stood pinsBy
 stood-lawful first [] h s = h
-stood-lawful first (e ∷ l) h s = made-lawful (pinsBy first l) e (s .0) (stood-lawful first l h (s .1))
+stood-lawful first (e ∷ l) h s = made-lawful (pinsBy first l) e (s .0)
 
 -- From these they can be taken back.
 pub stood-takeable : (first : List Pin) (l : List Edit) → lawful first ≡ true → stood first l → takeableAll (pinsBy first l) l ≡ true
@@ -31,11 +32,6 @@ stood-takeable first (e ∷ l) h s =
     turn-cons takeable unmade (made (pinsBy first l) e) e l
     (made-takeable (pinsBy first l) e (s .0) (stood-lawful first l h (s .1)))
     (rw (unmade-made (pinsBy first l) e (s .0)) (stood-takeable first l h (s .1)))
-
--- The pins before edits that stand, the latest first.
-unfoldable pub pinsBefore : List Pin → List Edit → List Pin
-pinsBefore q [] = q
-pinsBefore q (e ∷ l) = pinsBefore (unmade q e) l
 
 -- Those pins keep the rules, the edits stood on them, and lead to the pins as they are.
 pub record Traced (q : List Pin) (l : List Edit) : Type 0 where

@@ -15,16 +15,9 @@ use Rattle.journal.proofs.Own.{own-other, other-added}
 use Rattle.journal.proofs.Filled.{take-filled}
 use Rattle.seats.specs.declared.Seat.{Seat}
 use Rattle.desk.specs.declared.Desk.{Desk}
-use Rattle.desk.specs.Calls.{Call, seatIn, opening, closing, placing, moving, removing, undoing, redoing, writing, wiring}
-use Rattle.desk.specs.Refusals.{verdictOf}
-use Rattle.desk.specs.Desk.{noSeat, seatOf, inUse, editsOf, standingOf, takenBackOf, withSeat, withRecords, edited, effect, answerOf, step, writtenOf, bufferOf, wiredOf}
-
--- A seat of a desk is the same on another: open or closed, job, pins and number of standing edits; and so are its edits, standing and taken back.
-pub record Untouched (d e : Desk) (t : ℕ) : Type 0 where
-  pub seat : seatOf e t ≡ seatOf d t
-  pub edits : editsOf e t ≡ editsOf d t
-  pub standing : standingOf e t ≡ standingOf d t
-  pub takenBack : takenBackOf e t ≡ takenBackOf d t
+use Rattle.rows.specs.Calls.{Call, seatIn, opening, closing, making, undoing, redoing, asking, Asking, writing}
+use Rattle.desk.specs.Desk.{noSeat, seatOf, inUse, editsOf, withSeat, withRecords, edited, effect, answerOf, step, writtenOf, bufferOf, wiredOf}
+use Rattle.history.specs.AsPast.{Untouched}
 
 -- The same seat with the same edits has the same of them standing and taken back.
 untouched-by : (d e : Desk) (t : ℕ) → seatOf e t ≡ seatOf d t → editsOf e t ≡ editsOf d t → Untouched d e t
@@ -45,13 +38,10 @@ other-effect : (d : Desk) (c : Call) (t : ℕ) → (t ≡ seatIn c → ⊥) → 
 unfolding effect edited
 other-effect d (opening s job map) t n = other-seat d s t n _
 other-effect d (closing s) t n = other-records d s t n _ _ (own-other s t n 0 (inUse d))
-other-effect d (placing s p at) t n = other-records d s t n _ _ (other-added s (seatOf d s .standing) _ (inUse d) t n)
-other-effect d (moving s p at) t n = other-records d s t n _ _ (other-added s (seatOf d s .standing) _ (inUse d) t n)
-other-effect d (removing s p) t n = other-records d s t n _ _ (other-added s (seatOf d s .standing) _ (inUse d) t n)
+other-effect d (making s m) t n = other-records d s t n _ _ (other-added s (seatOf d s .standing) _ (inUse d) t n)
 other-effect d (undoing s) t n = other-seat d s t n _
 other-effect d (redoing s) t n = other-seat d s t n _
-other-effect d (writing s room) t n = untouched-by d d t refl refl
-other-effect d (wiring s room) t n = untouched-by d d t refl refl
+other-effect d (asking s a) t n = untouched-by d d t refl refl
 
 -- and a refused one leaves all.
 other-by : (d e : Desk) (t : ℕ) (b : Bool) → Untouched d e t → Untouched d (choose b e d) t
@@ -74,15 +64,10 @@ pub refused-leaves-the-desk : (d : Desk) (c : Call) → accepted (step d c .verd
 unfolding step
 refused-leaves-the-desk d c e = choose-no _ _ e
 
--- Writing leaves the desk as it is, accepted or not.
-pub writing-leaves-the-desk : (d : Desk) (s room : ℕ) → step d (writing s room) .desk ≡ d
+-- Writing and wiring leave the desk as it is, accepted or not.
+pub asking-leaves-the-desk : (d : Desk) (s : ℕ) (a : Asking) → step d (asking s a) .desk ≡ d
 unfolding step effect
-writing-leaves-the-desk d s room = choose-same (accepted (answerOf d (writing s room))) d
-
--- Wiring leaves the desk as it is, accepted or not.
-pub wiring-leaves-the-desk : (d : Desk) (s room : ℕ) → step d (wiring s room) .desk ≡ d
-unfolding step effect
-wiring-leaves-the-desk d s room = choose-same (accepted (answerOf d (wiring s room))) d
+asking-leaves-the-desk d s a = choose-same (accepted (answerOf d (asking s a))) d
 
 -- The answer of wiring hands back the desk that it was given,
 pub wired-leaves-the-desk : (d : Desk) (s room : ℕ) → wiredOf d s room .desk ≡ d
@@ -95,8 +80,8 @@ unfolding writtenOf
 written-leaves-the-desk d s buffer = refl
 
 -- The verdict in the answer of writing is what the call is answered.
-pub written-verdict : (d : Desk) (s : ℕ) (buffer : List ℕ) → writtenOf d s buffer .verdict ≡ answerOf d (writing s (length buffer))
-unfolding writtenOf answerOf verdictOf
+pub written-verdict : (d : Desk) (s : ℕ) (buffer : List ℕ) → writtenOf d s buffer .verdict ≡ answerOf d (asking s (writing (length buffer)))
+unfolding writtenOf answerOf
 written-verdict d s buffer = refl
 
 -- A refused writing leaves the lent buffer as it was, and writes no bytes.

@@ -1,87 +1,91 @@
 -- What wiring a seat answers, on ANY desk: its verdict is the one that the call is answered, and never 18; refused, the answer is empty and the lent list
 -- as it was. From the rows of the calls, the tree's boxes and what a refused wiring of a feed is; assumes nothing.
 use mathlib.Core.Path.{_≡_, refl, sym, _∙_}
-use mathlib.Core.Bool.{true, false, true≢false}
-use mathlib.Core.List.{List}
-use Prim.Native.Nat.{ℕ, zero, suc, _/_}
+use mathlib.Core.Bool.{true, false, not, true≢false}
+use mathlib.Core.List.{List, _++_}
+use Prim.Native.Nat.{ℕ}
 use native.Mathlib.Omega.{arith}
 use borrow.Author.Tests.{not-false, leb-false}
-use lib.ListN.{length, replicate}
+use lib.ListN.{length}
 use Rattle.basics.specs.Tests.{both}
 use Rattle.refusal.specs.Refusals.{accepted}
+use Rattle.refusal.specs.Rows.{Row, firstOf, Given, refusalAt, Exactly}
 use Rattle.refusal.specs.declared.Verdict.{Verdict}
-use Rattle.refusal.specs.declared.Verdict.the-variants.{Accepted, BoxesMeet}
-use Rattle.refusal.proofs.Rows.{Row, firstOf, Given, refusalAt, unlike, distinct, Exactly}
-use Rattle.drawing.specs.declared.Pin.{Pin}
-use Rattle.drawing.specs.Pins.{noPins, lawful, spotsOf}
+use Rattle.refusal.specs.declared.Verdict.the-variants.{BoxesMeet}
+use Rattle.refusal.proofs.Rows.{unlike, Differs, differs-by, differs-both, never-first}
+use Rattle.drawing.specs.declared.stated.Making.{Making}
+use Rattle.drawing.specs.declared.stated.Making.the-variants.{Placing, Moving, Removing}
+use Rattle.drawing.specs.Pins.{lawful, spotsOf, feedOf}
 use Rattle.drawing.proofs.Rules.{lawful-parts, feed-long}
-use Rattle.pinmap.specs.Record.{recordSize}
+use Rattle.pinmap.specs.Map.{mapRows}
+use Rattle.pinmap.proofs.Judging.{notOfMap, map-differs}
 use Rattle.journal.specs.Journal.{mostSeats}
 use Rattle.tree.proofs.Apart.{never-meet}
-use Rattle.tree.specs.Trees.{mostRuns}
-use Rattle.copper.specs.declared.Shape.the-variants.{Straight}
 use Rattle.copper.specs.declared.Leg.{Leg}
-use Rattle.wiring.specs.declared.Wiring.{Wiring}
-use Rattle.wiring.specs.Answer.{runEntry, runEntries, turnedAway, wiringOf}
-use Rattle.wiring.proofs.Refusing.{laid-behind}
+use Rattle.wiring.specs.Answer.{runEntries, turnedAway, wiringOf, feedRows}
+use Rattle.wiring.proofs.Refusing.{laid-behind, wiring-verdict}
 use Rattle.lent.proofs.Untouched.{Alone, turned-by, wiring-turned, untouched}
-use Rattle.rows.proofs.MapRows.{recordRows, map-first}
-use Rattle.rows.proofs.Rows.{openingRows, namingRows, placingRows, movingRows, removingRows, undoingRows, redoingRows, writingRows, wiringRows}
+use Rattle.rows.specs.Calls.{Call, opening, closing, making, undoing, redoing, asking, writing, wiring}
+use Rattle.rows.specs.Refusals.{takingRows}
+use Rattle.rows.proofs.Rows.{naming-apart}
 use Rattle.desk.specs.declared.Desk.{Desk}
-use Rattle.desk.specs.Calls.{Call, opening, closing, placing, moving, removing, undoing, redoing, writing, wiring}
-use Rattle.desk.specs.Refusals.{turnedNaming, turnedOpening, turnedClosing, turnedPlacing, turnedMoving, turnedRemoving, turnedUndoing, turnedRedoing, turnedWriting, turnedWiring, verdictOf}
-use Rattle.desk.specs.Desk.{seatOf, lookAt, answerOf, step, wiredOf, wiredSeatOf, lentOf}
+use Rattle.desk.specs.Desk.{seatOf, jobsOf, sound, namingAt, rowsAt, answerOf, step, wiredOf, wiredSeatOf, lentOf}
 use Rattle.desk.proofs.Sound.{pins-lawful}
-use Rattle.history.proofs.Refused.{exactly-wiring, each-refusal-exactly, never-given}
+use Rattle.history.specs.Leaving.{Empty}
+use Rattle.history.proofs.Refused.{each-refusal-exactly}
 
 -- The verdict in the answer of wiring a seat is what the call is answered,
-pub wired-verdict : (d : Desk) (s room : ℕ) → wiredOf d s room .laid .wiring .verdict ≡ answerOf d (wiring s room)
-unfolding wiredOf answerOf verdictOf turnedClosing turnedWiring firstOf distinct unlike both accepted
-wired-verdict d s room = laid-behind (namingRows (lookAt d s)) refl (wiringOf (spotsOf (seatOf d s .pins)) room)
+pub wired-verdict : (d : Desk) (s room : ℕ) → wiredOf d s room .laid .wiring .verdict ≡ answerOf d (asking s (wiring room))
+unfolding wiredOf answerOf
+wired-verdict d s room =
+    let feed = feedOf (seatOf d s .pins) in
+    laid-behind (namingAt d s) (feedRows feed room) (naming-apart (not (sound d)) s (seatOf d s .opened)) (wiringOf feed room) (wiring-verdict feed room)
 
 -- with a lent list its length is the room;
-pub lent-verdict : (d : Desk) (s : ℕ) (lent : List Leg) → wiredSeatOf d s lent .wiring .verdict ≡ answerOf d (wiring s (length lent))
+pub lent-verdict : (d : Desk) (s : ℕ) (lent : List Leg) → wiredSeatOf d s lent .wiring .verdict ≡ answerOf d (asking s (wiring (length lent)))
 unfolding wiredSeatOf
 lent-verdict d s lent = wired-verdict d s (length lent)
 
 -- so each of its refusals is given exactly under its condition, and after those before it.
-pub wired-exactly : (d : Desk) (s room : ℕ) → Exactly (wiringRows (lookAt d s) room) Accepted (wiredOf d s room .laid .wiring .verdict)
-unfolding answerOf verdictOf
-wired-exactly d s room = rw (wired-verdict d s room) (exactly-wiring (lookAt d s) room)
+pub wired-exactly : (d : Desk) (s room : ℕ) → Exactly (rowsAt d (asking s (wiring room))) (wiredOf d s room .laid .wiring .verdict)
+unfolding step
+wired-exactly d s room = rw (wired-verdict d s room) (each-refusal-exactly d (asking s (wiring room)))
 
 -- ---- 18 never comes
 
--- The rows of a map's records have other refusals.
-records-unlike : (left : ℕ) (map : List ℕ) (job number next : ℕ) (earlier : List Pin) → unlike BoxesMeet (recordRows left map job number next earlier) ≡ true
-unfolding unlike recordRows both
-records-unlike zero map job number next earlier = refl
-records-unlike (suc left) map job number next earlier = records-unlike left _ job _ _ _
-
--- Rows with other refusals do not give 18.
-other-rows : (rows : List Row) → unlike BoxesMeet rows ≡ true → firstOf rows Accepted ≡ BoxesMeet → ⊥
-other-rows rows u e = never-given BoxesMeet rows (omega arith) u e
-
 -- Wiring a seat is never answered 18: past 28, 1 and 2 its pins are on the board, so that no boxes meet.
-wiring-never-18 : (d : Desk) (s room : ℕ) → step d (wiring s room) .verdict ≡ BoxesMeet → ⊥
+wiring-never-18 : (d : Desk) (s room : ℕ) → step d (asking s (wiring room)) .verdict ≡ BoxesMeet → ⊥
 unfolding refusalAt Given
 wiring-never-18 d s room e =
-    let g = each-refusal-exactly d (wiring s room) .refused 4 (omega arith) .0 e in
+    let g = each-refusal-exactly d (asking s (wiring room)) .refused 4 (omega arith) .0 e in
     let l : lawful (seatOf d s .pins) ≡ true = pins-lawful d (not-false _ (g .0)) s (leb-false mostSeats s (g .1 .0)) (not-false _ (g .1 .1 .0)) in
     true≢false (sym (g .1 .1 .1 .1) ∙ never-meet (spotsOf (seatOf d s .pins)) (feed-long _ l) (lawful-parts _ l .board))
 
+-- The rows of an edit have other refusals.
+edit-differs : (d : Desk) (s : ℕ) (m : Making) → Differs BoxesMeet (rowsAt d (making s m))
+unfolding unlike both
+edit-differs d s (Placing p h) = differs-by BoxesMeet (rowsAt d (making s (Placing p h))) refl
+edit-differs d s (Moving p to) = differs-by BoxesMeet (rowsAt d (making s (Moving p to))) refl
+edit-differs d s (Removing p) = differs-by BoxesMeet (rowsAt d (making s (Removing p))) refl
+
+-- Rows with other refusals do not give 18.
+other-rows : (rows : List Row) → Differs BoxesMeet rows → firstOf rows ≡ BoxesMeet → ⊥
+unfolding accepted
+other-rows rows u e = never-first BoxesMeet rows refl u (sym e)
+
 -- 18 NEVER COMES: no call on any desk is answered so,
 pub never-18 : (d : Desk) (c : Call) → step d c .verdict ≡ BoxesMeet → ⊥
-unfolding step answerOf verdictOf turnedOpening turnedClosing turnedPlacing turnedMoving turnedRemoving turnedUndoing turnedRedoing turnedWriting firstOf unlike both
+unfolding step answerOf unlike both notOfMap
 never-18 d (opening s job map) e =
-    other-rows (openingRows (lookAt d s) job map) (records-unlike (length map / recordSize) map job 0 0 noPins) (rw (← map-first map job) at e)
-never-18 d (closing s) e = other-rows (namingRows (lookAt d s)) refl e
-never-18 d (placing s p at) e = other-rows (placingRows (lookAt d s) p at) refl e
-never-18 d (moving s p at) e = other-rows (movingRows (lookAt d s) p at) refl e
-never-18 d (removing s p) e = other-rows (removingRows (lookAt d s) p) refl e
-never-18 d (undoing s) e = other-rows (undoingRows (lookAt d s)) refl e
-never-18 d (redoing s) e = other-rows (redoingRows (lookAt d s)) refl e
-never-18 d (writing s room) e = other-rows (writingRows (lookAt d s) room) refl e
-never-18 d (wiring s room) e = wiring-never-18 d s room e
+    let t = takingRows (not (sound d)) s (seatOf d s .opened) job (jobsOf d) in
+    other-rows (t ++ mapRows map job) (differs-both BoxesMeet t (mapRows map job) (differs-by BoxesMeet t refl) (map-differs map job BoxesMeet refl)) e
+never-18 d (closing s) e = other-rows (rowsAt d (closing s)) (differs-by BoxesMeet (rowsAt d (closing s)) refl) e
+never-18 d (making s m) e = other-rows (rowsAt d (making s m)) (edit-differs d s m) e
+never-18 d (undoing s) e = other-rows (rowsAt d (undoing s)) (differs-by BoxesMeet (rowsAt d (undoing s)) refl) e
+never-18 d (redoing s) e = other-rows (rowsAt d (redoing s)) (differs-by BoxesMeet (rowsAt d (redoing s)) refl) e
+never-18 d (asking s (writing room)) e =
+    other-rows (rowsAt d (asking s (writing room))) (differs-by BoxesMeet (rowsAt d (asking s (writing room))) refl) e
+never-18 d (asking s (wiring room)) e = wiring-never-18 d s room e
 
 -- nor does the answer of wiring a seat carry it.
 pub wired-never-18 : (d : Desk) (s room : ℕ) → wiredOf d s room .laid .wiring .verdict ≡ BoxesMeet → ⊥
@@ -90,15 +94,7 @@ wired-never-18 d s room e = wiring-never-18 d s room (sym (wired-verdict d s roo
 
 -- ---- what a refused wiring leaves
 
--- Length, runs, legs and choices zero, and every run entry 0, 0, straight.
-pub record Empty (w : Wiring) : Type 0 where
-  pub length-zero : w .length ≡ 0
-  pub runs-zero : w .runs ≡ 0
-  pub legs-zero : w .legs ≡ 0
-  pub choices-zero : w .weighed ≡ 0
-  pub entries-blank : w .entries ≡ replicate mostRuns (runEntry 0 0 Straight)
-
--- A wiring that was turned away is such.
+-- A wiring that was turned away has length, runs, legs and choices zero, and every run entry 0, 0, straight.
 away-empty : (v : Verdict) → Empty (turnedAway v .wiring)
 unfolding turnedAway runEntries
 away-empty v = record { length-zero = refl; runs-zero = refl; legs-zero = refl; choices-zero = refl; entries-blank = refl }
@@ -107,7 +103,7 @@ away-empty v = record { length-zero = refl; runs-zero = refl; legs-zero = refl; 
 wired-turned : (d : Desk) (s room : ℕ) → Alone (wiredOf d s room .laid)
 unfolding wiredOf
 wired-turned d s room =
-    let v = turnedNaming (lookAt d s) in
+    let v = firstOf (namingAt d s) in
     turned-by (accepted v) v (wiringOf (spotsOf (seatOf d s .pins)) room) (wiring-turned (spotsOf (seatOf d s .pins)) room)
 
 -- A refused wiring of a seat has length, runs, legs and choices zero, and every run entry 0, 0, straight;

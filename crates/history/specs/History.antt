@@ -6,15 +6,17 @@ use lib.ListN.{length, replicate, getD, set}
 use Rattle.basics.specs.Tests.{choose}
 use Rattle.basics.specs.Sums.{sum}
 use Rattle.refusal.specs.Refusals.{accepted}
+use Rattle.refusal.specs.Rows.{firstOf}
 use Rattle.refusal.specs.declared.Verdict.{Verdict}
 use Rattle.drawing.specs.declared.Pin.{Pin}
 use Rattle.drawing.specs.declared.Edit.{Edit}
-use Rattle.drawing.specs.Edits.{made, placed, moved, removed}
+use Rattle.drawing.specs.Edits.{made}
+use Rattle.drawing.specs.Stated.{editOf}
 use Rattle.pinmap.specs.Map.{readMap}
 use Rattle.journal.specs.Journal.{mostSeats}
 use Rattle.desk.specs.declared.Desk.{Desk}
-use Rattle.desk.specs.Calls.{Call, seatIn, opening, closing, placing, moving, removing, undoing, redoing, writing, wiring}
-use Rattle.desk.specs.Refusals.{Look, verdictOf}
+use Rattle.rows.specs.Calls.{Call, seatIn, opening, closing, making, undoing, redoing, asking}
+use Rattle.rows.specs.Refusals.{Look, rowsOf}
 use Rattle.desk.specs.Desk.{step}
 
 -- A seat is closed, or open with the job and the pins of its latest opening, its standing edits (the latest first) and its
@@ -101,17 +103,14 @@ redone (opened job first standing (e ∷ takenBack)) = opened job first (e ∷ s
 unfoldable pub next : Call → Past → Past
 next (opening s job map) t = opened job (readMap map job .pins) [] []
 next (closing s) t = closed
-next (placing s p at) t = anew (placed p at) t
-next (moving s p at) t = anew (moved (pinsIn t) p at) t
-next (removing s p) t = anew (removed (pinsIn t) p) t
+next (making s m) t = anew (editOf (pinsIn t) m) t
 next (undoing s) t = undone t
 next (redoing s) t = redone t
-next (writing s room) t = t
-next (wiring s room) t = t
+next (asking s a) t = t
 
 -- What a call is answered by the history.
 unfoldable pub answerIn : List Past → Call → Verdict
-answerIn h c = verdictOf (lookIn h (seatIn c)) c
+answerIn h c = firstOf (rowsOf (lookIn h (seatIn c)) c)
 
 -- An accepted call changes its own seat, and nothing else; a refused one changes nothing.
 unfoldable pub pastAfter : List Past → Call → List Past

@@ -1,2 +1,5 @@
 -- The history of calls.
 pub mod History
+pub mod AsPast
+pub mod Until
+pub mod Leaving

@@ -5,6 +5,6 @@ pub mod Counts
 pub mod Filled
 pub mod Turns
 pub mod Cut
-mod Passing
+pub mod Passing
 mod Dropping
 mod Worked

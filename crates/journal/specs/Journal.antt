@@ -9,7 +9,9 @@ use Rattle.basics.specs.Lists.{padded, valuesFrom}
 use Rattle.board.specs.Place.{middle}
 use Rattle.drawing.specs.declared.Pin.{Pin}
 use Rattle.drawing.specs.declared.Edit.{Edit}
-use Rattle.drawing.specs.Edits.{makeable, made, takeable, unmade, placed}
+use Rattle.drawing.specs.Pins.{holding}
+use Rattle.drawing.specs.declared.Edit.the-variants.{Placed}
+use Rattle.drawing.specs.Edits.{makeable, made, takeable, unmade}
 use Rattle.journal.specs.declared.Record.{Record}
 use Rattle.journal.specs.declared.Compacted.{Compacted}
 
@@ -23,7 +25,7 @@ mostSeats = 8
 
 -- The edit of a record that is not in use.
 abbrev pub noEdit : Edit
-noEdit = placed 0 middle
+noEdit = Placed 0 (holding middle)
 
 -- A record that is not in use.
 abbrev pub blank : Record

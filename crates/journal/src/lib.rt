@@ -1,14 +1,11 @@
-// The journal: the records of all seats, counting and finding a seat's own, dropping and appending, and whether a seat's edits can be redone and taken back.
-use board::PINS;
+// The journal: the records of all seats, counting and finding a seat's own, dropping and appending.
 use drawing::Edit;
-use drawing::Pin;
+use drawing::Held;
 ghost use mathlib.Core.Path.{_≡_};
 ghost use Prim.Native.Nat.{_<_, _≤_};
-ghost use mathlib.Core.Bool.{true};
 ghost use mathlib.Core.List.{reverse};
-ghost use lib.ListN.{drop, getD, length, set, take};
-ghost use Rattle.drawing.specs.Pins.{lawful};
-ghost use Rattle.journal.specs.Journal.{mostRecords, noEdit, blank, own, countsOf, kept, compacted, seated, makeableAll, takeableAll};
+ghost use lib.ListN.{getD, length, set, take};
+ghost use Rattle.journal.specs.Journal.{mostRecords, noEdit, blank, own, countsOf, kept, compacted, seated};
 
 // All seats share a journal of this many records.
 pub const RECORDS: usize = 256;
@@ -32,7 +29,10 @@ pub struct Compacted {
 fn no_edit() -> Edit
     ensures { λ r. ⌜ r ≡ noEdit ⌝ }
 {
-    drawing::edit_placing(0, board::middle())
+    let held = Held {
+        place: board::middle(),
+    };
+    Edit::Placed(0, held)
 }
 
 // A record that is not in use.
@@ -151,75 +151,6 @@ pub fn all_seated(journal: [Record; RECORDS], used: usize) -> bool
             i += 1;
         } else {
             return false;
-        }
-    }
-    true
-}
-
-// Whether the seat's taken-back edits, those after the first `standing`, can be made on these pins one after the other.
-pub fn can_redo_all(
-    pins: [Pin; PINS],
-    journal: [Record; RECORDS],
-    used: usize,
-    seat: usize,
-    standing: usize,
-) -> bool
-    requires { ⌜ used ≤ mostRecords ⌝ }
-    ensures { λ r. ⌜ r ≡ makeableAll pins (drop standing (own seat (take used journal))) ⌝ }
-{
-    let mut q = pins;
-    let mut skip = standing;
-    let mut i = 0;
-    while i < used {
-        let redone = journal[i];
-        i += 1;
-        if redone.seat == seat {
-            if 0 < skip {
-                skip -= 1;
-            } else {
-                let e = redone.edit;
-                if drawing::can_make(q, e) {
-                    let next = drawing::make(q, e);
-                    q = next;
-                } else {
-                    return false;
-                }
-            }
-        }
-    }
-    true
-}
-
-// Whether the seat's first `standing` edits of the `owned` that it has can be taken back from these pins, which keep the rules, the latest first.
-pub fn can_take_back_all(
-    pins: [Pin; PINS],
-    journal: [Record; RECORDS],
-    used: usize,
-    seat: usize,
-    owned: usize,
-    standing: usize,
-) -> bool
-    requires { ⌜ (used ≤ mostRecords) × (owned ≡ length (own seat (take used journal))) × (standing ≤ owned) × (lawful pins ≡ true) ⌝ }
-    ensures { λ r. ⌜ r ≡ takeableAll pins (reverse (take standing (own seat (take used journal)))) ⌝ }
-{
-    let mut q = pins;
-    let mut later = owned - standing;
-    let mut i = used;
-    while 0 < i {
-        i -= 1;
-        let undone = journal[i];
-        if undone.seat == seat {
-            if 0 < later {
-                later -= 1;
-            } else {
-                let e = undone.edit;
-                let former = drawing::taken_back(q, e);
-                if former.able {
-                    q = former.pins;
-                } else {
-                    return false;
-                }
-            }
         }
     }
     true

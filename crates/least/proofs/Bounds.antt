@@ -14,7 +14,7 @@ use Rattle.tree.specs.Trees.{mostRuns}
 use Rattle.copper.specs.declared.Tally.{Tally}
 use Rattle.copper.specs.Least.{lesserOf, best, isBent, firstTally, nextTally}
 use Rattle.least.specs.declared.Least.{Least}
-use Rattle.least.specs.Asking.{base, markAt, markOf, doubledIf, pinCost, choicesFrom, weighedFrom, leastFrom, sizeFrom, Modest}
+use Rattle.least.specs.Asking.{base, markAt, markOf, doubledIf, pinCost, choicesFrom, weighedFrom, costKept, leastKept, sizeFrom, Modest, mostKept}
 use Rattle.least.proofs.Reading.{mark-small}
 use Rattle.least.proofs.Modesty.{modest-first, modest-next, modest-owed}
 use Rattle.least.proofs.Stepping.{doubled-none, choices-sum, weighed-split}
@@ -57,9 +57,29 @@ module _ (at : ℕ → Place) (near : ℕ → ℕ) (favoured : Bool) (on-board :
           unfold choose in omega (arith, mark-small favoured false next, lesser-low b (markOf favoured next false + x + y) u)
       go false p q e f g = unfold choose in g
 
+-- Where no more than so much is kept for a run, a pin costs at most so much for each run to come, and what it owes itself.
+module _ (at : ℕ → Place) (near : ℕ → ℕ) (on-board : (i : ℕ) → inside (at i) ≡ true) (cost : ℕ → Bool → ℕ) (fits : (r : ℕ) (u : Bool) → cost r u ≤ mostKept) where
+  pub kept-most : (k i next : ℕ) (t : Tally) → Modest t → costKept at near cost k i next t ≤ k * mostKept + most
+  unfolding costKept
+  kept-most zero i next t m = omega (arith, modest-owed m)
+  kept-most (suc k) i next t m =
+      go (eqb (near next) i)
+      (kept-most k i (suc next) (nextTally at near t next false) (modest-next at near on-board t next false m))
+      (kept-most k i (suc next) t m)
+    where
+      b : Bool
+      b = isBent at near next
+
+      u : ℕ
+      u = cost next true + costKept at near cost k i (suc next) (nextTally at near t next true)
+
+      go : (h : Bool) {x y : ℕ} → x ≤ k * mostKept + most → y ≤ k * mostKept + most → choose h (lesserOf b (cost next false + x) u) y ≤ suc k * mostKept + most
+      go true {x = x} e f = unfold choose in omega (arith, fits next false, lesser-low b (cost next false + x) u)
+      go false e f = unfold choose in omega arith
+
 module _ (at : ℕ → Place) (near : ℕ → ℕ) where
   -- A bent run at most doubles the choices.
-  doubled-choices : (t : Bool) (k i next : ℕ) → choicesFrom at near k i next (doubledIf t 1) ≤ choicesFrom at near k i next 1 + choicesFrom at near k i next 1
+  pub doubled-choices : (t : Bool) (k i next : ℕ) → choicesFrom at near k i next (doubledIf t 1) ≤ choicesFrom at near k i next 1 + choicesFrom at near k i next 1
   unfolding doubledIf choose
   doubled-choices true k i next = omega (arith, choices-sum at near k i next 1 1)
   doubled-choices false k i next = omega arith
@@ -75,9 +95,9 @@ module _ (at : ℕ → Place) (near : ℕ → ℕ) where
       go false p q = unfold choose in omega (arith, pow-suc 2 k)
 
   -- At most as many choices as there are masks were weighed for what is found.
-  pub found-few : (favoured : Bool) (n i next : ℕ) (f : Least) (t : Tally) → n ≤ mostRuns → f ≡ leastFrom at near favoured n i next t → f .weighed ≤ base
-  unfolding leastFrom
-  found-few favoured n i next f t few e =
+  pub found-few : (cost : ℕ → Bool → ℕ) (n i next : ℕ) (f : Least) (t : Tally) → n ≤ mostRuns → f ≡ leastKept at near cost n i next t → f .weighed ≤ base
+  unfolding leastKept
+  found-few cost n i next f t few e =
       let c : f .weighed ≡ choicesFrom at near (n - next) i next 1 = ap (λ (z : Least). z .weighed) e in
       let p : 2 ^ (n - next) ≤ 2 ^ mostRuns = pow-mono (let k : n - next ≤ mostRuns = omega arith in k) in
       omega (arith, c, choices-most (n - next) i next, p)

@@ -1,4 +1,4 @@
--- A pin's own next run: the runs of other pins before it are passed by, which changes neither what weighing asks for nor what is found.
+-- A pin's own next run: the runs of other pins before it are passed by, which does not change what is found.
 -- From the laws of weighing one run on. Assumes nothing.
 use mathlib.Core.Path.{_≡_, refl, sym, _∙_}
 use mathlib.Core.Bool.{Bool, true, false}
@@ -8,12 +8,11 @@ use native.Mathlib.Omega.{arith}
 use lib.Dec.{eqb}
 use borrow.Author.Tests.{eqb-true, eqb-false, eq-eqb, ne-eqb}
 use Rattle.basics.specs.Tests.{choose}
+use Rattle.board.specs.declared.Place.{Place}
 use Rattle.copper.specs.declared.Tally.{Tally}
-use Rattle.least.specs.declared.Costs.{Costs}
-use Rattle.least.specs.declared.Reached.{Reached}
-use Rattle.least.specs.Asking.{pinPlace, nearPin, leastFrom, ownFrom, Weighable}
+use Rattle.least.specs.Asking.{leastKept, ownFrom}
 use Rattle.least.proofs.Stepping.{more, no-more}
-use Rattle.least.proofs.Weighing.{asks-past, found-past}
+use Rattle.least.proofs.Weighing.{found-past}
 
 module _ (near : ℕ → ℕ) (n i next : ℕ) where
   -- A run that leads on from the pin is the first from itself on ..
@@ -31,43 +30,40 @@ module _ (near : ℕ → ℕ) (n i next : ℕ) where
   unfolding ownFrom
   own-end l = rw (no-more n next l) refl
 
-module _ (tree : Reached) (costs : Costs) (i : ℕ) (t : Tally) where
   -- What holds of pin i's own next run, from `next` on.
-  pub record Own (next own : ℕ) : Type 0 where
+  pub record Own (own : ℕ) : Type 0 where
     pub on : next ≤ own
-    pub leads : own < tree .count → nearPin tree own ≡ i
-    pub asks : Weighable tree costs i own t
-    pub found :
-        leastFrom (pinPlace tree) (nearPin tree) (tree .favoured) (tree .count) i own t
-        ≡ leastFrom (pinPlace tree) (nearPin tree) (tree .favoured) (tree .count) i next t
+    pub leads : own < n → near own ≡ i
 
-  -- Where a run of another pin is passed by, it holds from that run on if it does from the next.
-  own-before : (next own : ℕ) → next < tree .count → (nearPin tree next ≡ i → ⊥) → Weighable tree costs i next t
-      → (Weighable tree costs i (suc next) t → Own (suc next) own) → Own next own
-  own-before next own l h w later =
-      let o : Own (suc next) own = later (rw (sym (add-one next)) (asks-past tree costs i next t w l h)) in
-      record {
-        on = omega (arith, o .on);
-        leads = o .leads;
-        asks = o .asks;
-        found = o .found ∙ rw (sym (add-one next)) (found-past tree costs i next t w l h);
-      }
+-- It holds of the first run that leads on among those to come.
+owned : (near : ℕ → ℕ) (n i k next : ℕ) → n - next ≡ k → Own near n i next (ownFrom near k i next)
+unfolding ownFrom
+owned near n i zero next e = record { on = omega arith; leads = λ l. absurd (omega arith) }
+owned near n i (suc k) next e = go (eqb (near next) i) refl (owned near n i k (suc next) (omega arith))
+  where
+    go : (b : Bool) → eqb (near next) i ≡ b → Own near n i (suc next) (ownFrom near k i (suc next)) → Own near n i next (choose b next (ownFrom near k i (suc next)))
+    go true q o = unfold choose in record { on = omega arith; leads = λ m. eqb-true (near next) i q }
+    go false q o = unfold choose in record { on = omega (arith, o .on); leads = o .leads }
 
-  -- It holds of the first run that leads on among those to come.
-  owned : (k next : ℕ) → tree .count - next ≡ k → Weighable tree costs i next t → Own next (ownFrom (nearPin tree) k i next)
+-- So it does of the number that is found.
+pub own-next : (near : ℕ → ℕ) (n i next own : ℕ) → own ≡ ownFrom near (n - next) i next → Own near n i next own
+own-next near n i next own e = rw e (owned near n i (n - next) next refl)
+
+module _ (at : ℕ → Place) (near : ℕ → ℕ) (cost : ℕ → Bool → ℕ) (n i : ℕ) (t : Tally) where
+  -- What is found from the first run that leads on is what is found from `next` on.
+  found-on : (k next : ℕ) → n - next ≡ k → leastKept at near cost n i (ownFrom near k i next) t ≡ leastKept at near cost n i next t
   unfolding ownFrom
-  owned zero next e w = record { on = omega arith; leads = λ l. absurd (omega arith); asks = w; found = refl }
-  owned (suc k) next e w = go (eqb (nearPin tree next) i) refl (owned k (suc next) (omega arith))
+  found-on zero next e = refl
+  found-on (suc k) next e = go (eqb (near next) i) refl (found-on k (suc next) (omega arith))
     where
-      l : next < tree .count
-      l = omega arith
+      past : (near next ≡ i → ⊥) → leastKept at near cost n i (suc next) t ≡ leastKept at near cost n i next t
+      past h = rw (sym (add-one next)) (found-past at near cost n i next t (omega arith) h)
 
-      go : (b : Bool) → eqb (nearPin tree next) i ≡ b
-          → (Weighable tree costs i (suc next) t → Own (suc next) (ownFrom (nearPin tree) k i (suc next)))
-          → Own next (choose b next (ownFrom (nearPin tree) k i (suc next)))
-      go true q later = unfold choose in record { on = omega arith; leads = λ m. eqb-true (nearPin tree next) i q; asks = w; found = refl }
-      go false q later = unfold choose in own-before next (ownFrom (nearPin tree) k i (suc next)) l (eqb-false (nearPin tree next) i q) w later
+      go : (b : Bool) → eqb (near next) i ≡ b → leastKept at near cost n i (ownFrom near k i (suc next)) t ≡ leastKept at near cost n i (suc next) t
+          → leastKept at near cost n i (choose b next (ownFrom near k i (suc next))) t ≡ leastKept at near cost n i next t
+      go true q later = unfold choose in refl
+      go false q later = unfold choose in later ∙ past (eqb-false (near next) i q)
 
-  -- So it does of the number that is found.
-  pub own-next : (next own : ℕ) → Weighable tree costs i next t → own ≡ ownFrom (nearPin tree) (tree .count - next) i next → Own next own
-  own-next next own w e = rw e (owned (tree .count - next) next refl w)
+  -- So it is from the number that is found.
+  pub own-found : (next own : ℕ) → own ≡ ownFrom near (n - next) i next → leastKept at near cost n i own t ≡ leastKept at near cost n i next t
+  own-found next own e = rw e (found-on (n - next) next refl)

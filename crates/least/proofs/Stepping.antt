@@ -1,18 +1,18 @@
 -- One run on: what pins cost, the choices weighed and the number of runs below a pin, as the runs from `next` on are gone through.
 -- Assumes nothing.
-use mathlib.Core.Path.{_≡_, refl}
+use mathlib.Core.Path.{_≡_, refl, _∙_}
 use mathlib.Core.Bool.{Bool, true, false}
 use Prim.Native.Nat.{ℕ, zero, suc, _+_, _-_, _*_, _≤_, _<_}
 use native.Mathlib.Numerals.{add-one}
 use native.Mathlib.Omega.{arith}
 use lib.Dec.{eqb}
-use borrow.Author.Tests.{eq-eqb, ne-eqb}
+use borrow.Author.Tests.{eqb-true, eq-eqb, ne-eqb}
 use Rattle.basics.specs.Tests.{choose}
 use Rattle.board.specs.declared.Place.{Place}
 use Rattle.copper.specs.declared.Tally.{Tally}
 use Rattle.copper.specs.Arms.{owed}
-use Rattle.copper.specs.Least.{lesserOf, best, isBent, nextTally}
-use Rattle.least.specs.Asking.{base, doubledIf, isBentInto, pinCost, pinBest, runBest, choicesFrom, weighedFrom, weighedBelow, sizeFrom}
+use Rattle.copper.specs.Least.{lesserOf, best, isBent, firstTally, nextTally}
+use Rattle.least.specs.Asking.{base, markOf, doubledIf, isBentInto, pinCost, pinBest, runBest, choicesFrom, weighedFrom, weighedBelow, costKept, sizeFrom}
 
 -- With one more run to come.
 pub more : (n next : ℕ) → next < n → n - next ≡ suc (n - (next + 1))
@@ -121,22 +121,67 @@ module _ (at : ℕ → Place) (near : ℕ → ℕ) where
       unfolding weighedFrom
       weighed-end = rw (no-more n next l)
 
-    module _ (favoured : Bool) (t : Tally) where
+    module _ (cost : ℕ → Bool → ℕ) (t : Tally) where
       -- With a run that leads on, the pin costs the lesser of what its shapes come to, each with the runs after it.
       pub cost-on : next < n → near next ≡ i
-          → pinCost at near favoured (n - next) i next t
+          → costKept at near cost (n - next) i next t
           ≡ lesserOf (isBent at near next)
-          (runBest at near favoured n next false + pinCost at near favoured (n - (next + 1)) i (next + 1) (nextTally at near t next false))
-          (runBest at near favoured n next true + pinCost at near favoured (n - (next + 1)) i (next + 1) (nextTally at near t next true))
-      unfolding pinCost best runBest pinBest choose
+          (cost next false + costKept at near cost (n - (next + 1)) i (next + 1) (nextTally at near t next false))
+          (cost next true + costKept at near cost (n - (next + 1)) i (next + 1) (nextTally at near t next true))
+      unfolding costKept choose
       cost-on l h = rw (more n next l, eq-eqb (near next) i h, add-one next)
 
       -- A run of another pin costs it nothing.
-      pub cost-past : next < n → (near next ≡ i → ⊥) → pinCost at near favoured (n - next) i next t ≡ pinCost at near favoured (n - (next + 1)) i (next + 1) t
-      unfolding pinCost best choose
+      pub cost-past : next < n → (near next ≡ i → ⊥) → costKept at near cost (n - next) i next t ≡ costKept at near cost (n - (next + 1)) i (next + 1) t
+      unfolding costKept choose
       cost-past l h = rw (more n next l, ne-eqb (near next) i h, add-one next)
 
       -- After the last run it costs what its arms owe.
-      pub cost-end : n ≤ next → pinCost at near favoured (n - next) i next t ≡ owed t * base
-      unfolding pinCost best
+      pub cost-end : n ≤ next → costKept at near cost (n - next) i next t ≡ owed t * base
+      unfolding costKept
       cost-end l = rw (no-more n next l)
+
+  -- Where what is kept for the runs that lead on from a pin is what they cost at least, the pin costs so much at least.
+  module _ (favoured : Bool) (n i : ℕ) (cost : ℕ → Bool → ℕ) where
+    pub kept-best : (k next : ℕ) (t : Tally) → n - next ≡ k
+        → ((r : ℕ) → next ≤ r → r < n → near r ≡ i → (u : Bool) → cost r u ≡ runBest at near favoured n r u)
+        → costKept at near cost k i next t ≡ pinCost at near favoured k i next t
+    unfolding costKept pinCost best
+    kept-best zero next t e known = refl
+    kept-best (suc k) next t e known =
+        go (eqb (near next) i) refl
+        (kept-best k (suc next) t (omega arith) later)
+        (kept-best k (suc next) (nextTally at near t next false) (omega arith) later)
+        (kept-best k (suc next) (nextTally at near t next true) (omega arith) later)
+      where
+        later : (r : ℕ) → suc next ≤ r → r < n → near r ≡ i → (u : Bool) → cost r u ≡ runBest at near favoured n r u
+        later r l = known r (omega arith)
+
+        far : (u : Bool) → runBest at near favoured n next u ≡ markOf favoured next u + pinCost at near favoured k (suc next) (suc next) (firstTally at near (suc next) u)
+        far u =
+            unfold runBest pinBest in
+            rw (let z : n - (next + 1) ≡ k = omega arith in z, add-one next)
+
+        go : (h : Bool) → eqb (near next) i ≡ h
+            → costKept at near cost k i (suc next) t ≡ pinCost at near favoured k i (suc next) t
+            → costKept at near cost k i (suc next) (nextTally at near t next false) ≡ pinCost at near favoured k i (suc next) (nextTally at near t next false)
+            → costKept at near cost k i (suc next) (nextTally at near t next true) ≡ pinCost at near favoured k i (suc next) (nextTally at near t next true)
+            → choose h
+            (lesserOf (isBent at near next)
+            (cost next false + costKept at near cost k i (suc next) (nextTally at near t next false))
+            (cost next true + costKept at near cost k i (suc next) (nextTally at near t next true)))
+            (costKept at near cost k i (suc next) t)
+            ≡ choose h
+            (lesserOf (isBent at near next)
+            (markOf favoured next false + pinCost at near favoured k (suc next) (suc next) (firstTally at near (suc next) false)
+            + pinCost at near favoured k i (suc next) (nextTally at near t next false))
+            (markOf favoured next true + pinCost at near favoured k (suc next) (suc next) (firstTally at near (suc next) true)
+            + pinCost at near favoured k i (suc next) (nextTally at near t next true)))
+            (pinCost at near favoured k i (suc next) t)
+        go true q past low up =
+            let lead : near next ≡ i = eqb-true (near next) i q in
+            let l : next < n = omega arith in
+            let cost-of : (u : Bool) → cost next u ≡ markOf favoured next u + pinCost at near favoured k (suc next) (suc next) (firstTally at near (suc next) u) =
+            λ u. known next (omega arith) l lead u ∙ far u in
+            rw (cost-of false, cost-of true, low, up, past)
+        go false q past low up = unfold choose in past

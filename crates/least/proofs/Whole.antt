@@ -2,10 +2,12 @@
 -- over its pins. From the law of least choices. Assumes that near pins are reached first.
 use mathlib.Core.Path.{_≡_, refl, ap}
 use mathlib.Core.Bool.{Bool, true, false, cond}
+use mathlib.Core.List.{List}
 use Prim.Native.Nat.{ℕ, zero, suc, _+_, _-_, _≤_, _<_}
 use native.Mathlib.Nat.{sub-zero}
 use native.Mathlib.Omega.{arith}
 use lib.Dec.{eqb}
+use lib.IntN.{ℤ}
 use Rattle.basics.specs.Tests.{choose}
 use Rattle.board.specs.declared.Place.{Place}
 use Rattle.tree.specs.Trees.{mostRuns}
@@ -13,7 +15,6 @@ use Rattle.copper.specs.Least.{best, isBent, firstTally}
 use Rattle.copper.proofs.Sums.{sumBelow, sum-same, sum-none}
 use Rattle.least.proofs.Choices.{shown, total, best-least, best-reached}
 use Rattle.least.proofs.Tallies.{leastOf}
-use Rattle.least.specs.declared.Reached.{Reached}
 use Rattle.least.specs.Asking.{base, nearPin, markOf, doubledIf, isBentInto, pinCost, pinBest, weighedFrom, weighedBelow, sizeFrom, Grown, Askable}
 
 -- As many ones as runs.
@@ -37,10 +38,9 @@ module _ (near : ℕ → ℕ) where
       omega (arith, size-is n 0 0, l, sum-ones n, sum-none (suc n) (λ i. 0) (λ i k. refl))
 
 -- So the first pin can be asked.
-pub askable : (tree : Reached) → Grown tree → Askable tree 0
-askable tree g =
-    let n = tree .count in
-    let z : sizeFrom (nearPin tree) n 0 0 ≤ mostRuns = omega (arith, size-most (nearPin tree) n (g .near-first), g .few) in
+pub askable : (xs ys : List ℤ) (nears : List ℕ) (n : ℕ) → Grown xs ys nears n → Askable xs ys nears n 0
+askable xs ys nears n g =
+    let z : sizeFrom (nearPin nears) n 0 0 ≤ mostRuns = omega (arith, size-most (nearPin nears) n (g .near-first), g .few) in
     record { grown = g; upto = omega arith; small = rw (sub-zero n) z }
 
 module _ (at : ℕ → Place) (near : ℕ → ℕ) where

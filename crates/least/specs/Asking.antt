@@ -4,33 +4,34 @@
 use mathlib.Core.Path.{_≡_}
 use mathlib.Core.Bool.{Bool, true, false, not}
 use Prim.Native.Nat.{ℕ, zero, suc, _+_, _-_, _*_, _^_, _≤_, _<_, min}
-use lib.IntN.{pos}
+use mathlib.Core.List.{List}
+use lib.IntN.{ℤ}
 use lib.Dec.{eqb}
 use lib.ListN.{getD}
 use Rattle.basics.specs.Tests.{choose}
 use Rattle.board.specs.declared.Place.{Place}
-use Rattle.board.specs.Place.{limit, inside, place}
+use Rattle.board.specs.Place.{limit, inside}
+use Rattle.board.specs.Spots.{placeIn}
 use Rattle.tree.specs.Trees.{mostRuns}
 use Rattle.copper.specs.declared.Tally.{Tally}
 use Rattle.copper.specs.Arms.{owed, Bounded}
-use Rattle.copper.specs.Least.{best, isBent, firstTally, nextTally}
+use Rattle.copper.specs.Least.{lesserOf, best, isBent, firstTally, nextTally}
 use Rattle.least.specs.declared.Asked.{Asked}
-use Rattle.least.specs.declared.Costs.{Costs}
 use Rattle.least.specs.declared.Ends.{Ends}
 use Rattle.least.specs.declared.Least.{Least}
-use Rattle.least.specs.declared.Reached.{Reached}
 
 -- More than any mask of 31 shapes: 2 ^ 31.
 abbrev pub base : ℕ
 base = 2147483648
 
--- Where a pin stands, in a tree as it was reached.
-abbrev pub pinPlace : Reached → ℕ → Place
-pinPlace tree i = place (getD (tree .xs) i (pos 0)) (getD (tree .ys) i (pos 0))
+-- The near pin of a run, told by those of all runs.
+abbrev pub nearPin : List ℕ → ℕ → ℕ
+nearPin near r = getD near r 0
 
--- The near pin of a run, in such a tree.
-abbrev pub nearPin : Reached → ℕ → ℕ
-nearPin tree r = getD (tree .near) r 0
+-- The cost that is kept for a run in this shape, false for lower and true for upper.
+abbrev pub kept : List ℕ → List ℕ → ℕ → Bool → ℕ
+kept lower upper r false = getD lower r 0
+kept lower upper r true = getD upper r 0
 
 -- Two shapes are not the same.
 abbrev pub differs : Bool → Bool → Bool
@@ -109,9 +110,28 @@ module _ (at : ℕ → Place) (near : ℕ → ℕ) where
   unfoldable pub askedRun : Bool → ℕ → ℕ → Asked
   askedRun favoured n r = record { lower = runBest favoured n r false; upper = runBest favoured n r true; weighed = weighedBelow n (r + 1) }
 
-  -- What is found at pin i, where it shows `tally` and the runs from `next` on are to come: its least cost, and how many choices are weighed at it.
-  unfoldable pub leastFrom : Bool → ℕ → ℕ → ℕ → Tally → Least
-  leastFrom favoured n i next tally = record { cost = pinCost favoured (n - next) i next tally; weighed = choicesFrom (n - next) i next 1 }
+  -- What pin i costs at least, where it shows `tally`, the k runs from `next` on are to come, and a run costs what is kept for its shape.
+  unfoldable pub costKept : (ℕ → Bool → ℕ) → ℕ → ℕ → ℕ → Tally → ℕ
+  costKept cost zero i next tally = owed tally * base
+  costKept cost (suc k) i next tally =
+      choose (eqb (near next) i)
+      (lesserOf (isBent at near next)
+      (cost next false + costKept cost k i (suc next) (nextTally at near tally next false))
+      (cost next true + costKept cost k i (suc next) (nextTally at near tally next true)))
+      (costKept cost k i (suc next) tally)
+
+  -- What is found so at pin i of a tree of n runs: its least cost, and how many choices are weighed at it.
+  unfoldable pub leastKept : (ℕ → Bool → ℕ) → ℕ → ℕ → ℕ → Tally → Least
+  leastKept cost n i next tally = record { cost = costKept cost (n - next) i next tally; weighed = choicesFrom (n - next) i next 1 }
+
+  -- What pin i answers so: its least cost for either shape of the run that reached it, and how many choices are weighed at it.
+  unfoldable pub askedKept : (ℕ → Bool → ℕ) → ℕ → ℕ → Asked
+  askedKept cost n i =
+      record {
+        lower = costKept cost (n - i) i i (firstTally at near i false);
+        upper = costKept cost (n - i) i i (firstTally at near i true);
+        weighed = choicesFrom (n - i) i i (doubledIf (isBentInto i) 1);
+      }
 
   -- What is found for a whole tree of n runs: the least cost of its first pin, and how many choices are weighed in all.
   unfoldable pub leastOfTree : Bool → ℕ → Least
@@ -133,36 +153,33 @@ abbrev pub Modest : Tally → Type 0
 Modest tally = Bounded (2 * limit) tally
 
 -- A tree of at most 31 runs, each from a pin that was reached before it, with all pins on the board.
-pub record Grown (tree : Reached) : Type 0 where
-  pub few : tree .count ≤ mostRuns
-  pub near-first : (r : ℕ) → r < tree .count → nearPin tree r ≤ r
-  pub on-board : (i : ℕ) → inside (pinPlace tree i) ≡ true
+pub record Grown (xs ys : List ℤ) (near : List ℕ) (count : ℕ) : Type 0 where
+  pub few : count ≤ mostRuns
+  pub near-first : (r : ℕ) → r < count → nearPin near r ≤ r
+  pub on-board : (i : ℕ) → inside (placeIn xs ys i) ≡ true
 
--- The costs that are kept for run r are its least costs in either shape.
-abbrev pub KnownAt : Reached → Costs → ℕ → Type 0
-KnownAt tree costs r =
-    (getD (costs .lower) r 0 ≡ runBest (pinPlace tree) (nearPin tree) (tree .favoured) (tree .count) r false)
-    × (getD (costs .upper) r 0 ≡ runBest (pinPlace tree) (nearPin tree) (tree .favoured) (tree .count) r true)
+-- So much, or less, is kept for a run: the costs of 31 runs, and what a pin owes, still fit a number together.
+abbrev pub mostKept : ℕ
+mostKept = 288230376151711744
 
--- They are kept for each run from `next` on that leads on from pin i.
-unfoldable pub Known : Reached → Costs → ℕ → ℕ → Type 0
-Known tree costs i next = (r : ℕ) → next ≤ r → r < tree .count → nearPin tree r ≡ i → KnownAt tree costs r
+-- What is kept for the runs is no more than that.
+unfoldable pub KeptFits : List ℕ → List ℕ → Type 0
+KeptFits lower upper = (r : ℕ) (u : Bool) → kept lower upper r u ≤ mostKept
 
--- What weighing demands: a grown tree, modest arms, the costs of the runs from `next` on that lead on from the pin, and at most 31 runs below it.
-pub record Weighable (tree : Reached) (costs : Costs) (i next : ℕ) (tally : Tally) : Type 0 where
-  pub grown : Grown tree
+-- What weighing demands: a grown tree, costs that fit, and modest arms.
+pub record Weighable (xs ys : List ℤ) (near lower upper : List ℕ) (count : ℕ) (tally : Tally) : Type 0 where
+  pub grown : Grown xs ys near count
+  pub fits : KeptFits lower upper
   pub modest : Modest tally
-  pub known : Known tree costs i next
-  pub small : sizeFrom (nearPin tree) (tree .count - next) i next ≤ mostRuns
+
+-- What a pin's answer demands: a grown tree, costs that fit, and a pin of the tree.
+pub record Answerable (xs ys : List ℤ) (near lower upper : List ℕ) (count i : ℕ) : Type 0 where
+  pub grown : Grown xs ys near count
+  pub fits : KeptFits lower upper
+  pub upto : i ≤ count
 
 -- What asking a pin demands: a grown tree, a pin of it, and at most 31 runs below the pin.
-pub record Askable (tree : Reached) (i : ℕ) : Type 0 where
-  pub grown : Grown tree
-  pub upto : i ≤ tree .count
-  pub small : sizeFrom (nearPin tree) (tree .count - i) i i ≤ mostRuns
-
--- All runs that lead on from pin i were asked: their costs are kept, and `weighed` choices were weighed at the pins below it.
-pub record Collected (tree : Reached) (costs : Costs) (weighed i : ℕ) : Type 0 where
-  pub ask : Askable tree i
-  pub known : Known tree costs i i
-  pub counted : weighed ≡ weighedFrom (pinPlace tree) (nearPin tree) (tree .count - i) i i 0
+pub record Askable (xs ys : List ℤ) (near : List ℕ) (count i : ℕ) : Type 0 where
+  pub grown : Grown xs ys near count
+  pub upto : i ≤ count
+  pub small : sizeFrom (nearPin near) (count - i) i i ≤ mostRuns

@@ -2,32 +2,18 @@
 // Pins are numbered by when they were reached: run r reaches pin r + 1 from pin near[r]. A shape is a bool: false is lower, true is upper.
 use board::PINS;
 use board::Place;
+use board::spots::place_in;
 use copper::Tally;
 use tree::RUNS;
 ghost use mathlib.Core.Path.{_≡_};
-ghost use Prim.Native.Nat.{_+_, _-_, _≤_, _<_, min};
-ghost use Rattle.board.specs.Spots.{mostPins};
+ghost use Prim.Native.Nat.{_+_, _-_, _≤_, _<_};
+ghost use Rattle.board.specs.Spots.{mostPins, placeIn};
 ghost use Rattle.tree.specs.Trees.{mostRuns};
-ghost use Rattle.least.specs.Asking.{base, pinPlace, nearPin, markOf, endsOf, isBentInto, owedAlone, withRun, lesserFound, askedPin, askedRun, leastFrom, leastOfTree, ownFrom, Modest, Grown, Weighable, Collected, Askable};
+ghost use Rattle.least.specs.Asking.{base, nearPin, kept, markOf, endsOf, isBentInto, owedAlone, withRun, lesserFound, askedKept, askedPin, askedRun, leastKept, leastOfTree, ownFrom, Modest, Grown, Weighable, Answerable, Askable};
 ghost use Rattle.copper.specs.Least.{isBent, firstTally, nextTally};
 
 // More than any mask of 31 shapes: 2 ^ 31.
 pub const BASE: u64 = 2147483648;
-
-// A tree as it was reached: where its pins stand, the near pins of its runs, how many runs there are, and the shape that is favoured.
-pub struct Reached {
-    pub xs: [i32; PINS],
-    pub ys: [i32; PINS],
-    pub near: [usize; RUNS],
-    pub count: usize,
-    pub favoured: bool,
-}
-
-// What the runs that were asked answered, by run number: their costs in either shape.
-pub struct Costs {
-    pub lower: [u64; RUNS],
-    pub upper: [u64; RUNS],
-}
 
 // What a pin, or a run, answers: the least cost for either shape, and the choices that were weighed for it.
 pub struct Asked {
@@ -48,45 +34,44 @@ pub struct Ends {
     pub far: Place,
 }
 
-// Where a pin stands.
-fn pin_place(tree: Reached, pin: usize) -> Place
-    requires { ⌜ pin < mostPins ⌝ }
-    ensures { λ r. ⌜ r ≡ pinPlace tree pin ⌝ }
-{
-    Place {
-        x: tree.xs[pin],
-        y: tree.ys[pin],
-    }
+// Where weighing stands: at a pin, with the runs from number `run` on to come, of so many in all.
+pub struct Below {
+    pub pin: usize,
+    pub run: usize,
+    pub count: usize,
 }
 
 // The ends of a run.
-fn ends_of(tree: Reached, run: usize) -> Ends
-    requires { ⌜ (run < mostRuns) × (nearPin tree run < mostPins) ⌝ }
-    ensures { λ r. ⌜ r ≡ endsOf (pinPlace tree) (nearPin tree) run ⌝ }
+fn ends_of(xs: &[i32; PINS], ys: &[i32; PINS], near: &[usize; RUNS], run: usize) -> Ends
+    requires { ⌜ (run < mostRuns) × (nearPin (now near) run < mostPins) ⌝ }
+    ensures { λ r. ⌜ r ≡ endsOf (placeIn (now (xs .entry)) (now (ys .entry))) (nearPin (now (near .entry))) run ⌝ }
 {
-    let near = pin_place(tree, tree.near[run]);
-    let far = pin_place(tree, run + 1);
-    Ends { near, far }
+    let from = place_in(xs, ys, near[run]);
+    let to = place_in(xs, ys, run + 1);
+    Ends {
+        near: from,
+        far: to,
+    }
 }
 
 // Whether a run is bent.
-fn is_bent(tree: Reached, run: usize) -> bool
-    requires { ⌜ (run < mostRuns) × (nearPin tree run < mostPins) ⌝ }
-    ensures { λ r. ⌜ r ≡ isBent (pinPlace tree) (nearPin tree) run ⌝ }
+fn is_bent(xs: &[i32; PINS], ys: &[i32; PINS], near: &[usize; RUNS], run: usize) -> bool
+    requires { ⌜ (run < mostRuns) × (nearPin (now near) run < mostPins) ⌝ }
+    ensures { λ r. ⌜ r ≡ isBent (placeIn (now (xs .entry)) (now (ys .entry))) (nearPin (now (near .entry))) run ⌝ }
 {
-    let ends = ends_of(tree, run);
+    let ends = ends_of(xs, ys, near, run);
     !copper::is_straight(ends.near, ends.far)
 }
 
 // Whether the run that reached a pin is bent.
-fn is_bent_into(tree: Reached, pin: usize) -> bool
-    requires { ⌜ (pin < mostPins) × ((pin ≡ 0 → ⊥) → nearPin tree (pin - 1) < mostPins) ⌝ }
-    ensures { λ r. ⌜ r ≡ isBentInto (pinPlace tree) (nearPin tree) pin ⌝ }
+fn is_bent_into(xs: &[i32; PINS], ys: &[i32; PINS], near: &[usize; RUNS], pin: usize) -> bool
+    requires { ⌜ (pin < mostPins) × ((pin ≡ 0 → ⊥) → nearPin (now near) (pin - 1) < mostPins) ⌝ }
+    ensures { λ r. ⌜ r ≡ isBentInto (placeIn (now (xs .entry)) (now (ys .entry))) (nearPin (now (near .entry))) pin ⌝ }
 {
     if pin == 0 {
         return false;
     }
-    is_bent(tree, pin - 1)
+    is_bent(xs, ys, near, pin - 1)
 }
 
 // The mark of a shape in the mask of shapes.
@@ -101,23 +86,36 @@ fn mark(favoured: bool, run: usize, upper: bool) -> u64
 }
 
 // What a pin shows before any run leads on.
-fn first_tally(tree: Reached, pin: usize, upper: bool) -> Tally
-    requires { ⌜ (pin < mostPins) × ((pin ≡ 0 → ⊥) → nearPin tree (pin - 1) < mostPins) ⌝ }
-    ensures { λ r. ⌜ r ≡ firstTally (pinPlace tree) (nearPin tree) pin upper ⌝ }
+fn first_tally(
+    xs: &[i32; PINS],
+    ys: &[i32; PINS],
+    near: &[usize; RUNS],
+    pin: usize,
+    upper: bool,
+) -> Tally
+    requires { ⌜ (pin < mostPins) × ((pin ≡ 0 → ⊥) → nearPin (now near) (pin - 1) < mostPins) ⌝ }
+    ensures { λ r. ⌜ r ≡ firstTally (placeIn (now (xs .entry)) (now (ys .entry))) (nearPin (now (near .entry))) pin upper ⌝ }
 {
     if pin == 0 {
         return copper::no_tally();
     }
-    let ends = ends_of(tree, pin - 1);
+    let ends = ends_of(xs, ys, near, pin - 1);
     copper::reached_by(upper, ends.near, ends.far)
 }
 
 // What a pin shows when a run leads on too.
-fn next_tally(tree: Reached, tally: Tally, run: usize, upper: bool) -> Tally
-    requires { ⌜ (run < mostRuns) × (nearPin tree run < mostPins) ⌝ }
-    ensures { λ r. ⌜ r ≡ nextTally (pinPlace tree) (nearPin tree) tally run upper ⌝ }
+fn next_tally(
+    xs: &[i32; PINS],
+    ys: &[i32; PINS],
+    near: &[usize; RUNS],
+    tally: Tally,
+    run: usize,
+    upper: bool,
+) -> Tally
+    requires { ⌜ (run < mostRuns) × (nearPin (now near) run < mostPins) ⌝ }
+    ensures { λ r. ⌜ r ≡ nextTally (placeIn (now (xs .entry)) (now (ys .entry))) (nearPin (now (near .entry))) tally run upper ⌝ }
 {
-    let ends = ends_of(tree, run);
+    let ends = ends_of(xs, ys, near, run);
     copper::leading_on(tally, upper, ends.near, ends.far)
 }
 
@@ -144,35 +142,32 @@ fn with_run(asked: u64, rest: Least) -> Least
     }
 }
 
-// The smaller of two costs.
-fn smaller(a: u64, b: u64) -> u64
-    ensures { λ r. ⌜ r ≡ min a b ⌝ }
-{
-    if b < a { b } else { a }
-}
-
 // The lesser of what is found for either shape; the choices of both were weighed.
 fn lesser_found(lower: Least, upper: Least) -> Least
     requires { ⌜ (lower .weighed ≤ base) × (upper .weighed ≤ base) ⌝ }
     ensures { λ r. ⌜ r ≡ lesserFound lower upper ⌝ }
 {
-    let first = lower.weighed;
-    let second = upper.weighed;
-    let cost = smaller(lower.cost, upper.cost);
+    let weighed = lower.weighed + upper.weighed;
+    if upper.cost < lower.cost {
+        return Least {
+            cost: upper.cost,
+            weighed,
+        };
+    }
     Least {
-        cost,
-        weighed: first + second,
+        cost: lower.cost,
+        weighed,
     }
 }
 
 // The first run from number `run` on that leads on from a pin; the number after the last where there is none.
-fn own_from(tree: Reached, pin: usize, run: usize) -> usize
-    requires { ⌜ tree .count ≤ mostRuns ⌝ }
-    ensures { λ r. ⌜ r ≡ ownFrom (nearPin tree) (tree .count - run) pin run ⌝ }
+fn own_from(near: &[usize; RUNS], count: usize, pin: usize, run: usize) -> usize
+    requires { ⌜ count ≤ mostRuns ⌝ }
+    ensures { λ r. ⌜ r ≡ ownFrom (nearPin (now (near .entry))) (count - run) pin run ⌝ }
 {
     let mut at = run;
-    while at < tree.count {
-        if tree.near[at] == pin {
+    while at < count {
+        if near[at] == pin {
             return at;
         }
         at += 1;
@@ -180,78 +175,122 @@ fn own_from(tree: Reached, pin: usize, run: usize) -> usize
     at
 }
 
-// What a pin costs with all below it, where it shows `tally` and the runs from `run` on are to come: every choice of their shapes is weighed.
-fn weigh(tree: Reached, costs: Costs, pin: usize, run: usize, tally: Tally) -> Least
-    requires { ⌜ Weighable tree costs pin run tally ⌝ }
-    ensures { λ r. ⌜ r ≡ leastFrom (pinPlace tree) (nearPin tree) (tree .favoured) (tree .count) pin run tally ⌝ }
+// What a pin costs with all below it, where it shows `tally` and runs cost what is kept for them: every choice of the shapes to come is weighed.
+fn weigh(
+    xs: &[i32; PINS],
+    ys: &[i32; PINS],
+    near: &[usize; RUNS],
+    lower: &[u64; RUNS],
+    upper: &[u64; RUNS],
+    below: Below,
+    tally: Tally,
+) -> Least
+    requires { ⌜ Weighable (now xs) (now ys) (now near) (now lower) (now upper) (below .count) tally ⌝ }
+    ensures { λ r. ⌜ r ≡ leastKept (placeIn (now (xs .entry)) (now (ys .entry))) (nearPin (now (near .entry))) (kept (now (lower .entry)) (now (upper .entry))) (below .count) (below .pin) (below .run) tally ⌝ }
 {
-    let own = own_from(tree, pin, run);
-    if tree.count <= own {
+    let own = own_from(near, below.count, below.pin, below.run);
+    if below.count <= own {
         return owed_alone(tally);
     }
-    let next = own + 1;
-    let low = next_tally(tree, tally, own, false);
-    let lower = with_run(costs.lower[own], weigh(tree, costs, pin, next, low));
-    if !is_bent(tree, own) {
-        return lower;
+    let next = Below {
+        pin: below.pin,
+        run: own + 1,
+        count: below.count,
+    };
+    let low = next_tally(xs, ys, near, tally, own, false);
+    let in_lower = with_run(lower[own], weigh(xs, ys, near, lower, upper, next, low));
+    if !is_bent(xs, ys, near, own) {
+        return in_lower;
     }
-    let up = next_tally(tree, tally, own, true);
-    let upper = with_run(costs.upper[own], weigh(tree, costs, pin, next, up));
-    lesser_found(lower, upper)
+    let up = next_tally(xs, ys, near, tally, own, true);
+    let in_upper = with_run(upper[own], weigh(xs, ys, near, lower, upper, next, up));
+    lesser_found(in_lower, in_upper)
 }
 
 // What a pin answers once its runs were asked: every choice of their shapes is weighed, for either shape of the run that reached the pin.
-fn pin_answer(tree: Reached, costs: Costs, weighed: u64, pin: usize) -> Asked
-    requires { ⌜ Collected tree costs weighed pin ⌝ }
-    ensures { λ r. ⌜ r ≡ askedPin (pinPlace tree) (nearPin tree) (tree .favoured) (tree .count) pin ⌝ }
+fn pin_answer(
+    xs: &[i32; PINS],
+    ys: &[i32; PINS],
+    near: &[usize; RUNS],
+    lower: &[u64; RUNS],
+    upper: &[u64; RUNS],
+    count: usize,
+    pin: usize,
+) -> Asked
+    requires { ⌜ Answerable (now xs) (now ys) (now near) (now lower) (now upper) count pin ⌝ }
+    ensures { λ r. ⌜ r ≡ askedKept (placeIn (now (xs .entry)) (now (ys .entry))) (nearPin (now (near .entry))) (kept (now (lower .entry)) (now (upper .entry))) count pin ⌝ }
 {
-    let low = first_tally(tree, pin, false);
-    let below = weigh(tree, costs, pin, pin, low);
-    if !is_bent_into(tree, pin) {
+    let below = Below {
+        pin,
+        run: pin,
+        count,
+    };
+    let low = first_tally(xs, ys, near, pin, false);
+    let in_lower = weigh(xs, ys, near, lower, upper, below, low);
+    if !is_bent_into(xs, ys, near, pin) {
         return Asked {
-            lower: below.cost,
-            upper: below.cost,
-            weighed: weighed + below.weighed,
+            lower: in_lower.cost,
+            upper: in_lower.cost,
+            weighed: in_lower.weighed,
         };
     }
-    let up = first_tally(tree, pin, true);
-    let above = weigh(tree, costs, pin, pin, up);
+    let up = first_tally(xs, ys, near, pin, true);
+    let in_upper = weigh(xs, ys, near, lower, upper, below, up);
     Asked {
-        lower: below.cost,
-        upper: above.cost,
-        weighed: weighed + below.weighed + above.weighed,
+        lower: in_lower.cost,
+        upper: in_upper.cost,
+        weighed: in_lower.weighed + in_upper.weighed,
     }
 }
 
 // What a pin costs, for either shape of the run that reached it: the runs that lead on from it are asked once each.
-fn pin_best(tree: Reached, pin: usize) -> Asked
-    requires { ⌜ Askable tree pin ⌝ }
-    ensures { λ r. ⌜ r ≡ askedPin (pinPlace tree) (nearPin tree) (tree .favoured) (tree .count) pin ⌝ }
+fn pin_best(
+    xs: &[i32; PINS],
+    ys: &[i32; PINS],
+    near: &[usize; RUNS],
+    count: usize,
+    favoured: bool,
+    pin: usize,
+) -> Asked
+    requires { ⌜ Askable (now xs) (now ys) (now near) count pin ⌝ }
+    ensures { λ r. ⌜ r ≡ askedPin (placeIn (now (xs .entry)) (now (ys .entry))) (nearPin (now (near .entry))) favoured count pin ⌝ }
 {
     let mut lower = [0u64; RUNS];
     let mut upper = [0u64; RUNS];
     let mut weighed = 0u64;
     let mut run = pin;
-    while run < tree.count {
-        if tree.near[run] == pin {
-            let asked = run_best(tree, run);
+    while run < count {
+        if near[run] == pin {
+            let asked = run_best(xs, ys, near, count, favoured, run);
             lower[run] = asked.lower;
             upper[run] = asked.upper;
             weighed += asked.weighed;
         }
         run += 1;
     }
-    pin_answer(tree, Costs { lower, upper }, weighed, pin)
+    let here = pin_answer(xs, ys, near, &lower, &upper, count, pin);
+    Asked {
+        lower: here.lower,
+        upper: here.upper,
+        weighed: weighed + here.weighed,
+    }
 }
 
 // What a run costs in either shape: its mark, and what the pin at its far end costs.
-fn run_best(tree: Reached, run: usize) -> Asked
-    requires { ⌜ Askable tree (run + 1) ⌝ }
-    ensures { λ r. ⌜ r ≡ askedRun (pinPlace tree) (nearPin tree) (tree .favoured) (tree .count) run ⌝ }
+fn run_best(
+    xs: &[i32; PINS],
+    ys: &[i32; PINS],
+    near: &[usize; RUNS],
+    count: usize,
+    favoured: bool,
+    run: usize,
+) -> Asked
+    requires { ⌜ Askable (now xs) (now ys) (now near) count (run + 1) ⌝ }
+    ensures { λ r. ⌜ r ≡ askedRun (placeIn (now (xs .entry)) (now (ys .entry))) (nearPin (now (near .entry))) favoured count run ⌝ }
 {
-    let far = pin_best(tree, run + 1);
-    let low = mark(tree.favoured, run, false);
-    let up = mark(tree.favoured, run, true);
+    let far = pin_best(xs, ys, near, count, favoured, run + 1);
+    let low = mark(favoured, run, false);
+    let up = mark(favoured, run, true);
     Asked {
         lower: low + far.lower,
         upper: up + far.upper,
@@ -260,11 +299,17 @@ fn run_best(tree: Reached, run: usize) -> Asked
 }
 
 // What the shapes of a whole tree cost at least, and the choices that are weighed to find it.
-pub fn least_cost(tree: Reached) -> Least
-    requires { ⌜ Grown tree ⌝ }
-    ensures { λ r. ⌜ r ≡ leastOfTree (pinPlace tree) (nearPin tree) (tree .favoured) (tree .count) ⌝ }
+pub fn least_cost(
+    xs: &[i32; PINS],
+    ys: &[i32; PINS],
+    near: &[usize; RUNS],
+    count: usize,
+    favoured: bool,
+) -> Least
+    requires { ⌜ Grown (now xs) (now ys) (now near) count ⌝ }
+    ensures { λ r. ⌜ r ≡ leastOfTree (placeIn (now (xs .entry)) (now (ys .entry))) (nearPin (now (near .entry))) favoured count ⌝ }
 {
-    let asked = pin_best(tree, 0);
+    let asked = pin_best(xs, ys, near, count, favoured, 0);
     Least {
         cost: asked.lower,
         weighed: asked.weighed,

@@ -4,28 +4,25 @@ use mathlib.Core.Bool.{Bool, true, false}
 use mathlib.Core.List.{List, [], _∷_}
 use Prim.Native.Nat.{ℕ, _*_, _≤_, zero-le}
 use native.Mathlib.Omega.{arith}
-use lib.Dec.{ltb}
 use lib.ListN.{length, length-append}
 use borrow.Author.Tests.{ltb-false}
 use Rattle.basics.specs.Tests.{choose}
 use Rattle.refusal.specs.Refusals.{accepted}
 use Rattle.refusal.specs.declared.Verdict.{Verdict}
-use Rattle.refusal.specs.declared.Verdict.the-variants.{NoPins, BoxesMeet, RoomTooSmall}
-use Rattle.refusal.proofs.Rows.{passed}
+use Rattle.refusal.specs.Rows.{firstOf, NoneHolds}
+use Rattle.refusal.proofs.Rows.{none-holds}
 use Rattle.board.specs.declared.Spot.{Spot}
 use Rattle.board.specs.Spots.{mostPins}
 use Rattle.tree.specs.declared.Run.{Run}
-use Rattle.tree.specs.Growth.{pinsOf, runsOf}
-use Rattle.tree.specs.Boxes.{boxesMeet}
-use Rattle.tree.specs.Trees.{none}
+use Rattle.tree.specs.Growth.{runsOf}
 use Rattle.tree.proofs.Answer.{runs-few}
 use Rattle.copper.specs.declared.Shape.{Shape}
 use Rattle.copper.specs.Shapes.{legsOf}
 use Rattle.wiring.specs.declared.Laid.{Laid}
 use Rattle.wiring.specs.Choices.{legsOfChoice, nearEnd, farEnd, bestChoice}
-use Rattle.wiring.specs.Answer.{mostLegs, turnedAway, answerWith, wiringVerdict, wiringWith, wiringFavouring, wiringOf}
+use Rattle.wiring.specs.Answer.{mostLegs, turnedAway, answerWith, wiringRows, wiringWith, wiringFavouring, wiringOf}
 use Rattle.wiring.proofs.Filling.{legs-many, leg-small}
-use Rattle.wiring.proofs.Refusing.{legsNeeded}
+use Rattle.wiring.proofs.Refusing.{wiring-apart}
 
 -- ---- at most two legs a run
 -- The legs of a choice are at most twice as many as the runs.
@@ -44,13 +41,11 @@ module _ (feed : List Spot) (shapes : List Shape) (room : ℕ) where
   runs = runsOf feed
 
   -- An accepted wiring has room for its legs.
-  pub room-kept : accepted (wiringVerdict feed shapes room) ≡ true → length (legsOfChoice feed runs shapes) ≤ room
-  unfolding wiringVerdict accepted
+  pub room-kept : accepted (firstOf (wiringRows feed shapes room)) ≡ true → length (legsOfChoice feed runs shapes) ≤ room
+  unfolding NoneHolds
   room-kept e =
-      let p = passed (none (pinsOf feed)) NoPins _ refl e in
-      let q = passed (boxesMeet feed runs) BoxesMeet _ refl (p .1) in
-      let r = passed (ltb room (length (legsOfChoice feed runs shapes))) RoomTooSmall _ refl (q .1) in
-      ltb-false room (length (legsOfChoice feed runs shapes)) (r .0)
+      let n = none-holds (wiringRows feed shapes room) (wiring-apart feed shapes room) e in
+      ltb-false room (length (legsOfChoice feed runs shapes)) (n .1 .1 .0)
 
 -- The legs of an answer are at most 62, and at most the room.
 abbrev pub Fits : ℕ → Laid → Type 0
@@ -62,9 +57,9 @@ unfolding choose turnedAway
 fits-either true v room l h = h refl
 fits-either false v room l h = (zero-le, zero-le)
 
--- No feed needs more than 62 legs.
-pub needed-few : (feed : List Spot) → length feed ≡ mostPins → length (legsNeeded feed) ≤ mostLegs
-needed-few feed full = omega (arith, choice-few feed (runsOf feed) (bestChoice false feed (runsOf feed)), runs-few feed full)
+-- No feed needs more than 62 legs, whatever its shapes.
+pub needed-few : (feed : List Spot) (shapes : List Shape) → length feed ≡ mostPins → length (legsOfChoice feed (runsOf feed) shapes) ≤ mostLegs
+needed-few feed shapes full = omega (arith, choice-few feed (runsOf feed) shapes, runs-few feed full)
 
 -- The legs of a wiring are at most 62, and at most the room.
 pub wiring-fits : (feed : List Spot) (room : ℕ) → length feed ≡ mostPins → Fits room (wiringOf feed room)
@@ -72,5 +67,5 @@ unfolding wiringOf wiringFavouring wiringWith answerWith
 wiring-fits feed room full =
     let runs = runsOf feed in
     let shapes = bestChoice false feed runs in
-    let v = wiringVerdict feed shapes room in
-    fits-either (accepted v) v room (answerWith feed shapes) (λ e. (needed-few feed full, room-kept feed shapes room e))
+    let v = firstOf (wiringRows feed shapes room) in
+    fits-either (accepted v) v room (answerWith feed shapes) (λ e. (needed-few feed shapes full, room-kept feed shapes room e))

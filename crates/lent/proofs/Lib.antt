@@ -2,3 +2,4 @@
 pub mod Filling
 pub mod Fitting
 pub mod Untouched
+pub mod Demand

@@ -5,6 +5,7 @@ use mathlib.Core.List.{List}
 use Prim.Native.Nat.{ℕ}
 use Rattle.basics.specs.Tests.{choose}
 use Rattle.refusal.specs.Refusals.{accepted}
+use Rattle.refusal.specs.Rows.{firstOf}
 use Rattle.refusal.specs.declared.Verdict.{Verdict}
 use Rattle.board.specs.declared.Spot.{Spot}
 use Rattle.tree.specs.Growth.{runsOf}
@@ -12,7 +13,7 @@ use Rattle.copper.specs.declared.Shape.{Shape}
 use Rattle.copper.specs.declared.Leg.{Leg}
 use Rattle.wiring.specs.declared.Laid.{Laid}
 use Rattle.wiring.specs.Choices.{bestChoice}
-use Rattle.wiring.specs.Answer.{answerWith, turnedAway, wiringVerdict, wiringWith, wiringFavouring, wiringOf}
+use Rattle.wiring.specs.Answer.{answerWith, turnedAway, wiringRows, wiringWith, wiringFavouring, wiringOf}
 use Rattle.lent.specs.Lent.{filledWith}
 
 -- An answer that is refused is its verdict and nothing else.
@@ -35,7 +36,7 @@ pub wiring-turned : (feed : List Spot) (room : ℕ) → Alone (wiringOf feed roo
 unfolding wiringOf wiringFavouring wiringWith
 wiring-turned feed room =
     let shapes = bestChoice false feed (runsOf feed) in
-    let v = wiringVerdict feed shapes room in
+    let v = firstOf (wiringRows feed shapes room) in
     turned-by (accepted v) v (answerWith feed shapes) (answer-given feed shapes)
 
 -- Such an answer fills nothing.

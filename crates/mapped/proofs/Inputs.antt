@@ -11,15 +11,16 @@ use lib.ListN.{length, take}
 use lib.Seq.{take-all, length-take-le}
 use borrow.Author.Tests.{lt-ltb, eqb-true}
 use Rattle.basics.specs.Tests.{both, either, choose, anyOf, eachOf, noTwo}
-use Rattle.refusal.specs.Refusals.{accepted, turn}
+use Rattle.refusal.specs.Refusals.{accepted}
+use Rattle.refusal.specs.Rows.{firstOf}
 use Rattle.refusal.specs.declared.Verdict.the-variants.{JobZero, MapLength}
 use Rattle.board.specs.Spots.{spotsTooNear, within}
 use Rattle.drawing.specs.Pins.{lawful, spotOf, spotsOf}
 use Rattle.tree.specs.Growth.{keptIf, pinsFrom, pinsOf}
-use Rattle.wiring.specs.Answer.{turnedAway, wiringVerdict, wiringWith, wiringFavouring, wiringOf}
+use Rattle.wiring.specs.Answer.{turnedAway, wiringWith, wiringFavouring, wiringOf}
 use Rattle.journal.specs.Journal.{own, filled, inTurn}
-use Rattle.pinmap.specs.Map.{mostBytes, readFrom, wrongLength, readMap}
-use Rattle.desk.specs.Refusals.{sameJob, turnedOpening, turnedClosing, verdictOf}
+use Rattle.pinmap.specs.Map.{mostBytes, recordsIn, withPinsOf, rowsFrom, wrongLength, readMap}
+use Rattle.seats.specs.Seats.{sameJob}
 use Rattle.desk.specs.Desk.{jobOf, soundOpen, soundClosed, soundSeat, soundTo, sound, effect, answerOf, step, emptyDesk, wiredOf}
 use Rattle.text.specs.Text.{text}
 use Rattle.text.specs.Digits.{digits}
@@ -31,19 +32,19 @@ use Rattle.mapped.proofs.Opening.{opened, printed-refused}
 
 -- Empty input is a drawing without pins: nothing to wire.
 pub empty-input : mapAnswer [] ≡ text "refused 17\n"
-unfolding jobOfMap openedWith wiredWith mapAnswer mapText toldLine carriedText digits wiredOf step effect answerOf verdictOf turnedOpening turnedClosing sameJob
-    sound soundTo soundSeat soundOpen soundClosed jobOf emptyDesk readMap wrongLength readFrom own filled inTurn spotsTooNear within lawful spotOf spotsOf
-    wiringOf wiringFavouring wiringWith wiringVerdict turnedAway pinsOf pinsFrom keptIf accepted turn both either choose anyOf noTwo eachOf
+unfolding jobOfMap openedWith wiredWith mapAnswer mapText toldLine carriedText digits wiredOf step effect answerOf sameJob
+    sound soundTo soundSeat soundOpen soundClosed jobOf emptyDesk readMap wrongLength rowsFrom recordsIn withPinsOf own filled inTurn spotsTooNear within lawful spotOf spotsOf
+    wiringOf wiringFavouring wiringWith turnedAway pinsOf pinsFrom keptIf accepted firstOf both either choose anyOf noTwo eachOf
 empty-input = refl
 
 -- A single byte is 13.
 pub single-byte : (b : ℕ) → mapAnswer (b ∷ []) ≡ text "refused 13\n"
-unfolding jobOfMap readMap wrongLength accepted turn either choose toldLine carriedText digits
+unfolding jobOfMap wrongLength accepted firstOf either choose toldLine carriedText digits
 single-byte b = printed-refused (b ∷ []) {v = MapLength} (opened (b ∷ [])) refl
 
 -- Job 0 is 4, whatever follows.
 job-zero : (input : List ℕ) → jobOfMap input ≡ 0 → mapAnswer input ≡ verdictLine JobZero
-unfolding turn choose accepted
+unfolding firstOf choose accepted
 job-zero input e = printed-refused input {v = JobZero} (opened input ∙ rw e) refl
 
 -- Two bytes of zero at the front give 4 at any length from two up, before 13.
@@ -53,7 +54,7 @@ two-zeros rest = job-zero (0 ∷ 0 ∷ rest) refl
 
 -- Under any other job more than 384 bytes are 13.
 pub above-384 : (input : List ℕ) → eqb (jobOfMap input) 0 ≡ false → mostBytes < length input → mapAnswer input ≡ text "refused 13\n"
-unfolding turn choose either accepted wrongLength readMap toldLine carriedText digits
+unfolding firstOf choose either accepted wrongLength toldLine carriedText digits
 above-384 input e h = printed-refused input {v = MapLength} (opened input ∙ rw (e, lt-ltb mostBytes (length input) h)) refl
 
 -- The job is read from what is kept.

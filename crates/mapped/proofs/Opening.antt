@@ -1,20 +1,21 @@
 -- What the program's calls hand back: how a map is opened, and what is printed where it is refused and where it is wired. Assumes nothing.
 use mathlib.Core.Path.{_≡_, refl, sym, _∙_, ap}
 use mathlib.Core.Bool.{Bool, true, false}
-use mathlib.Core.List.{List}
+use mathlib.Core.List.{List, _∷_}
 use Prim.Native.Nat.{ℕ}
 use lib.Dec.{eqb}
 use Rattle.basics.specs.Tests.{both, either, choose, anyOf, eachOf, noTwo}
-use Rattle.refusal.specs.Refusals.{accepted, turn}
+use Rattle.refusal.specs.Refusals.{accepted}
+use Rattle.refusal.specs.Rows.{given, firstOf}
 use Rattle.refusal.specs.declared.Verdict.{Verdict}
 use Rattle.refusal.specs.declared.Verdict.the-variants.{JobZero}
-use Rattle.pinmap.specs.Map.{readMap}
+use Rattle.pinmap.specs.Map.{mapRows}
 use Rattle.journal.specs.Journal.{own}
 use Rattle.desk.specs.declared.Desk.{Desk}
 use Rattle.desk.specs.declared.Answered.{Answered}
 use Rattle.desk.specs.declared.Wired.{Wired}
-use Rattle.desk.specs.Calls.{opening}
-use Rattle.desk.specs.Refusals.{sameJob, turnedOpening, verdictOf}
+use Rattle.seats.specs.Seats.{sameJob}
+use Rattle.rows.specs.Calls.{opening}
 use Rattle.desk.specs.Desk.{jobOf, soundClosed, soundSeat, soundTo, sound, answerOf, step, emptyDesk, wiredOf}
 use Rattle.printed.specs.Answers.{verdictLine}
 use Rattle.shown.specs.Shown.{mapText}
@@ -22,16 +23,16 @@ use Rattle.wiring.specs.Answer.{mostLegs}
 use Rattle.mapped.specs.Mapped.{jobOfMap, openedWith, wiredWith, mapAnswer}
 
 -- Opening a map at seat 0 of the empty desk: 4, then as the map is read.
-opens : (job : ℕ) (map : List ℕ) → answerOf emptyDesk (opening 0 job map) ≡ turn (eqb job 0) JobZero (readMap map job .verdict)
-unfolding both either choose turn own eachOf sameJob anyOf turnedOpening verdictOf jobOf noTwo soundClosed soundSeat soundTo sound answerOf emptyDesk
+opens : (job : ℕ) (map : List ℕ) → answerOf emptyDesk (opening 0 job map) ≡ firstOf (given (eqb job 0) JobZero ∷ mapRows map job)
+unfolding both either choose firstOf own eachOf sameJob anyOf jobOf noTwo soundClosed soundSeat soundTo sound answerOf emptyDesk
 opens job map = by (eqb job 0) refl
   where
-    by : (t : Bool) → eqb job 0 ≡ t → answerOf emptyDesk (opening 0 job map) ≡ turn (eqb job 0) JobZero (readMap map job .verdict)
+    by : (t : Bool) → eqb job 0 ≡ t → answerOf emptyDesk (opening 0 job map) ≡ firstOf (given (eqb job 0) JobZero ∷ mapRows map job)
     by true e = rw e
     by false e = rw e
 
 -- The program's opening is turned away in that order.
-pub opened : (map : List ℕ) → openedWith map .verdict ≡ turn (eqb (jobOfMap map) 0) JobZero (readMap map (jobOfMap map) .verdict)
+pub opened : (map : List ℕ) → openedWith map .verdict ≡ firstOf (given (eqb (jobOfMap map) 0) JobZero ∷ mapRows map (jobOfMap map))
 unfolding openedWith step
 opened map = opens (jobOfMap map) map
 

@@ -8,43 +8,45 @@ use lib.ListN.{length}
 use borrow.Author.Tests.{ltb-true}
 use Rattle.basics.specs.Tests.{both, choose}
 use Rattle.refusal.specs.Refusals.{accepted}
-use Rattle.refusal.specs.declared.Verdict.the-variants.{Accepted, RoomTooSmall}
-use Rattle.refusal.proofs.Rows.{firstOf, Given, refusalAt, unlike, distinct, unlike-first, only-given}
+use Rattle.refusal.specs.Rows.{firstOf, Given, refusalAt}
+use Rattle.refusal.specs.declared.Verdict.the-variants.{RoomTooSmall}
+use Rattle.refusal.proofs.Rows.{unlike, differs-by, never-first, exactly}
 use Rattle.board.specs.declared.Spot.{Spot}
 use Rattle.board.specs.Spots.{mostPins}
-use Rattle.drawing.specs.Pins.{spotsOf}
-use Rattle.wiring.specs.Answer.{mostLegs, turnedAway, wiringOf}
+use Rattle.drawing.specs.Pins.{feedOf}
+use Rattle.tree.specs.Growth.{runsOf}
+use Rattle.wiring.specs.Choices.{bestChoice, legsOfChoice}
+use Rattle.wiring.specs.Answer.{mostLegs, turnedAway, wiringOf, feedRows}
+use Rattle.wiring.proofs.Refusing.{wiring-apart, wiring-verdict}
 use Rattle.lent.proofs.Fitting.{needed-few}
-use Rattle.wiring.proofs.Refusing.{legsNeeded, feedRows, wiring-verdict}
-use Rattle.rows.proofs.Rows.{namingRows}
 use Rattle.desk.specs.declared.Desk.{Desk}
-use Rattle.desk.specs.Refusals.{Look, turnedNaming}
-use Rattle.desk.specs.Desk.{seatOf, lookAt, wiredOf}
+use Rattle.desk.specs.Desk.{seatOf, namingAt, wiredOf}
 use Rattle.desk.proofs.Sound.{feed-whole}
 use Rattle.mapped.specs.Mapped.{openedWith, wiredWith}
 
 -- 28, 1 and 2 are not 19.
-naming-else : (l : Look) → turnedNaming l ≡ RoomTooSmall → ⊥
-unfolding firstOf unlike both
-naming-else l e = unlike-first RoomTooSmall (namingRows l) Accepted refl (λ f. let z : _≡_ {A = ℕ} 0 1 = cc in omega arith) (sym e)
+naming-else : (d : Desk) (s : ℕ) → firstOf (namingAt d s) ≡ RoomTooSmall → ⊥
+unfolding unlike both accepted
+naming-else d s e = never-first RoomTooSmall (namingAt d s) refl (differs-by RoomTooSmall (namingAt d s) refl) (sym e)
 
 -- A feed of 32 spots is not refused for its room: 19 is given only where it needs more than 62 legs.
 feed-else : (feed : List Spot) → length feed ≡ mostPins → wiringOf feed mostLegs .wiring .verdict ≡ RoomTooSmall → ⊥
-unfolding distinct unlike both accepted refusalAt Given
+unfolding refusalAt Given
 feed-else feed h e =
+    let shapes = bestChoice false feed (runsOf feed) in
     let g : Given (feedRows feed mostLegs) 2 =
-    only-given (feedRows feed mostLegs) Accepted refl refl 2 (omega arith) (sym (wiring-verdict feed mostLegs) ∙ e) in
-    omega (arith, ltb-true mostLegs (length (legsNeeded feed)) (g .1 .1), needed-few feed h)
+    exactly (feedRows feed mostLegs) (wiring-apart feed shapes mostLegs) .refused 2 (omega arith) .0 (sym (wiring-verdict feed mostLegs) ∙ e) in
+    omega (arith, ltb-true mostLegs (length (legsOfChoice feed (runsOf feed) shapes)) (g .1 .1), needed-few feed shapes h)
 
 -- No seat of any desk is.
 seat-else : (d : Desk) (s : ℕ) → wiredOf d s mostLegs .laid .wiring .verdict ≡ RoomTooSmall → ⊥
 unfolding wiredOf choose turnedAway
-seat-else d s = by (accepted (turnedNaming (lookAt d s))) refl
+seat-else d s = by (accepted (firstOf (namingAt d s))) refl
   where
-    by : (t : Bool) → accepted (turnedNaming (lookAt d s)) ≡ t
-        → choose t (wiringOf (spotsOf (seatOf d s .pins)) mostLegs) (turnedAway (turnedNaming (lookAt d s))) .wiring .verdict ≡ RoomTooSmall → ⊥
-    by true e = feed-else (spotsOf (seatOf d s .pins)) (feed-whole d s e)
-    by false e = naming-else (lookAt d s)
+    by : (t : Bool) → accepted (firstOf (namingAt d s)) ≡ t
+        → choose t (wiringOf (feedOf (seatOf d s .pins)) mostLegs) (turnedAway (firstOf (namingAt d s))) .wiring .verdict ≡ RoomTooSmall → ⊥
+    by true e = feed-else (feedOf (seatOf d s .pins)) (feed-whole d s e)
+    by false e = naming-else d s
 
 -- THE ROOM IS ENOUGH FOR ANY MAP.
 pub never-nineteen : (map : List ℕ) → wiredWith map .verdict ≡ RoomTooSmall → ⊥

@@ -4,7 +4,8 @@ use mathlib.Core.List.{List, [], _∷_, _++_, map}
 use Prim.Native.Nat.{ℕ}
 use Rattle.basics.specs.Tests.{both, either, choose, anyOf, eachOf, noTwo}
 use Rattle.basics.specs.Sums.{sum}
-use Rattle.refusal.specs.Refusals.{accepted, turn}
+use Rattle.refusal.specs.Refusals.{accepted}
+use Rattle.refusal.specs.Rows.{firstOf}
 use Rattle.refusal.specs.declared.Verdict.the-variants.{OtherJob, FaultyRecord}
 use Rattle.pinmap.specs.Number.{numberAt}
 use Rattle.board.specs.Place.{difference, larger, sameNumber, samePlace, onBoard, inside, closer, tooNear, isStraight}
@@ -20,11 +21,11 @@ use Rattle.copper.specs.Shapes.{lowerCorner, upperCorner, legsOf}
 use Rattle.copper.specs.Length.{sameStep, stepsAcross, stepsUp, stepsOf, stepsOfAll, different, lengthOf}
 use Rattle.board.specs.Place.{smaller}
 use Rattle.wiring.specs.Choices.{bentShapes, shapesOf, withShape, withShapes, choicesOf, legsOfChoice, lengthOfChoice, shortest, shortestOf, bestChoice, weighedAt, weighedOf}
-use Rattle.wiring.specs.Answer.{shapedRuns, runEntries, legEntries, turnedAway, answerWith, wiringVerdict, wiringWith, wiringFavouring, wiringOf}
+use Rattle.wiring.specs.Answer.{shapedRuns, runEntries, legEntries, turnedAway, answerWith, wiringWith, wiringFavouring, wiringOf}
 use Rattle.journal.specs.Journal.{own, filled, inTurn}
-use Rattle.pinmap.specs.Record.{recordOf, judged}
-use Rattle.pinmap.specs.Map.{withPinOf, readFrom, wrongLength, readMap}
-use Rattle.desk.specs.Refusals.{sameJob, turnedOpening, turnedClosing, verdictOf}
+use Rattle.pinmap.specs.Record.{recordOf, faulty}
+use Rattle.pinmap.specs.Map.{recordsIn, withPinOf, withPinsOf, rowsFrom, wrongLength, readMap}
+use Rattle.seats.specs.Seats.{sameJob}
 use Rattle.desk.specs.Desk.{jobOf, soundOpen, soundClosed, soundSeat, soundTo, sound, effect, answerOf, step, emptyDesk, wiredOf}
 use Rattle.text.specs.Text.{text}
 use Rattle.text.specs.Digits.{digits}
@@ -48,14 +49,14 @@ W3 = placed 0 0 (0 ∷ 0 ∷ 0 ∷ 0 ∷ []) ++ placed 1 4 (0 ∷ 0 ∷ 0 ∷ 2 
 
 -- For W3 exactly these three lines are printed.
 W3-holds : mapAnswer W3 ≡ text "job 7 length 8 runs 2 weighed 5\n0 1 lower\n1 2 straight\n"
-unfolding jobOfMap openedWith wiredWith mapAnswer mapText jobText lineForEach entryLine runLine jobLine digits wiredOf step effect answerOf verdictOf
-    turnedOpening turnedClosing sameJob sound soundTo soundSeat soundOpen soundClosed jobOf emptyDesk readMap wrongLength readFrom recordOf numberAt judged
-    withPinOf own filled inTurn isThere spotsTooNear tooNearOther crowded within spotOf spotsOf lawful wiringOf wiringFavouring wiringWith wiringVerdict
+unfolding jobOfMap openedWith wiredWith mapAnswer mapText jobText lineForEach entryLine runLine jobLine digits wiredOf step effect answerOf
+    sameJob sound soundTo soundSeat soundOpen soundClosed jobOf emptyDesk readMap wrongLength rowsFrom recordsIn withPinsOf recordOf numberAt faulty
+    withPinOf own filled inTurn isThere spotsTooNear tooNearOther crowded within spotOf spotsOf lawful wiringOf wiringFavouring wiringWith
     answerWith turnedAway legEntries runEntries shapedRuns weighedOf sum weighedAt howMany bent bestChoice shortestOf shortest lengthOfChoice legsOfChoice choicesOf
     withShapes withShape shapesOf bentShapes lengthOf different stepsOfAll stepsOf smaller stepsUp stepsAcross sameStep legsOf lowerCorner upperCorner
     isStraight clash common isEnd boxesShare overlap under belowBoth runsOf pinsOf runsAmong grown nextRun earliestOf earliest runsBetween runsFrom without
     pinsFrom keptIf sooner pairAt comesBefore byPart byNumber pairOf weightOf distanceOf difference larger sameNumber samePlace onBoard inside closer tooNear
-    accepted turn both either choose anyOf noTwo eachOf
+    accepted firstOf both either choose anyOf noTwo eachOf
 W3-holds = refl
 
 -- The third record has another job: 14.
@@ -64,8 +65,8 @@ thirdOther = placed 0 0 (0 ∷ 0 ∷ 0 ∷ 0 ∷ []) ++ placed 1 4 (0 ∷ 0 ∷ 
 
 -- It is refused with 14 and that record.
 other-job : mapAnswer thirdOther ≡ text "refused 14 record 2\n"
-unfolding jobOfMap readMap wrongLength readFrom recordOf numberAt judged withPinOf spotsTooNear anyOf tooNearOther crowded spotOf spotsOf difference closer
-    tooNear inside onBoard accepted turn both either choose toldLine carriedText digits
+unfolding jobOfMap wrongLength rowsFrom recordsIn recordOf numberAt faulty withPinOf spotsTooNear anyOf tooNearOther crowded spotOf spotsOf difference closer
+    tooNear inside onBoard accepted firstOf both either choose toldLine carriedText digits
 other-job = printed-refused thirdOther {v = OtherJob 2} (opened thirdOther) refl
 
 -- The second record's pin is not above the one before: 15.
@@ -74,6 +75,6 @@ pinTwice = placed 0 0 (0 ∷ 0 ∷ 0 ∷ 0 ∷ []) ++ placed 0 4 (0 ∷ 0 ∷ 0 
 
 -- It is refused with 15 and the second record.
 pin-twice : mapAnswer pinTwice ≡ text "refused 15 record 1\n"
-unfolding jobOfMap readMap wrongLength readFrom recordOf numberAt judged withPinOf spotsTooNear anyOf tooNearOther crowded spotOf spotsOf difference closer
-    tooNear inside onBoard accepted turn both either choose toldLine carriedText digits
+unfolding jobOfMap wrongLength rowsFrom recordsIn recordOf numberAt faulty withPinOf spotsTooNear anyOf tooNearOther crowded spotOf spotsOf difference closer
+    tooNear inside onBoard accepted firstOf both either choose toldLine carriedText digits
 pin-twice = printed-refused pinTwice {v = FaultyRecord 1} (opened pinTwice) refl

@@ -4,8 +4,8 @@ use Prim.Native.Nat.{ℕ}
 use Rattle.basics.specs.Tests.{choose}
 use Rattle.refusal.specs.Refusals.{accepted}
 use Rattle.pinmap.specs.Record.{jobAt}
+use Rattle.rows.specs.Calls.{opening}
 use Rattle.desk.specs.declared.Answered.{Answered}
-use Rattle.desk.specs.Calls.{opening}
 use Rattle.desk.specs.Desk.{emptyDesk, step, wiredOf}
 use Rattle.wiring.specs.declared.Wiring.{Wiring}
 use Rattle.wiring.specs.Answer.{mostLegs}

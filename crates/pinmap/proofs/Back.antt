@@ -21,10 +21,11 @@ use Rattle.board.specs.Spots.{within}
 use Rattle.board.proofs.Rules.{clear-other}
 use Rattle.drawing.specs.Pins.{absent, there, holding, lawful, spotOf, spotsOf}
 use Rattle.drawing.proofs.Rules.{lawful-parts, lawful-set}
-use Rattle.pinmap.specs.declared.Record.{Record}
+use Rattle.pinmap.specs.declared.MapRecord.{MapRecord}
 use Rattle.pinmap.specs.declared.Reading.{Reading}
-use Rattle.pinmap.specs.Record.{recordSize, recordOf, recordBytes, pinBytes, judged}
-use Rattle.pinmap.specs.Map.{refusedBy, withPinOf, readFrom, mapFrom, mapOf}
+use Rattle.pinmap.specs.Record.{recordSize, recordOf, recordBytes, pinBytes}
+use Rattle.pinmap.specs.Map.{recordsIn, withPinOf, mapFrom, mapOf}
+use Rattle.pinmap.proofs.Judging.{refusedBy, judged, readFrom, read-none, read-next}
 use Rattle.pinmap.proofs.Faults.{Faultless, faultless}
 use Rattle.pinmap.proofs.Records.{Bytes, record-written}
 
@@ -64,7 +65,7 @@ pub record Kept (next : ℕ) (earlier : List Pin) : Type 0 where
   pub clear : (k : ℕ) → next ≤ k → getD earlier k absent ≡ absent
 
 -- A record without a fault keeps that: its pin joins them, and the next one is above it.
-kept-next : (job next : ℕ) (earlier : List Pin) (r : Record) → Kept next earlier → Faultless job next earlier r → Kept (r .pin + 1) (withPinOf earlier r)
+kept-next : (job next : ℕ) (earlier : List Pin) (r : MapRecord) → Kept next earlier → Faultless job next earlier r → Kept (r .pin + 1) (withPinOf earlier r)
 unfolding withPinOf within spotOf
 kept-next job next earlier r s f =
     record {
@@ -81,21 +82,21 @@ pub record Back (job : ℕ) (m : List ℕ) (earlier : List Pin) (r : Reading) : 
 abbrev pub BackFrom : ℕ → ℕ → Type 0
 BackFrom job left =
     (m : List ℕ) (number next : ℕ) (earlier : List Pin) → length m ≡ left * recordSize → Kept next earlier
-    → accepted (readFrom left m job number next earlier .verdict) ≡ true → Back job m earlier (readFrom left m job number next earlier)
+    → accepted (readFrom job number next earlier (recordsIn left m) .verdict) ≡ true → Back job m earlier (readFrom job number next earlier (recordsIn left m))
 
 -- If so many records give that back, so do one more, where the first is accepted.
 back-next : (job left : ℕ) → BackFrom job left → (m : List ℕ) (number next : ℕ) (earlier : List Pin) → length m ≡ suc left * recordSize → Kept next earlier
     → accepted (judged job number next earlier (recordOf (take recordSize m))) ≡ true
-    → let r : Record = recordOf (take recordSize m) in
-    let x : Reading = readFrom left (drop recordSize m) job (number + 1) (r .pin + 1) (withPinOf earlier r) in
+    → let r : MapRecord = recordOf (take recordSize m) in
+    let x : Reading = readFrom job (number + 1) (r .pin + 1) (withPinOf earlier r) (recordsIn left (drop recordSize m)) in
     accepted (x .verdict) ≡ true → Back job m earlier x
 unfolding mapOf withPinOf
 back-next job left rec m number next earlier n s a c =
     let part : List ℕ = take recordSize m in
-    let r : Record = recordOf part in
+    let r : MapRecord = recordOf part in
     let w : length part ≡ recordSize = omega (arith, length-take recordSize m) in
     let f : Faultless job next earlier r = faultless job number next earlier r a in
-    let g : Back job (drop recordSize m) (withPinOf earlier r) (readFrom left (drop recordSize m) job (number + 1) (r .pin + 1) (withPinOf earlier r)) =
+    let g : Back job (drop recordSize m) (withPinOf earlier r) (readFrom job (number + 1) (r .pin + 1) (withPinOf earlier r) (recordsIn left (drop recordSize m))) =
     rec (drop recordSize m) (number + 1) (r .pin + 1) (withPinOf earlier r) (omega (arith, length-drop recordSize m)) (kept-next job next earlier r s f) c in
     let z : 0 + r .pin ≡ r .pin = omega arith in
     let p : Bytes m → mapFrom job 0 (set earlier (r .pin) (there (holding (r .place)))) ≡ mapFrom job 0 earlier ++ part =
@@ -121,10 +122,13 @@ back-by job m earlier false x v e f a = absurd (opposite a e)
 
 -- So it is with any number of records.
 pub back-from : (job left : ℕ) → BackFrom job left
-unfolding readFrom
+unfolding recordsIn
 back-from job zero m number next earlier n s a =
+    rw (read-none job number next earlier)
     record { bytes = λ b. sym (rw (empty m (omega arith)) (append-nil (mapOf job earlier))); rules = s .rules }
 back-from job (suc left) m number next earlier n s a =
-    let v : Verdict = judged job number next earlier (recordOf (take recordSize m)) in
-    back-by job m earlier (accepted v) _ v refl
-    (back-next job left (back-from job left) m number next earlier n s) a
+    let r : MapRecord = recordOf (take recordSize m) in
+    let v : Verdict = judged job number next earlier r in
+    let q = read-next job number next earlier r (recordsIn left (drop recordSize m)) in
+    rw q (back-by job m earlier (accepted v) _ v refl
+    (back-next job left (back-from job left) m number next earlier n s) (rw q at a))

@@ -4,52 +4,57 @@ use mathlib.Core.Bool.{true, false, not}
 use mathlib.Core.List.{List}
 use Prim.Native.Nat.{ℕ, _<_, _≤_}
 use borrow.Author.Tests.{leb-false, ltb-false, eqb-true, not-false, eq-eqb, lt-leb, le-ltb}
-use Rattle.refusal.specs.declared.Verdict.the-variants.{Accepted, OtherJob, FaultyRecord}
+use Rattle.basics.proofs.Tests.{either-false, either-no}
+use Rattle.refusal.specs.declared.Verdict.the-variants.{Accepted}
 use Rattle.refusal.specs.Refusals.{accepted}
-use Rattle.refusal.proofs.Rows.{passed, miss}
+use Rattle.refusal.specs.Rows.{NoneHolds}
+use Rattle.refusal.proofs.Rows.{none-holds, none-accepted}
 use Rattle.board.specs.Place.{inside}
 use Rattle.drawing.specs.declared.Pin.{Pin}
-use Rattle.board.specs.Spots.{mostPins}
-use Rattle.pinmap.specs.declared.Record.{Record}
-use Rattle.pinmap.specs.Record.{otherJob, pinAbove, outside, notAbove, placeTaken, judged, notZero}
+use Rattle.board.specs.declared.Spot.the-variants.{At}
+use Rattle.board.specs.Spots.{mostPins, tooNearAny}
+use Rattle.drawing.specs.Pins.{spotsOf}
+use Rattle.pinmap.specs.declared.MapRecord.{MapRecord}
+use Rattle.pinmap.specs.Record.{faulty, recordRows}
+use Rattle.pinmap.proofs.Judging.{judged, record-apart}
 
 -- A record without a fault.
-pub record Faultless (job next : ℕ) (earlier : List Pin) (r : Record) : Type 0 where
+pub record Faultless (job next : ℕ) (earlier : List Pin) (r : MapRecord) : Type 0 where
   pub own-job : r .job ≡ job
   pub pin-low : r .pin < mostPins
   pub zero : r .byte3 ≡ 0
   pub on-board : inside (r .place) ≡ true
   pub above : next ≤ r .pin
-  pub free : placeTaken earlier r ≡ false
+  pub free : tooNearAny (At (r .place)) (spotsOf earlier) ≡ false
 
-module _ (job number next : ℕ) (earlier : List Pin) (r : Record) where
+module _ (job number next : ℕ) (earlier : List Pin) (r : MapRecord) where
   -- A record that is accepted has no fault,
   pub faultless : accepted (judged job number next earlier r) ≡ true → Faultless job next earlier r
-  unfolding judged accepted
-  faultless e0 =
-      let (f1, e1) = passed (otherJob job r) (OtherJob number) _ refl e0 in
-      let (f2, e2) = passed (pinAbove r) (FaultyRecord number) _ refl e1 in
-      let (f3, e3) = passed (notZero r) (FaultyRecord number) _ refl e2 in
-      let (f4, e4) = passed (outside r) (FaultyRecord number) _ refl e3 in
-      let (f5, e5) = passed (notAbove next r) (FaultyRecord number) _ refl e4 in
-      let (f6, e6) = passed (placeTaken earlier r) (FaultyRecord number) _ refl e5 in
+  unfolding faulty NoneHolds
+  faultless y =
+      let n = none-holds (recordRows job number next (spotsOf earlier) r) (record-apart job number next earlier r) y in
+      let f1 = either-false _ _ (n .1 .0) in
+      let f2 = either-false _ _ (f1 .1) in
+      let f3 = either-false _ _ (f2 .1) in
+      let f4 = either-false _ _ (f3 .1) in
       record {
-        own-job = eqb-true _ _ (not-false _ f1);
-        pin-low = leb-false _ _ f2;
-        zero = eqb-true _ _ (not-false _ f3);
-        on-board = not-false _ f4;
-        above = ltb-false _ _ f5;
-        free = f6;
+        own-job = eqb-true _ _ (not-false _ (n .0));
+        pin-low = leb-false _ _ (f1 .0);
+        zero = eqb-true _ _ (not-false _ (f3 .0));
+        on-board = not-false _ (f4 .0);
+        above = ltb-false _ _ (f2 .0);
+        free = f4 .1;
       }
 
   -- and one that has none is accepted.
   pub no-fault : Faultless job next earlier r → judged job number next earlier r ≡ Accepted
-  unfolding judged
+  unfolding faulty NoneHolds
   no-fault h =
-      sym
-      (miss _ (ap not (eq-eqb _ _ (h .own-job)))
-      (miss _ (lt-leb _ _ (h .pin-low))
-      (miss _ (ap not (eq-eqb _ _ (h .zero)))
-      (miss _ (ap not (h .on-board))
-      (miss _ (le-ltb _ _ (h .above))
-      (miss _ (h .free) refl))))))
+      none-accepted (recordRows job number next (spotsOf earlier) r) (
+        ap not (eq-eqb _ _ (h .own-job)),
+        (
+          either-no (lt-leb _ _ (h .pin-low))
+              (either-no (le-ltb _ _ (h .above)) (either-no (ap not (eq-eqb _ _ (h .zero))) (either-no (ap not (h .on-board)) (h .free)))),
+          tt,
+        ),
+      )

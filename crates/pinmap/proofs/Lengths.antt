@@ -5,12 +5,11 @@ use mathlib.Core.List.{List}
 use Prim.Native.Nat.{ℕ, _%_, _<_, _≤_}
 use lib.ListN.{length}
 use borrow.Author.Tests.{lt-ltb, le-ltb, ltb-false, eq-eqb, ne-eqb, eqb-true, not-false}
-use Rattle.basics.proofs.Tests.{choose-yes, choose-no, either-left, either-right, either-false}
+use Rattle.basics.proofs.Tests.{choose-yes, either-left, either-right, either-false}
 use Rattle.refusal.specs.declared.Verdict.the-variants.{MapLength}
-use Rattle.drawing.specs.Pins.{noPins}
 use Rattle.pinmap.specs.Record.{recordSize}
-use Rattle.pinmap.specs.Map.{mostBytes, wrongLength, refusedBy, readFrom, readMap}
-use Rattle.pinmap.proofs.Progress.{countOf}
+use Rattle.pinmap.specs.Map.{mostBytes, wrongLength, readMap}
+use Rattle.pinmap.proofs.Judging.{refusedBy, read-by-length}
 
 module _ (map : List ℕ) where
   -- A map of more than 384 bytes has a wrong length,
@@ -35,14 +34,6 @@ module _ (map : List ℕ) where
       let f = either-false _ _ e in
       (ltb-false _ _ (f .0), eqb-true _ _ (not-false _ (f .1)))
 
--- Reading, by the length.
-module _ (map : List ℕ) (job : ℕ) where
-  -- A map of a wrong length is turned away with 13,
-  pub turned-away : wrongLength map ≡ true → refusedBy MapLength ≡ readMap map job
-  unfolding readMap
-  turned-away e = sym (choose-yes _ _ e)
-
-  -- the records of any other are read.
-  pub looked-at : wrongLength map ≡ false → readFrom (countOf map) map job 0 0 noPins ≡ readMap map job
-  unfolding readMap
-  looked-at e = sym (choose-no _ _ e)
+-- Reading a map of a wrong length is turned away with 13.
+pub turned-away : (map : List ℕ) (job : ℕ) → wrongLength map ≡ true → refusedBy MapLength ≡ readMap map job
+turned-away map job e = sym (read-by-length map job ∙ choose-yes _ _ e)

@@ -1,5 +1,6 @@
 -- The laws of the pin map that other crates cite.
 pub mod Bytes
+pub mod Judging
 pub mod Faults
 mod Lengths
 mod Progress

@@ -23,8 +23,10 @@ use Rattle.drawing.specs.Pins.{absent, there, lawful, spotOf, spotsOf, noPins}
 use Rattle.board.specs.declared.Spot.the-variants as spot
 use Rattle.board.proofs.Rules.{spots-turned, apart-pair, within-at}
 use Rattle.drawing.proofs.Rules.{lawful-parts, feed-at}
+use Rattle.pinmap.specs.declared.MapRecord.{MapRecord}
 use Rattle.pinmap.specs.Record.{recordSize, recordBytes, pinBytes}
-use Rattle.pinmap.specs.Map.{readAs, withPinOf, readFrom, mapFrom}
+use Rattle.pinmap.specs.Map.{recordsIn, recordsOf, withPinOf, mapFrom}
+use Rattle.pinmap.proofs.Judging.{readAs, readFrom, read-none, read-next}
 use Rattle.pinmap.proofs.Faults.{Faultless, no-fault}
 use Rattle.pinmap.proofs.Written.{record-length, absent-bytes, there-bytes, map-next, map-end}
 use Rattle.pinmap.proofs.Records.{record-read}
@@ -98,22 +100,23 @@ place-inside l i held e q = ap within (sym (feed-at l i ∙ ap spotOf q)) ∙ wi
 -- A record without a fault at the front is read, and then what follows it.
 read-one : (left job number next pin : ℕ) (earlier : List Pin) (held : Held) (rest : List ℕ) → job < 65536 → inside (held .place) ≡ true
     → Faultless job next earlier (record { job = job; pin = pin; byte3 = 0; place = held .place })
-    → readFrom (suc left) (recordBytes job pin held ++ rest) job number next earlier
-    ≡ readFrom left rest job (number + 1) (pin + 1) (set earlier pin (there held))
-unfolding readFrom withPinOf accepted choose
+    → readFrom job number next earlier (recordsIn (suc left) (recordBytes job pin held ++ rest))
+    ≡ readFrom job (number + 1) (pin + 1) (set earlier pin (there held)) (recordsIn left rest)
+unfolding recordsIn withPinOf accepted choose
 read-one left job number next pin earlier held rest j e f =
     let b : List ℕ = recordBytes job pin held in
     let n : length b ≡ recordSize = record-length job pin held in
     let t : take recordSize (b ++ rest) ≡ b = take-at b rest recordSize n in
     let d : drop recordSize (b ++ rest) ≡ rest = drop-at b rest recordSize n in
-    rw (t, d, record-read job pin held j e, no-fault job number next earlier (record { job = job; pin = pin; byte3 = 0; place = held .place }) f)
+    let r : MapRecord = record { job = job; pin = pin; byte3 = 0; place = held .place } in
+    rw (t, d, record-read job pin held j e) (read-next job number next earlier r (recordsIn left rest) ∙ rw (no-fault job number next earlier r f))
 
 module _ (job : ℕ) (l : List Pin) (j : job < 65536) (e : lawful l ≡ true) where
   -- The map from pin i on is read to the drawing's pins, the pins below having been read.
   abbrev pub OpenFrom : ℕ → Type 0
   OpenFrom i =
       (number next : ℕ) (earlier : List Pin) → next ≤ i → Upto l i earlier
-      → readFrom (length (mapFrom job i (drop i l)) / recordSize) (mapFrom job i (drop i l)) job number next earlier ≡ readAs l
+      → readFrom job number next earlier (recordsOf (mapFrom job i (drop i l))) ≡ readAs l
 
   -- If so from the next pin on, then from pin i on, which is absent or there.
   open-next : (i : ℕ) → i < mostPins → OpenFrom (i + 1) → (t : Stand) → getD l i absent ≡ record { stand = t } → OpenFrom i
@@ -139,8 +142,8 @@ module _ (job : ℕ) (l : List Pin) (j : job < 65536) (e : lawful l ≡ true) wh
 
   -- So from every pin on.
   pub open-from : (k i : ℕ) → i + k ≡ mostPins → OpenFrom i
-  unfolding readFrom
+  unfolding recordsIn
   open-from zero i n number next earlier h u =
-      rw (map-end job l i (omega (arith, lawful-parts l e .long))) (ap readAs (upto-all l i earlier (lawful-parts l e .long) (omega arith) u))
+      rw (map-end job l i (omega (arith, lawful-parts l e .long))) (read-none job number next earlier ∙ ap readAs (upto-all l i earlier (lawful-parts l e .long) (omega arith) u))
   open-from (suc k) i n number next earlier h u =
       open-next i (omega arith) (open-from k (i + 1) (omega arith)) (getD l i absent .stand) refl number next earlier h u

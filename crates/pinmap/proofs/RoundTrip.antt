@@ -1,17 +1,16 @@
 -- Written and read, both ways. The map of a drawing that keeps the rules opens under its job with the same pins; a map that opens is written with
 -- the same bytes, and its pins keep the rules. From the laws of records, read forwards and back. Assumes nothing.
-use mathlib.Core.Path.{_≡_, refl, sym, ap, _∙_}
-use mathlib.Core.Bool.{Bool, true, false, true≢false, false≢true}
+use mathlib.Core.Path.{_≡_, refl, ap, ap₂, _∙_}
+use mathlib.Core.Bool.{Bool, true, false, false≢true}
 use mathlib.Core.List.{List, [], _∷_, _++_}
 use Prim.Native.Nat.{ℕ, zero, suc, _+_, _/_, _%_, _<_, _≤_}
 use native.Mathlib.Omega.{arith}
 use lib.ListN.{length, take, drop}
 use lib.Seq.{take-append-seam}
-use Rattle.refusal.specs.declared.Verdict.{Verdict}
-use Rattle.refusal.specs.declared.Verdict.the-variants.{Accepted, MapLength, RoomTooSmall}
+use Rattle.refusal.specs.declared.Verdict.the-variants.{MapLength}
 use Rattle.basics.specs.Tests.{both, either, choose, anyOf, eachOf, noTwo}
 use Rattle.refusal.specs.Refusals.{accepted}
-use Rattle.basics.proofs.Tests.{both-left, both-right}
+use Rattle.basics.proofs.Tests.{both-left, both-right, choose-yes, choose-no}
 use Rattle.drawing.specs.declared.Stand.{Stand}
 use Rattle.drawing.specs.declared.Stand.the-variants.{Absent, There}
 use Rattle.drawing.specs.declared.Pin.{Pin}
@@ -19,10 +18,10 @@ use Rattle.board.specs.Spots.{mostPins, within, allWithin, spotsTooNear}
 use Rattle.drawing.specs.Pins.{spotIn, lawful, spotOf, spotsOf, noPins}
 use Rattle.drawing.proofs.Rules.{lawful-parts}
 use Rattle.pinmap.specs.declared.Reading.{Reading}
-use Rattle.pinmap.specs.declared.Writing.{Writing}
-use Rattle.pinmap.specs.Record.{recordSize, recordOf, judged, bytesIn, pinBytes}
-use Rattle.pinmap.specs.Map.{mostBytes, refusedBy, readAs, readFrom, wrongLength, readMap, mapFrom, mapOf, written, noRoom, writeMap, bufferAfter}
-use Rattle.pinmap.proofs.Lengths.{right-length, length-right, looked-at}
+use Rattle.pinmap.specs.Record.{recordSize, bytesIn, pinBytes}
+use Rattle.pinmap.specs.Map.{mostBytes, recordsOf, wrongLength, readMap, mapFrom, mapOf, written, writeMap, bufferAfter}
+use Rattle.pinmap.proofs.Judging.{refusedBy, readAs, readFrom, read-by-length}
+use Rattle.pinmap.proofs.Lengths.{right-length, length-right}
 use Rattle.pinmap.proofs.Written.{map-size}
 use Rattle.pinmap.proofs.Records.{Bytes, bytes-append, record-bytes}
 use Rattle.pinmap.proofs.Opening.{upto-none, open-from}
@@ -44,7 +43,8 @@ map-whole job l = map-size job 0 l .1
 pub map-opens : (job : ℕ) (l : List Pin) → job < 65536 → lawful l ≡ true → readMap (mapOf job l) job ≡ readAs l
 unfolding mapOf
 map-opens job l j e =
-    sym (looked-at (mapFrom job 0 l) job (right-length (mapFrom job 0 l) (map-short job l (lawful-parts l e .long)) (map-whole job l)))
+    read-by-length (mapFrom job 0 l) job
+    ∙ choose-no _ _ (right-length (mapFrom job 0 l) (map-short job l (lawful-parts l e .long)) (map-whole job l))
     ∙ open-from job l j e mostPins 0 refl 0 0 noPins (omega arith) (upto-none l)
 
 -- What a map has for a pin on the board is made of bytes,
@@ -89,10 +89,11 @@ kept-none = record { rules = no-pins-lawful; clear = λ k h. upto-none noPins .a
 
 -- What a map that opens gives back.
 back-read : (job : ℕ) (map : List ℕ) → accepted (readMap map job .verdict) ≡ true → Back job map noPins (readMap map job)
-unfolding readMap
 back-read job map a =
-    back-length job map (wrongLength map) (readFrom (length map / recordSize) map job 0 0 noPins)
-    (λ e. back-from job (length map / recordSize) map 0 0 noPins (omega (arith, length-right map e .1)) kept-none) a
+    let q = read-by-length map job in
+    rw q
+    (back-length job map (wrongLength map) (readFrom job 0 0 noPins (recordsOf map))
+    (λ e. back-from job (length map / recordSize) map 0 0 noPins (omega (arith, length-right map e .1)) kept-none) (rw q at a))
 
 -- A drawing without pins is written with no bytes.
 none-written : (job : ℕ) → mapOf job noPins ≡ []
@@ -109,19 +110,12 @@ opened-lawful job map a = back-read job map a .rules
 
 -- ---- a map in a buffer
 
--- Where a writing is accepted, the bytes written are the map.
-buffer-by : (m buffer : List ℕ) (t : Bool)
-    → let w : Writing = choose t (record { verdict = RoomTooSmall; bytes = 0 }) (record { verdict = Accepted; bytes = length m }) in
-    accepted (w .verdict) ≡ true → take (w .bytes) (choose t buffer (written m buffer)) ≡ m
-unfolding choose accepted written
-buffer-by m buffer true a = absurd (false≢true a)
-buffer-by m buffer false a = take-append-seam m (drop (length m) buffer)
-
--- So the front of the lent buffer is the drawing's map.
+-- Where a writing is accepted, the bytes written, the front of the lent buffer, are the map.
 pub bytes-written : (job : ℕ) (l : List Pin) (buffer : List ℕ) → accepted (writeMap l job buffer .verdict) ≡ true
     → take (writeMap l job buffer .bytes) (bufferAfter l job buffer) ≡ mapOf job l
-unfolding writeMap bufferAfter
-bytes-written job l buffer a = buffer-by (mapOf job l) buffer (noRoom l job (length buffer)) a
+unfolding writeMap bufferAfter written
+bytes-written job l buffer a =
+    ap₂ take (choose-yes (length (mapOf job l)) 0 a) (choose-yes _ buffer a) ∙ take-append-seam (mapOf job l) (drop (length (mapOf job l)) buffer)
 
 -- The bytes that were written open under their job with the same pins.
 pub written-opens : (job : ℕ) (l : List Pin) (buffer : List ℕ) → job < 65536 → lawful l ≡ true → accepted (writeMap l job buffer .verdict) ≡ true
@@ -136,32 +130,10 @@ opened-written job map buffer b a c = bytes-written job (readMap map job .pins) 
 
 -- ---- a map that does not open
 
--- A reading that goes on only where a record is accepted gives no pins where it is refused.
-refused-by : (t : Bool) (v : Verdict) (x : Reading) → accepted v ≡ t → (accepted (x .verdict) ≡ false → x .pins ≡ noPins)
-    → accepted (choose t x (refusedBy v) .verdict) ≡ false → choose t x (refusedBy v) .pins ≡ noPins
-unfolding choose
-refused-by true v x e f a = f a
-refused-by false v x e f a = refl
-
--- So where a record is faulty,
-refused-from : (left : ℕ) (map : List ℕ) (job number next : ℕ) (earlier : List Pin) → accepted (readFrom left map job number next earlier .verdict) ≡ false
-    → readFrom left map job number next earlier .pins ≡ noPins
-unfolding readFrom accepted
-refused-from zero map job number next earlier a = absurd (true≢false a)
-refused-from (suc left) map job number next earlier a =
-    refused-by _ (judged job number next earlier (recordOf (take recordSize map))) _ refl (refused-from left (drop recordSize map) job (number + 1) _ _) a
-
--- and where its length is wrong,
-refused-length : (t : Bool) (x : Reading) → (accepted (x .verdict) ≡ false → x .pins ≡ noPins)
-    → accepted (choose t (refusedBy MapLength) x .verdict) ≡ false → choose t (refusedBy MapLength) x .pins ≡ noPins
-unfolding choose
-refused-length true x f a = refl
-refused-length false x f a = f a
-
--- a map that is turned away gives no pins.
+-- A map that is turned away gives no pins.
 pub refused-none : (job : ℕ) (map : List ℕ) → accepted (readMap map job .verdict) ≡ false → readMap map job .pins ≡ noPins
 unfolding readMap
-refused-none job map a = refused-length (wrongLength map) _ (refused-from (length map / recordSize) map job 0 0 noPins) a
+refused-none job map a = choose-no _ _ a
 
 -- Whatever the map, the pins that are handed back keep the rules.
 pub read-lawful : (job : ℕ) (map : List ℕ) → lawful (readMap map job .pins) ≡ true

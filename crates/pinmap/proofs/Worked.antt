@@ -7,14 +7,16 @@ use lib.IntN.{pos, negsuc}
 use lib.ListN.{replicate}
 use Rattle.refusal.specs.declared.Verdict.the-variants.{Accepted, MapLength, OtherJob, FaultyRecord, RoomTooSmall}
 use Rattle.basics.specs.Tests.{both, either, choose, anyOf}
-use Rattle.refusal.specs.Refusals.{turn, accepted}
+use Rattle.refusal.specs.Refusals.{accepted}
+use Rattle.refusal.specs.Rows.{firstOf}
 use Rattle.pinmap.specs.Number.{numberAt, firstByte, secondByte, thirdByte, fourthByte}
 use Rattle.board.specs.Place.{onBoard, inside, difference, closer, tooNear}
 use Rattle.drawing.specs.declared.Pin.{Pin}
 use Rattle.board.specs.Spots.{spotsTooNear}
 use Rattle.drawing.specs.Pins.{absent, there, holding, spotOf, spotsOf, noPins}
-use Rattle.pinmap.specs.Record.{recordOf, recordBytes, pinBytes, judged}
-use Rattle.pinmap.specs.Map.{refusedBy, readAs, withPinOf, readFrom, wrongLength, readMap, mapFrom, mapOf, written, writeMap, bufferAfter}
+use Rattle.pinmap.specs.Record.{recordOf, faulty, recordBytes, pinBytes}
+use Rattle.pinmap.proofs.Judging.{refusedBy, readAs}
+use Rattle.pinmap.specs.Map.{recordsIn, withPinOf, withPinsOf, rowsFrom, wrongLength, readMap, mapFrom, mapOf, written, writeMap, bufferAfter}
 
 -- Job 7, pin 0 at (1,-1).
 abbrev onePin : List Pin
@@ -35,24 +37,24 @@ D3-written = refl
 
 -- Read back, it is that pin.
 D3-read : readMap oneRecord 7 ≡ readAs onePin
-unfolding readMap wrongLength either choose readFrom recordOf numberAt judged turn accepted inside onBoard both anyOf spotsTooNear spotOf spotsOf withPinOf
+unfolding readMap wrongLength either choose rowsFrom recordsIn withPinsOf recordOf numberAt faulty firstOf accepted inside onBoard both anyOf spotsTooNear spotOf spotsOf withPinOf
 D3-read = refl
 
 -- Written into a buffer of 14 bytes, it leaves the last two.
 D3-buffer : bufferAfter onePin 7 (replicate 14 9) ≡ oneRecord ++ (9 ∷ 9 ∷ [])
-unfolding bufferAfter written choose mapOf mapFrom pinBytes recordBytes firstByte secondByte thirdByte fourthByte
+unfolding bufferAfter firstOf accepted written choose mapOf mapFrom pinBytes recordBytes firstByte secondByte thirdByte fourthByte
 D3-buffer = refl
 
 -- 12 bytes are written where there is room; with one byte too few it is 19, and the buffer stays.
 D3-answer : (writeMap onePin 7 (replicate 14 9) ≡ record { verdict = Accepted; bytes = 12 })
     × (writeMap onePin 7 (replicate 11 9) ≡ record { verdict = RoomTooSmall; bytes = 0 })
     × (bufferAfter onePin 7 (replicate 11 9) ≡ replicate 11 9)
-unfolding writeMap bufferAfter written choose mapOf mapFrom pinBytes recordBytes firstByte secondByte thirdByte fourthByte
+unfolding writeMap bufferAfter firstOf accepted written choose mapOf mapFrom pinBytes recordBytes firstByte secondByte thirdByte fourthByte
 D3-answer = (refl, refl, refl)
 
 -- An empty map is a drawing without pins,
 empty-read : readMap [] 7 ≡ readAs noPins
-unfolding readMap wrongLength either choose readFrom
+unfolding readMap wrongLength either choose rowsFrom recordsIn withPinsOf firstOf accepted
 empty-read = refl
 
 -- and a drawing without pins is written as no bytes.
@@ -62,42 +64,42 @@ empty-written = refl
 
 -- 13 at the lengths 1, 11 and 396.
 lengths : (readMap (7 ∷ []) 7 ≡ refusedBy MapLength) × (readMap (replicate 11 0) 7 ≡ refusedBy MapLength) × (readMap (replicate 396 0) 7 ≡ refusedBy MapLength)
-unfolding readMap wrongLength either choose
+unfolding readMap wrongLength either firstOf accepted choose
 lengths = (refl, refl, refl)
 
 -- 384 is looked at: its first record has another job.
 longest : readMap (replicate 384 0) 7 ≡ refusedBy (OtherJob 0)
-unfolding readMap wrongLength either choose readFrom recordOf judged turn accepted
+unfolding readMap wrongLength either choose rowsFrom recordsIn withPinsOf recordOf faulty firstOf accepted
 longest = refl
 
 -- 14 before 15: a record with another job and a pin above 31 gives 14.
 other-job-first : readMap (given 8 40 1 0) 7 ≡ refusedBy (OtherJob 0)
-unfolding readMap wrongLength either choose readFrom recordOf judged turn accepted
+unfolding readMap wrongLength either choose rowsFrom recordsIn withPinsOf recordOf faulty firstOf accepted
 other-job-first = refl
 
 -- The first faulty record is named: record 1 has a byte 3 that is not zero, record 2 another job.
 first-faulty : readMap (given 7 0 0 0 ++ (given 7 1 5 3 ++ given 8 2 0 6)) 7 ≡ refusedBy (FaultyRecord 1)
-unfolding readMap wrongLength either choose readFrom recordOf numberAt judged turn accepted inside onBoard both anyOf spotsTooNear spotOf spotsOf withPinOf
+unfolding readMap wrongLength either choose rowsFrom recordsIn withPinsOf recordOf numberAt faulty firstOf accepted inside onBoard both anyOf spotsTooNear spotOf spotsOf withPinOf
 first-faulty = refl
 
 -- A pin that comes twice is 15.
 not-ascending : readMap (given 7 3 0 0 ++ given 7 3 0 1) 7 ≡ refusedBy (FaultyRecord 1)
-unfolding readMap wrongLength either choose readFrom recordOf numberAt judged turn accepted inside onBoard both anyOf spotsTooNear spotOf spotsOf withPinOf
+unfolding readMap wrongLength either choose rowsFrom recordsIn withPinsOf recordOf numberAt faulty firstOf accepted inside onBoard both anyOf spotsTooNear spotOf spotsOf withPinOf
 not-ascending = refl
 
 -- A pin below the one before it is 15,
 descending : readMap (given 7 3 0 0 ++ given 7 2 0 1) 7 ≡ refusedBy (FaultyRecord 1)
-unfolding readMap wrongLength either choose readFrom recordOf numberAt judged turn accepted inside onBoard both anyOf spotsTooNear spotOf spotsOf withPinOf
+unfolding readMap wrongLength either choose rowsFrom recordsIn withPinsOf recordOf numberAt faulty firstOf accepted inside onBoard both anyOf spotsTooNear spotOf spotsOf withPinOf
 descending = refl
 
 -- and so is a place that comes again.
 place-twice : readMap (given 7 3 0 9 ++ given 7 4 0 9) 7 ≡ refusedBy (FaultyRecord 1)
-unfolding readMap wrongLength either choose readFrom recordOf numberAt judged turn accepted inside onBoard both anyOf spotsTooNear spotOf spotsOf tooNear closer
+unfolding readMap wrongLength either choose rowsFrom recordsIn withPinsOf recordOf numberAt faulty firstOf accepted inside onBoard both anyOf spotsTooNear spotOf spotsOf tooNear closer
     difference withPinOf
 place-twice = refl
 
 -- x 20,000 is accepted, 20,001 is 15.
 limits : (accepted (readMap (0 ∷ 7 ∷ 0 ∷ 0 ∷ 0 ∷ 0 ∷ 78 ∷ 32 ∷ 0 ∷ 0 ∷ 0 ∷ 0 ∷ []) 7 .verdict) ≡ true)
     × (readMap (0 ∷ 7 ∷ 0 ∷ 0 ∷ 0 ∷ 0 ∷ 78 ∷ 33 ∷ 0 ∷ 0 ∷ 0 ∷ 0 ∷ []) 7 ≡ refusedBy (FaultyRecord 0))
-unfolding readMap wrongLength either choose readFrom recordOf numberAt judged turn accepted inside onBoard both anyOf spotsTooNear spotOf spotsOf withPinOf
+unfolding readMap wrongLength either choose rowsFrom recordsIn withPinsOf recordOf numberAt faulty firstOf accepted inside onBoard both anyOf spotsTooNear spotOf spotsOf withPinOf
 limits = (refl, refl)

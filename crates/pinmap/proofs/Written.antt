@@ -1,6 +1,5 @@
 -- What writing leaves in a buffer: a record's stores, and pin after pin. Assumes nothing.
 use mathlib.Core.Path.{_≡_, refl, sym, ap, _∙_}
-use mathlib.Core.Bool.{true, false}
 use mathlib.Core.List.{List, [], _∷_, _++_, append-nil, append-assoc}
 use Prim.Native.Nat.{ℕ, _+_, _-_, _*_, _/_, _%_, _<_, _≤_}
 use native.Mathlib.Omega.{arith}
@@ -11,6 +10,9 @@ use lib.Seq.{sets, sets-eq, length-sets, drop-drop}
 use borrow.Rule.Slice.PartMut.{putMid}
 use borrow.Author.Tests.{lt-ltb, le-ltb}
 use Rattle.refusal.specs.declared.Verdict.the-variants.{Accepted, RoomTooSmall}
+use Rattle.refusal.specs.Refusals.{accepted}
+use Rattle.refusal.specs.Rows.{firstOf}
+use Rattle.refusal.proofs.Rows.{hit}
 use Rattle.basics.proofs.Tests.{choose-yes, choose-no}
 use Rattle.basics.proofs.Lists.{front, sets-append}
 use Rattle.pinmap.specs.Number.{putAt}
@@ -21,7 +23,7 @@ use Rattle.drawing.specs.declared.Pin.{Pin}
 use Rattle.board.specs.Spots.{mostPins}
 use Rattle.drawing.specs.Pins.{absent}
 use Rattle.pinmap.specs.Record.{recordSize, recordBytes, bytesIn, pinBytes}
-use Rattle.pinmap.specs.Map.{mapFrom, mapOf, written, noRoom, writeMap, bufferAfter}
+use Rattle.pinmap.specs.Map.{mapFrom, mapOf, written, roomRows, writeMap, bufferAfter}
 
 -- Stores from the front on leave what follows them.
 pub sets-front : (xs l : List ℕ) → length xs ≤ length l → sets l 0 xs ≡ written xs l
@@ -191,30 +193,33 @@ module _ (job : ℕ) (l : List Pin) (before now : List ℕ) (at i : ℕ) (s : St
 -- ---- the answer, by the room
 
 module _ (l : List Pin) (job : ℕ) (buffer : List ℕ) {n : ℕ} (e : n ≡ length (mapOf job l)) where
-  -- Room for fewer bytes than the map has is too small,
-  pub too-small : length buffer < n → noRoom l job (length buffer) ≡ true
-  too-small h = lt-ltb (length buffer) (length (mapOf job l)) (omega arith)
+  module _ (h : length buffer < n) where
+    -- Room for fewer bytes than the map has is too small:
+    too-small : RoomTooSmall ≡ firstOf (roomRows job l (length buffer))
+    too-small = hit RoomTooSmall [] (lt-ltb (length buffer) (length (mapOf job l)) (omega arith))
 
-  -- room for as many is enough.
-  pub room-enough : n ≤ length buffer → noRoom l job (length buffer) ≡ false
-  room-enough h = le-ltb (length buffer) (length (mapOf job l)) (omega arith)
+    -- writing is answered 19
+    pub answer-small : record { verdict = RoomTooSmall; bytes = 0 } ≡ writeMap l job buffer
+    unfolding writeMap accepted
+    answer-small = rw (← too-small) (λ i. record { verdict = RoomTooSmall; bytes = sym (choose-no (length (mapOf job l)) 0 refl) i })
 
-  -- Where it is too small, writing is answered 19
-  pub answer-small : length buffer < n → record { verdict = RoomTooSmall; bytes = 0 } ≡ writeMap l job buffer
-  unfolding writeMap
-  answer-small h = sym (choose-yes _ _ (too-small h))
+    -- and leaves the buffer as it was;
+    pub buffer-small : buffer ≡ bufferAfter l job buffer
+    unfolding bufferAfter accepted
+    buffer-small = rw (← too-small) (sym (choose-no _ _ refl))
 
-  -- and leaves the buffer as it was;
-  pub buffer-small : length buffer < n → buffer ≡ bufferAfter l job buffer
-  unfolding bufferAfter
-  buffer-small h = sym (choose-yes _ _ (too-small h))
+  module _ (h : n ≤ length buffer) where
+    -- where it is enough,
+    enough : Accepted ≡ firstOf (roomRows job l (length buffer))
+    unfolding firstOf
+    enough = sym (choose-no _ _ (le-ltb (length buffer) (length (mapOf job l)) (omega arith)))
 
-  -- where it is enough, writing is accepted with the number of bytes
-  pub answer-written : n ≤ length buffer → record { verdict = Accepted; bytes = n } ≡ writeMap l job buffer
-  unfolding writeMap
-  answer-written h = rw e (sym (choose-no _ _ (room-enough h)))
+    -- writing is accepted with the number of bytes
+    pub answer-written : record { verdict = Accepted; bytes = n } ≡ writeMap l job buffer
+    unfolding writeMap accepted
+    answer-written = rw (← enough) (λ i. record { verdict = Accepted; bytes = (e ∙ sym (choose-yes (length (mapOf job l)) 0 refl)) i })
 
-  -- and leaves the map in the buffer.
-  pub buffer-written : n ≤ length buffer → written (mapOf job l) buffer ≡ bufferAfter l job buffer
-  unfolding bufferAfter
-  buffer-written h = sym (choose-no _ _ (room-enough h))
+    -- and leaves the map in the buffer.
+    pub buffer-written : written (mapOf job l) buffer ≡ bufferAfter l job buffer
+    unfolding bufferAfter accepted
+    buffer-written = rw (← enough) (sym (choose-yes _ _ refl))

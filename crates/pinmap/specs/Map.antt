@@ -6,47 +6,58 @@ use lib.Dec.{eqb, ltb}
 use lib.ListN.{length, take, drop, set}
 use Rattle.basics.specs.Tests.{either, choose}
 use Rattle.refusal.specs.Refusals.{accepted}
-use Rattle.refusal.specs.declared.Verdict.{Verdict}
-use Rattle.refusal.specs.declared.Verdict.the-variants.{Accepted, MapLength, RoomTooSmall}
+use Rattle.refusal.specs.declared.Verdict.the-variants.{MapLength, RoomTooSmall}
+use Rattle.refusal.specs.Rows.{Row, given, firstOf}
 use Rattle.drawing.specs.declared.Pin.{Pin}
-use Rattle.drawing.specs.Pins.{noPins, there, holding}
-use Rattle.pinmap.specs.declared.Record.{Record}
+use Rattle.drawing.specs.Pins.{noPins, there, holding, spotsOf}
+use Rattle.pinmap.specs.declared.MapRecord.{MapRecord}
 use Rattle.pinmap.specs.declared.Reading.{Reading}
 use Rattle.pinmap.specs.declared.Writing.{Writing}
-use Rattle.pinmap.specs.Record.{recordSize, recordOf, judged, pinBytes}
+use Rattle.pinmap.specs.Record.{recordSize, recordOf, recordRows, pinBytes}
 
 -- A map has at most 384 bytes.
 abbrev pub mostBytes : ℕ
 mostBytes = 384
 
--- A refusal comes with no pins.
-abbrev pub refusedBy : Verdict → Reading
-refusedBy v = record { verdict = v; pins = noPins }
+-- Each record is read from its own part of the map: so many of them.
+unfoldable pub recordsIn : ℕ → List ℕ → List MapRecord
+recordsIn zero map = []
+recordsIn (suc left) map = recordOf (take recordSize map) ∷ recordsIn left (drop recordSize map)
 
--- An accepted reading comes with the pins.
-abbrev pub readAs : List Pin → Reading
-readAs l = record { verdict = Accepted; pins = l }
+-- All records of a map.
+abbrev pub recordsOf : List ℕ → List MapRecord
+recordsOf map = recordsIn (length map / recordSize) map
 
 -- The pins with that of a record.
-unfoldable pub withPinOf : List Pin → Record → List Pin
+unfoldable pub withPinOf : List Pin → MapRecord → List Pin
 withPinOf l r = set l (r .pin) (there (holding (r .place)))
 
--- Each record is read from its own part of the map, up to the first faulty one. So many records are left, the first of them has this number,
--- `next` is one more than the pin before (0 at first), and these are the pins of the earlier records.
-unfoldable pub readFrom : ℕ → List ℕ → ℕ → ℕ → ℕ → List Pin → Reading
-readFrom zero map job number next earlier = readAs earlier
-readFrom (suc left) map job number next earlier =
-    let r : Record = recordOf (take recordSize map) in
-    let v : Verdict = judged job number next earlier r in
-    choose (accepted v) (readFrom left (drop recordSize map) job (number + 1) (r .pin + 1) (withPinOf earlier r)) (refusedBy v)
+-- The pins with those of some records.
+unfoldable pub withPinsOf : List Pin → List MapRecord → List Pin
+withPinsOf l [] = l
+withPinsOf l (r ∷ records) = withPinsOf (withPinOf l r) records
+
+-- Record by record: the first of them has this number, `next` is one more than the pin before (0 at first), and these are the pins of the earlier records.
+unfoldable pub rowsFrom : ℕ → ℕ → ℕ → List Pin → List MapRecord → List Row
+rowsFrom job number next earlier [] = []
+rowsFrom job number next earlier (r ∷ records) =
+    recordRows job number next (spotsOf earlier) r ++ rowsFrom job (number + 1) (r .pin + 1) (withPinOf earlier r) records
 
 -- Map length not a multiple of 12, or above 384.
 unfoldable pub wrongLength : List ℕ → Bool
 wrongLength map = either (ltb mostBytes (length map)) (not (eqb (length map % recordSize) 0))
 
--- Reading a map under a job: 13, then the first faulty record. An empty map is a drawing without pins.
+-- Reading a map under a job: 13, then the first faulty record, 14 before 15.
+abbrev pub mapRows : List ℕ → ℕ → List Row
+mapRows map job = given (wrongLength map) MapLength ∷ rowsFrom job 0 0 noPins (recordsOf map)
+
+-- A reading that these rows decide: the pins of the map's records, no pins where it is refused.
+abbrev pub readBy : List Row → List ℕ → Reading
+readBy rows map = record { verdict = firstOf rows; pins = choose (accepted (firstOf rows)) (withPinsOf noPins (recordsOf map)) noPins }
+
+-- Reading a map under a job. An empty map is a drawing without pins.
 unfoldable pub readMap : List ℕ → ℕ → Reading
-readMap map job = choose (wrongLength map) (refusedBy MapLength) (readFrom (length map / recordSize) map job 0 0 noPins)
+readMap map job = readBy (mapRows map job) map
 
 -- The records of the pins numbered `from` and above.
 unfoldable pub mapFrom : ℕ → ℕ → List Pin → List ℕ
@@ -62,14 +73,21 @@ unfoldable pub written : List ℕ → List ℕ → List ℕ
 written map buffer = map ++ drop (length map) buffer
 
 -- Lent room smaller than needed.
-abbrev pub noRoom : List Pin → ℕ → ℕ → Bool
-noRoom l job room = ltb room (length (mapOf job l))
+abbrev pub roomRows : ℕ → List Pin → ℕ → List Row
+roomRows job l room = given (ltb room (length (mapOf job l))) RoomTooSmall ∷ []
+
+-- A writing that these rows decide: the number of bytes of the map, none where it is refused;
+abbrev pub writeBy : List Row → List ℕ → Writing
+writeBy rows map = record { verdict = firstOf rows; bytes = choose (accepted (firstOf rows)) (length map) 0 }
+
+-- the buffer after it, untouched where it is refused.
+abbrev pub bufferBy : List Row → List ℕ → List ℕ → List ℕ
+bufferBy rows map buffer = choose (accepted (firstOf rows)) (written map buffer) buffer
 
 -- Writing a map: 19, else the number of bytes written.
 unfoldable pub writeMap : List Pin → ℕ → List ℕ → Writing
-writeMap l job buffer =
-    choose (noRoom l job (length buffer)) (record { verdict = RoomTooSmall; bytes = 0 }) (record { verdict = Accepted; bytes = length (mapOf job l) })
+writeMap l job buffer = writeBy (roomRows job l (length buffer)) (mapOf job l)
 
--- The buffer after writing: untouched where the call is refused.
+-- The buffer after writing.
 unfoldable pub bufferAfter : List Pin → ℕ → List ℕ → List ℕ
-bufferAfter l job buffer = choose (noRoom l job (length buffer)) buffer (written (mapOf job l) buffer)
+bufferAfter l job buffer = bufferBy (roomRows job l (length buffer)) (mapOf job l) buffer

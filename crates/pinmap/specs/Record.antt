@@ -4,19 +4,19 @@ use mathlib.Core.List.{List, [], _∷_}
 use Prim.Native.Nat.{ℕ, _+_, _*_, _/_, _%_}
 use lib.Dec.{eqb, leb, ltb}
 use lib.ListN.{getD}
-use Rattle.refusal.specs.declared.Verdict.{Verdict}
-use Rattle.refusal.specs.declared.Verdict.the-variants.{Accepted, OtherJob, FaultyRecord}
-use Rattle.refusal.specs.Refusals.{turn}
+use Rattle.basics.specs.Tests.{either}
+use Rattle.refusal.specs.declared.Verdict.the-variants.{OtherJob, FaultyRecord}
+use Rattle.refusal.specs.Rows.{Row, given}
 use Rattle.pinmap.specs.Number.{numberAt, firstByte, secondByte, thirdByte, fourthByte}
 use Rattle.board.specs.Place.{inside}
 use Rattle.drawing.specs.declared.Held.{Held}
 use Rattle.drawing.specs.declared.Stand.{Stand}
 use Rattle.drawing.specs.declared.Stand.the-variants.{Absent, There}
 use Rattle.drawing.specs.declared.Pin.{Pin}
+use Rattle.board.specs.declared.Spot.{Spot}
 use Rattle.board.specs.declared.Spot.the-variants.{At}
 use Rattle.board.specs.Spots.{mostPins, tooNearAny}
-use Rattle.drawing.specs.Pins.{spotsOf}
-use Rattle.pinmap.specs.declared.Record.{Record}
+use Rattle.pinmap.specs.declared.MapRecord.{MapRecord}
 
 -- Records of 12 bytes.
 abbrev pub recordSize : ℕ
@@ -27,7 +27,7 @@ abbrev pub jobAt : List ℕ → ℕ
 jobAt bytes = getD bytes 0 0 * 256 + getD bytes 1 0
 
 -- Bytes 0 and 1 job; byte 2 pin number; byte 3 zero; bytes 4 to 7 x; bytes 8 to 11 y. Numbers are high byte first.
-unfoldable pub recordOf : List ℕ → Record
+unfoldable pub recordOf : List ℕ → MapRecord
 recordOf part =
     record {
       job = jobAt part;
@@ -36,39 +36,19 @@ recordOf part =
       place = record { x = numberAt part 4; y = numberAt part 8 };
     }
 
--- The record has a job other than the one opened.
-abbrev pub otherJob : ℕ → Record → Bool
-otherJob job r = not (eqb (r .job) job)
+-- The record's pin is above 31 or not above the one before (`next` is one more than that), byte 3 is not zero, its place is outside, or it is that of an
+-- earlier record, or too near to it.
+unfoldable pub faulty : ℕ → List Spot → MapRecord → Bool
+faulty next earlier r =
+    either (leb mostPins (r .pin))
+    (either (ltb (r .pin) next)
+    (either (not (eqb (r .byte3) 0))
+    (either (not (inside (r .place))) (tooNearAny (At (r .place)) earlier))))
 
--- Its pin is above 31.
-abbrev pub pinAbove : Record → Bool
-pinAbove r = leb mostPins (r .pin)
-
--- Its byte 3 is not zero.
-abbrev pub notZero : Record → Bool
-notZero r = not (eqb (r .byte3) 0)
-
--- Its place is outside.
-abbrev pub outside : Record → Bool
-outside r = not (inside (r .place))
-
--- Its pin is not above the one before: `next` is one more than that.
-abbrev pub notAbove : ℕ → Record → Bool
-notAbove next r = ltb (r .pin) next
-
--- Its place is that of an earlier record, or too near to it.
-abbrev pub placeTaken : List Pin → Record → Bool
-placeTaken earlier r = tooNearAny (At (r .place)) (spotsOf earlier)
-
--- A record after those that were read: 14 before 15, with its number, counted from 0.
-unfoldable pub judged : ℕ → ℕ → ℕ → List Pin → Record → Verdict
-judged job number next earlier r =
-    turn (otherJob job r) (OtherJob number)
-    (turn (pinAbove r) (FaultyRecord number)
-    (turn (notZero r) (FaultyRecord number)
-    (turn (outside r) (FaultyRecord number)
-    (turn (notAbove next r) (FaultyRecord number)
-    (turn (placeTaken earlier r) (FaultyRecord number) Accepted)))))
+-- A record after earlier ones, with its number, counted from 0: 14, a job other than the one opened, before 15.
+abbrev pub recordRows : ℕ → ℕ → ℕ → List Spot → MapRecord → List Row
+recordRows job number next earlier r =
+    given (not (eqb (r .job) job)) (OtherJob number) ∷ given (faulty next earlier r) (FaultyRecord number) ∷ []
 
 -- The twelve bytes of a pin's record.
 unfoldable pub recordBytes : ℕ → ℕ → Held → List ℕ

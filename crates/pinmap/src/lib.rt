@@ -3,19 +3,20 @@ mod numbers;
 
 use board::PINS;
 use board::Place;
-use board::Spot;
 use drawing::Held;
 use drawing::Pin;
 use drawing::Stand;
 use refusal::Verdict;
 ghost use mathlib.Core.Path.{_≡_};
-ghost use Prim.Native.Nat.{ℕ, _+_, _<_, _≤_, _/_};
+ghost use mathlib.Core.Bool.{false};
+ghost use Prim.Native.Nat.{ℕ, _+_, _<_, _≤_};
 ghost use lib.ListN.{length};
 ghost use lib.Seq.{sets};
-ghost use Rattle.board.specs.Spots.{mostPins};
+ghost use Rattle.board.specs.Spots.{mostPins, spotsFrom};
+ghost use Rattle.refusal.specs.Rows.{firstOf};
 ghost use Rattle.drawing.specs.Pins.{noPins};
-ghost use Rattle.pinmap.specs.Record.{recordSize, jobAt, recordOf, recordBytes, pinBytes, otherJob, pinAbove, notZero, outside, notAbove, placeTaken, judged};
-ghost use Rattle.pinmap.specs.Map.{refusedBy, readFrom, readMap, mapOf, writeMap, bufferAfter, written};
+ghost use Rattle.pinmap.specs.Record.{recordSize, jobAt, recordOf, faulty, recordRows, recordBytes, pinBytes};
+ghost use Rattle.pinmap.specs.Map.{wrongLength, readMap, mapOf, writeMap, bufferAfter, written};
 
 // A record has this many bytes.
 pub const RECORD_BYTES: usize = 12;
@@ -24,7 +25,7 @@ pub const RECORD_BYTES: usize = 12;
 pub const MOST_BYTES: usize = 384;
 
 // What a record says: its job, its pin number, its byte 3, and its place.
-pub struct Record {
+pub struct MapRecord {
     pub job: u16,
     pub pin: usize,
     pub byte3: u8,
@@ -52,7 +53,7 @@ pub fn job_at(bytes: &[u8]) -> u16
 }
 
 // What the record in its own part of the map says.
-fn read_record(part: &[u8]) -> Record
+fn read_record(part: &[u8]) -> MapRecord
     requires { ⌜ length (now part) ≡ recordSize ⌝ }
     ensures { λ r. ⌜ r ≡ recordOf (now (part .entry)) ⌝ }
 {
@@ -63,7 +64,7 @@ fn read_record(part: &[u8]) -> Record
         x: numbers::read_number(part, 4),
         y: numbers::read_number(part, 8),
     };
-    Record {
+    MapRecord {
         job,
         pin,
         byte3,
@@ -71,79 +72,57 @@ fn read_record(part: &[u8]) -> Record
     }
 }
 
-// Whether a record has a job other than this one.
-fn has_other_job(given: Record, job: u16) -> bool
-    ensures { λ r. ⌜ r ≡ otherJob job given ⌝ }
+// Whether a record is at fault otherwise than by its job. `next` is one more than the pin before, and the lists tell where the earlier records' pins stand.
+fn is_faulty(
+    given: MapRecord,
+    next: usize,
+    xs: &[i32; PINS],
+    ys: &[i32; PINS],
+    there: &[bool; PINS],
+) -> bool
+    ensures { λ r. ⌜ r ≡ faulty next (spotsFrom (now (xs .entry)) (now (ys .entry)) (now (there .entry))) given ⌝ }
 {
-    given.job != job
-}
-
-// Whether a record's pin number is above the last one of a drawing.
-fn has_pin_above(given: Record) -> bool
-    ensures { λ r. ⌜ r ≡ pinAbove given ⌝ }
-{
-    PINS <= given.pin
-}
-
-// Whether a record's byte 3 is not zero.
-fn is_not_zero(given: Record) -> bool
-    ensures { λ r. ⌜ r ≡ notZero given ⌝ }
-{
-    given.byte3 != 0
-}
-
-// Whether a record's place is outside the board.
-fn is_outside(given: Record) -> bool
-    ensures { λ r. ⌜ r ≡ outside given ⌝ }
-{
+    if PINS <= given.pin {
+        return true;
+    }
+    if given.pin < next {
+        return true;
+    }
+    if given.byte3 != 0 {
+        return true;
+    }
     let at = given.place;
-    !board::is_inside(at)
-}
-
-// Whether a record's pin number is not above the one before: `next` is one more than that.
-fn is_not_above(given: Record, next: usize) -> bool
-    ensures { λ r. ⌜ r ≡ notAbove next given ⌝ }
-{
-    given.pin < next
-}
-
-// Whether a record's place is that of an earlier record, or too near to it.
-fn has_place_taken(given: Record, earlier: [Pin; PINS]) -> bool
-    ensures { λ r. ⌜ r ≡ placeTaken earlier given ⌝ }
-{
-    let at = given.place;
-    let spots = drawing::spots_of(earlier);
-    board::too_near_any(Spot::At(at), spots, 0)
+    if !board::is_inside(at) {
+        return true;
+    }
+    board::spots::too_near_any(xs, ys, there, at, 0)
 }
 
 // What a record comes to, as the one of this number after those that were read.
-fn judge(given: Record, job: u16, number: usize, next: usize, earlier: [Pin; PINS]) -> Verdict
-    ensures { λ r. ⌜ r ≡ judged job number next earlier given ⌝ }
+fn judge(
+    given: MapRecord,
+    job: u16,
+    number: usize,
+    next: usize,
+    xs: &[i32; PINS],
+    ys: &[i32; PINS],
+    there: &[bool; PINS],
+) -> Verdict
+    ensures { λ r. ⌜ r ≡ firstOf (recordRows job number next (spotsFrom (now (xs .entry)) (now (ys .entry)) (now (there .entry))) given) ⌝ }
 {
-    if has_other_job(given, job) {
+    if given.job != job {
         return Verdict::OtherJob(number);
     }
-    if has_pin_above(given) {
-        return Verdict::FaultyRecord(number);
+    if is_faulty(given, next, xs, ys, there) {
+        Verdict::FaultyRecord(number)
+    } else {
+        Verdict::Accepted
     }
-    if is_not_zero(given) {
-        return Verdict::FaultyRecord(number);
-    }
-    if is_outside(given) {
-        return Verdict::FaultyRecord(number);
-    }
-    if is_not_above(given, next) {
-        return Verdict::FaultyRecord(number);
-    }
-    if has_place_taken(given, earlier) {
-        return Verdict::FaultyRecord(number);
-    }
-    Verdict::Accepted
 }
 
 // A reading that was turned away.
 fn refuse(verdict: Verdict) -> Reading
-    ensures { λ r. ⌜ r ≡ refusedBy verdict ⌝ }
+    ensures { λ r. ⌜ (r .verdict ≡ verdict) × (r .pins ≡ noPins) ⌝ }
 {
     Reading {
         verdict,
@@ -151,28 +130,36 @@ fn refuse(verdict: Verdict) -> Reading
     }
 }
 
-// Reads the records of a map one after the other, up to the first faulty one.
+// Reads the records of a map of a right length one after the other, up to the first faulty one.
 fn read_records(map: &[u8], job: u16) -> Reading
-    ensures { λ r. ⌜ r ≡ readFrom (length (now (map .entry)) / recordSize) (now (map .entry)) job 0 0 noPins ⌝ }
+    requires { ⌜ wrongLength (now map) ≡ false ⌝ }
+    ensures { λ r. ⌜ r ≡ readMap (now (map .entry)) job ⌝ }
 {
     let count = map.len() / RECORD_BYTES;
     let mut pins = drawing::no_pins();
+    let mut xs = [0i32; PINS];
+    let mut ys = [0i32; PINS];
+    let mut there = [false; PINS];
     let mut next: usize = 0;
     let mut number: usize = 0;
     while number < count {
         let at = number * RECORD_BYTES;
         let end = at + RECORD_BYTES;
         let given = read_record(&map[at..end]);
-        let verdict = judge(given, job, number, next, pins);
-        if refusal::is_accepted(verdict) {
-            let pin = given.pin;
-            let place = given.place;
-            pins[pin] = drawing::pin_with(Held { place });
-            next = pin + 1;
-            number += 1;
-        } else {
+        let verdict = judge(given, job, number, next, &xs, &ys, &there);
+        if !refusal::is_accepted(verdict) {
             return refuse(verdict);
         }
+        let pin = given.pin;
+        let place = given.place;
+        pins[pin] = drawing::pin_with(Held { place });
+        let x = place.x;
+        xs[pin] = x;
+        let y = place.y;
+        ys[pin] = y;
+        there[pin] = true;
+        next = pin + 1;
+        number += 1;
     }
     Reading {
         verdict: Verdict::Accepted,

@@ -1,42 +1,26 @@
 -- A line kept only as far as the room goes is read as the whole line. Assumes nothing.
-use mathlib.Core.Path.{_≡_, refl, sym, _∙_, ap}
-use mathlib.Core.List.{List, [], _++_}
+use mathlib.Core.Path.{_≡_, sym, _∙_, ap}
+use mathlib.Core.List.{List, _++_}
 use mathlib.Core.Logic.{_⊎_, inl, inr}
 use Prim.Native.Nat.{ℕ, _+_, _-_, _≤_, _<_, min}
 use native.Mathlib.Omega.{arith}
 use lib.ListN.{length, take, drop, length-append, length-take}
 use lib.Seq.{take-all, length-take-le, take-at, take-append-add, sets, sets-eq}
-use Rattle.text.specs.Words.{endOf}
-use Rattle.script.specs.Said.{mostLine, saidBy, mapGiven, xsGiven, ysGiven}
+use Rattle.text.specs.Words.{withoutReturn}
+use Rattle.text.proofs.Cutting.{return-one}
+use Rattle.script.specs.Said.{mostLine}
 use Rattle.play.specs.Log.{mostKept}
 use Rattle.board.proofs.Flat.{order}
-use Rattle.script.proofs.Asking.{end-from, long-said, long-map, long-across, long-up}
 
--- What is the same for all long lines is the same for a line and for what is kept of it:
-clipped : {A : Type 0} (f : List ℕ → A) (z : A) → ((l : List ℕ) → mostLine < endOf l → z ≡ f l) → (l : List ℕ) → f (take mostKept l) ≡ f l
+-- What is the same for all lines that are too long is the same for a line and for what is kept of it.
+pub clipped : {A : Type 0} (f : List ℕ → A) (z : A) → ((l : List ℕ) → mostLine < length (withoutReturn l) → z ≡ f l) → (l : List ℕ) → f (take mostKept l) ≡ f l
 clipped f z same l = by (order (length l) mostKept)
   where
     by : (length l ≤ mostKept) ⊎ (mostKept < length l) → f (take mostKept l) ≡ f l
     by (inl h) = ap f (take-all mostKept l h)
     by (inr h) =
-        sym (same (take mostKept l) (omega (arith, end-from (take mostKept l), length-take-le mostKept l (omega arith))))
-        ∙ same l (omega (arith, end-from l))
-
--- what it asks for,
-pub clipped-said : (l : List ℕ) → saidBy (take mostKept l) ≡ saidBy l
-clipped-said l = clipped saidBy _ (λ l h. long-said l refl h) l
-
--- the bytes of its map,
-pub clipped-map : (l : List ℕ) → mapGiven (take mostKept l) ≡ mapGiven l
-clipped-map l = clipped mapGiven [] (λ l h. long-map l refl h) l
-
--- its x
-pub clipped-across : (l : List ℕ) → xsGiven (take mostKept l) ≡ xsGiven l
-clipped-across l = clipped xsGiven [] (λ l h. long-across l refl h) l
-
--- and its y.
-pub clipped-up : (l : List ℕ) → ysGiven (take mostKept l) ≡ ysGiven l
-clipped-up l = clipped ysGiven [] (λ l h. long-up l refl h) l
+        sym (same (take mostKept l) (omega (arith, return-one (take mostKept l), length-take-le mostKept l (omega arith))))
+        ∙ same l (omega (arith, return-one l))
 
 -- What is kept of a line with more bytes after it.
 pub keeping : (old bytes : List ℕ) (kept : ℕ) → kept ≤ mostKept → length old ≡ mostKept

@@ -10,22 +10,22 @@ use lib.ListN.{length, take}
 use Rattle.basics.specs.Tests.{both, choose}
 use Rattle.text.specs.Words.{newline, beforeFirst, pieces}
 use Rattle.play.specs.Log.{mostKept}
-use Rattle.play.proofs.Clipping.{clipped-said, clipped-map, clipped-across, clipped-up}
+use Rattle.play.proofs.Clipping.{clipped}
 use Rattle.desk.specs.declared.Desk.{Desk}
+use Rattle.printed.specs.Answers.{notACallLine}
 use Rattle.answer.specs.Answered.{played, answered}
+use Rattle.answer.proofs.Answering.{long-played, long-answered}
 use Rattle.play.specs.Log.{Log, nextLine, longer, heard, stopped, lastHeard, logAfter}
 use Rattle.play.specs.Lines.{linesIn, linesOf, playedAll}
 use Rattle.play.proofs.Hearing.{cut-once}
 
--- A line that is kept only as far as is enough to read it makes of the desk what the whole line does.
-pub clipped : (d : Desk) (line : List ℕ) → played d (take mostKept line) ≡ played d line
-unfolding played
-clipped d line = rw (clipped-map line, clipped-said line)
+-- A line that is kept only as far as is enough to read it makes of the desk what the whole line does,
+pub clipped-played : (d : Desk) (line : List ℕ) → played d (take mostKept line) ≡ played d line
+clipped-played d line = clipped (played d) d (λ l h. long-played d l h) line
 
--- And it prints what the whole line does.
+-- and prints what the whole line does.
 pub clipped-answer : (d : Desk) (n : ℕ) (line : List ℕ) → answered d n (take mostKept line) ≡ answered d n line
-unfolding answered
-clipped-answer d n line = rw (clipped-map line, clipped-across line, clipped-up line, clipped-said line)
+clipped-answer d n line = clipped (answered d n) (notACallLine n) (λ l h. long-answered d l h n) line
 
 -- There is a first piece.
 record Some (pieces : List (List ℕ)) : Type 0 where
@@ -74,7 +74,7 @@ told-end true (b ∷ p) l n h k =
     let e : eqb (length (l .line)) 0 ≡ false = ap (λ (w : List ℕ). eqb (length w) 0) h ∙ eqb·suc-zero (length (take (mostKept - 1) p)) in
     let f : linesIn true ((b ∷ p) ∷ []) ≡ (b ∷ p) ∷ [] = ap (λ (t : Bool). choose (not t) ((b ∷ p) ∷ []) []) (eqb·suc-zero (length p)) in
     record {
-      desk = ap (λ (t : Bool). last t .desk) e ∙ ap (played (l .desk)) h ∙ clipped (l .desk) (b ∷ p) ∙ sym (ap (playedAll (l .desk)) f);
+      desk = ap (λ (t : Bool). last t .desk) e ∙ ap (played (l .desk)) h ∙ clipped-played (l .desk) (b ∷ p) ∙ sym (ap (playedAll (l .desk)) f);
       count = ap (λ (t : Bool). last t .lines) e ∙ counted n k ∙ sym (ap (λ (w : List (List ℕ)). (n + length w) % 2 ^ 64) f);
     }
 
@@ -87,7 +87,7 @@ told-newline ended part q l m n s h t =
     let e : linesIn ended (grown [] q) ≡ x = ap (λ (w : List (List ℕ)). linesIn ended (grown [] w)) (s .are) in
     let f : linesIn ended (grown part ([] ∷ q)) ≡ part ∷ x =
     ap (λ (w : List (List ℕ)). linesIn ended (grown part ([] ∷ w))) (s .are) ∙ ap (λ (w : List ℕ). w ∷ x) (append-nil part) in
-    let g : played (l .desk) (l .line) ≡ played (l .desk) part = ap (played (l .desk)) h ∙ clipped (l .desk) part in
+    let g : played (l .desk) (l .line) ≡ played (l .desk) part = ap (played (l .desk)) h ∙ clipped-played (l .desk) part in
     let z : n + 1 + length x ≡ n + suc (length x) = omega arith in
     let after : ℕ → List (List ℕ) → ℕ = λ m w. (m + length w) % 2 ^ 64 in
     record {

@@ -10,17 +10,12 @@ use Rattle.refusal.specs.declared.Carried.{Carried}
 use Rattle.refusal.specs.declared.Carried.the-variants.{Nothing, Record}
 use Rattle.refusal.specs.declared.Told.{Told}
 use Rattle.board.specs.declared.Place.{Place}
-use Rattle.text.specs.Text.{text}
-use Rattle.text.specs.Digits.{decimal, field, placeText, hex}
-use Rattle.script.specs.Said.{mostRoom}
+use Rattle.text.specs.Text.{text, mostRoom}
+use Rattle.text.specs.Digits.{field, placeText, hex}
 
 -- The line of an answer, but that of a writing, has at most so many bytes.
 abbrev pub mostLineBytes : ℕ
 mostLineBytes = 200
-
--- The labels of such a line have at most so many bytes together.
-abbrev pub mostLabelBytes : ℕ
-mostLabelBytes = 100
 
 -- The line of a run has at most so many bytes.
 abbrev pub mostRunBytes : ℕ
@@ -68,24 +63,15 @@ hexPart (b ∷ rest) = text " " ++ hex (b ∷ rest)
 unfoldable pub writtenLine : ℕ → List ℕ → List ℕ
 writtenLine bytes buffer = field "0 " bytes ++ hexPart (take mostRoom buffer) ++ text "\n"
 
--- A line of four labels, each with a number after it.
-abbrev pub fieldsLine : List ℕ → ℕ → List ℕ → ℕ → List ℕ → ℕ → List ℕ → ℕ → List ℕ
-fieldsLine label1 number1 label2 number2 label3 number3 label4 number4 =
-    (label1 ++ decimal number1)
-    ++ (label2 ++ decimal number2)
-    ++ (label3 ++ decimal number3)
-    ++ (label4 ++ decimal number4)
-    ++ text "\n"
-
 -- An accepted wiring: `0 length L runs R legs G weighed W`.
 unfoldable pub wiredLine : ℕ → ℕ → ℕ → ℕ → List ℕ
 wiredLine length runs legs weighed =
-    fieldsLine (text "0 length ") length (text " runs ") runs (text " legs ") legs (text " weighed ") weighed
+    field "0 length " length ++ field " runs " runs ++ field " legs " legs ++ field " weighed " weighed ++ text "\n"
 
 -- An accepted wiring of a map: `job J length L runs R weighed W`.
 unfoldable pub jobLine : ℕ → ℕ → ℕ → ℕ → List ℕ
 jobLine job length runs weighed =
-    fieldsLine (text "job ") job (text " length ") length (text " runs ") runs (text " weighed ") weighed
+    field "job " job ++ field " length " length ++ field " runs " runs ++ field " weighed " weighed ++ text "\n"
 
 -- A run: `near far shape`.
 unfoldable pub runLine : ℕ → ℕ → List ℕ → List ℕ
@@ -102,7 +88,7 @@ closedLine = text "closed\n"
 -- A drawing: `job J pins N standing S taken T`.
 unfoldable pub drawingLine : ℕ → ℕ → ℕ → ℕ → List ℕ
 drawingLine job pins standing taken =
-    fieldsLine (text "job ") job (text " pins ") pins (text " standing ") standing (text " taken ") taken
+    field "job " job ++ field " pins " pins ++ field " standing " standing ++ field " taken " taken ++ text "\n"
 
 -- A pin of a drawing: `pin P X Y`.
 unfoldable pub pinLine : ℕ → Place → List ℕ

@@ -4,8 +4,8 @@ use board::Place;
 use refusal::Carried;
 use refusal::Told;
 use refusal::Verdict;
-use script::MOST_ROOM;
 use text::ANSWER_BYTES;
+use text::MOST_ROOM;
 use text::put::put;
 use text::put::put_decimal;
 use text::put::put_field;
@@ -15,31 +15,8 @@ ghost use mathlib.Core.Path.{_≡_};
 ghost use Prim.Native.Nat.{_+_, _≤_};
 ghost use lib.ListN.{length};
 ghost use lib.Seq.{sets};
-ghost use Rattle.text.specs.Text.{over, answerBytes, Holds};
-ghost use Rattle.script.specs.Said.{mostRoom};
-ghost use Rattle.printed.specs.Answers.{mostLineBytes, mostRunBytes, mostLegBytes, mostPinBytes, mostShapeBytes, mostLabelBytes, mostCarriedBytes, mostHexBytes, fieldsLine, hexPart, carriedText, toldLine, verdictLine, writtenLine, wiredLine, jobLine, runLine, legLine, closedLine, drawingLine, pinLine, notACallLine};
-
-// Prints four labels with a number after each, and ends the line.
-fn print_fields(
-    label1: &[u8],
-    number1: usize,
-    label2: &[u8],
-    number2: usize,
-    label3: &[u8],
-    number3: usize,
-    label4: &[u8],
-    number4: usize,
-    out: &mut [u8; ANSWER_BYTES],
-) -> usize
-    requires { ⌜ length (now label1) + length (now label2) + length (now label3) + length (now label4) ≤ mostLabelBytes ⌝ }
-    ensures { λ r. ⌜ Holds mostLineBytes (fieldsLine (now (label1 .entry)) number1 (now (label2 .entry)) number2 (now (label3 .entry)) number3 (now (label4 .entry)) number4) (now (out .entry)) r (now (out .exit)) ⌝ }
-{
-    let one = put_field(out, 0, label1, number1);
-    let two = put_field(out, one, label2, number2);
-    let three = put_field(out, two, label3, number3);
-    let four = put_field(out, three, label4, number4);
-    put(out, four, b"\n")
-}
+ghost use Rattle.text.specs.Text.{over, mostRoom, answerBytes, Holds};
+ghost use Rattle.printed.specs.Answers.{mostLineBytes, mostRunBytes, mostLegBytes, mostPinBytes, mostShapeBytes, mostCarriedBytes, mostHexBytes, hexPart, carriedText, toldLine, verdictLine, writtenLine, wiredLine, jobLine, runLine, legLine, closedLine, drawingLine, pinLine, notACallLine};
 
 // What is not a call: its line, counted from 1.
 pub fn print_not_a_call(line: usize, out: &mut [u8; ANSWER_BYTES]) -> usize
@@ -59,17 +36,11 @@ pub fn print_wired(
 ) -> usize
     ensures { λ r. ⌜ ((r ≡ lib.ListN.length (wiredLine length runs legs weighed)) × (r ≤ mostLineBytes)) × (now (out .exit) ≡ over (wiredLine length runs legs weighed) (now (out .entry))) ⌝ }
 {
-    print_fields(
-        b"0 length ",
-        length,
-        b" runs ",
-        runs,
-        b" legs ",
-        legs,
-        b" weighed ",
-        weighed,
-        out,
-    )
+    let one = put_field(out, 0, b"0 length ", length);
+    let two = put_field(out, one, b" runs ", runs);
+    let three = put_field(out, two, b" legs ", legs);
+    let four = put_field(out, three, b" weighed ", weighed);
+    put(out, four, b"\n")
 }
 
 // The wiring of a map: its job, length and runs, and the choices weighed.
@@ -82,17 +53,11 @@ pub fn print_job(
 ) -> usize
     ensures { λ r. ⌜ ((r ≡ lib.ListN.length (jobLine job length runs weighed)) × (r ≤ mostLineBytes)) × (now (out .exit) ≡ over (jobLine job length runs weighed) (now (out .entry))) ⌝ }
 {
-    print_fields(
-        b"job ",
-        job,
-        b" length ",
-        length,
-        b" runs ",
-        runs,
-        b" weighed ",
-        weighed,
-        out,
-    )
+    let one = put_field(out, 0, b"job ", job);
+    let two = put_field(out, one, b" length ", length);
+    let three = put_field(out, two, b" runs ", runs);
+    let four = put_field(out, three, b" weighed ", weighed);
+    put(out, four, b"\n")
 }
 
 // A run, from a position on: its ends, and the word of its shape.
@@ -142,17 +107,11 @@ pub fn print_drawing(
 ) -> usize
     ensures { λ r. ⌜ ((r ≡ length (drawingLine job pins standing taken)) × (r ≤ mostLineBytes)) × (now (out .exit) ≡ over (drawingLine job pins standing taken) (now (out .entry))) ⌝ }
 {
-    print_fields(
-        b"job ",
-        job,
-        b" pins ",
-        pins,
-        b" standing ",
-        standing,
-        b" taken ",
-        taken,
-        out,
-    )
+    let one = put_field(out, 0, b"job ", job);
+    let two = put_field(out, one, b" pins ", pins);
+    let three = put_field(out, two, b" standing ", standing);
+    let four = put_field(out, three, b" taken ", taken);
+    put(out, four, b"\n")
 }
 
 // A pin of a drawing and its place, from a position on.

@@ -1,4 +1,3 @@
 -- The laws of the rows that other crates cite.
-pub mod MapRows
 pub mod Rows
-mod Answers
+pub mod Passed

@@ -1,100 +1,67 @@
--- The rows of refusals of each call, as lists in document 01's order; and rows that were read before, with what comes after them. Assumes nothing.
+-- The rows of every call are apart, and what was read of them first. From the laws of rows; assumes nothing.
 use mathlib.Core.Path.{_≡_, refl, ap, sym, _∙_}
-use mathlib.Core.Bool.{Bool, true, false, not, true≢false, false≢true}
+use mathlib.Core.Bool.{Bool, true, false, not}
 use mathlib.Core.List.{List, [], _∷_, _++_}
 use Prim.Native.Nat.{ℕ, _<_}
-use borrow.Author.Tests.{not-true, not-false, leb-false, eqb-true, eq-eqb}
-use lib.Dec.{eqb, leb}
-use Rattle.basics.specs.Tests.{both, either, choose}
-use Rattle.refusal.specs.Refusals.{accepted, turn}
+use lib.Dec.{leb}
+use borrow.Author.Tests.{not-true, not-false, leb-false}
+use Rattle.basics.specs.Tests.{both, choose, eachOf}
+use Rattle.basics.proofs.Tests.{choose-no}
+use Rattle.refusal.specs.Refusals.{accepted}
+use Rattle.refusal.specs.Rows.{Row, given, firstOf, NoneHolds}
 use Rattle.refusal.specs.declared.Verdict.{Verdict}
-use Rattle.refusal.specs.declared.Verdict.the-variants.{Accepted, SeatAbove, NotOpen, OpenAlready, JobZero, JobElsewhere, NoSuchPin, PinThere, Outside, PlaceTaken, NothingStands, NothingTakenBack, JournalFull, RoomTooSmall, DeskBroken}
-use Rattle.basics.proofs.Tests.{both-left, both-right, either-false, choose-yes, choose-no}
-use Rattle.refusal.proofs.Rows.{Row, given, firstOf, NoneHolds, numberOf, unlike, none-is}
-use Rattle.board.specs.declared.Place.{Place}
-use Rattle.board.specs.Place.{inside}
-use Rattle.board.specs.Spots.{mostPins, crowded}
-use Rattle.drawing.specs.Pins.{isThere, spotsOf}
-use Rattle.drawing.specs.Edits.{standsAt}
-use Rattle.pinmap.specs.Map.{wrongLength, readFrom, readMap, noRoom}
-use Rattle.wiring.proofs.Refusing.{feedRows}
-use Rattle.seats.specs.Seats.{jobAmong}
-use Rattle.rows.specs.Refusals.{Look, seatAbove, pinAt, notThere, full, turnedNaming, turnedRemoving}
-use Rattle.rows.proofs.MapRows.{mapRows}
+use Rattle.refusal.specs.declared.Verdict.the-variants.{SeatAbove, DeskBroken}
+use Rattle.refusal.proofs.Rows.{unlike, distinct, Apart, apart-by, apart-both, none-holds, stops, goes}
+use Rattle.drawing.specs.declared.Pin.{Pin}
+use Rattle.drawing.specs.declared.stated.Making.{Making}
+use Rattle.drawing.specs.declared.stated.Making.the-variants.{Placing, Moving, Removing}
+use lib.ListN.{length}
+use Rattle.drawing.specs.Pins.{noPins}
+use Rattle.pinmap.specs.declared.Reading.{Reading}
+use Rattle.pinmap.specs.declared.Writing.{Writing}
+use Rattle.pinmap.specs.Map.{recordsOf, withPinsOf, mapRows, readBy, written, writeBy, bufferBy}
+use Rattle.pinmap.proofs.Judging.{notOfMap, map-differs, map-apart}
+use Rattle.journal.specs.Journal.{mostSeats}
+use Rattle.rows.specs.Calls.{Call, opening, closing, making, undoing, redoing, asking, Asking, writing, wiring}
+use Rattle.rows.specs.declared.Found.{Found}
+use Rattle.rows.specs.Found.{namingFound}
+use Rattle.rows.specs.Refusals.{Look, namingRows, takingRows, makingRows, rowsOf}
 
--- ---- the rows of each call
+-- ---- the rows are apart
 
--- Every call naming a seat, but opening: 28, 1, 2. Closing: these, and no more.
-abbrev pub namingRows : Look → List Row
-namingRows l = given (l .broken) DeskBroken ∷ given (seatAbove l) SeatAbove ∷ given (not (l .opened)) NotOpen ∷ []
+-- 28, 1 and 2 are.
+pub naming-apart : (broken : Bool) (seat : ℕ) (opened : Bool) → Apart (namingRows broken seat opened)
+unfolding distinct unlike accepted both
+naming-apart broken seat opened = apart-by (namingRows broken seat opened) refl
 
--- Whether the desk can take a job at a seat: 28, 1, 3, 4, 5.
-abbrev pub takingRows : Look → ℕ → List Row
-takingRows l job =
-    given (l .broken) DeskBroken
-    ∷ given (seatAbove l) SeatAbove
-    ∷ given (l .opened) OpenAlready
-    ∷ given (eqb job 0) JobZero
-    ∷ given (jobAmong job (l .jobs)) JobElsewhere
-    ∷ []
+-- 28, 1, 3, 4 and 5 are.
+pub taking-apart : (broken : Bool) (seat : ℕ) (opened : Bool) (job : ℕ) (jobs : List ℕ) → Apart (takingRows broken seat opened job jobs)
+unfolding distinct unlike accepted both
+taking-apart broken seat opened job jobs = apart-by (takingRows broken seat opened job jobs) refl
 
--- Opening: these, then 13, then the first faulty record, 14 before 15.
-abbrev pub openingRows : Look → ℕ → List ℕ → List Row
-openingRows l job map = takingRows l job ++ mapRows map job
+-- What the pins say of an edit is.
+pub making-apart : (l : List Pin) (m : Making) → Apart (makingRows l m)
+unfolding distinct unlike accepted both
+making-apart l (Placing p h) = apart-by (makingRows l (Placing p h)) refl
+making-apart l (Moving p to) = apart-by (makingRows l (Moving p to)) refl
+making-apart l (Removing p) = apart-by (makingRows l (Removing p)) refl
 
--- The last row of an edit: 12.
-abbrev pub fullRow : Look → List Row
-fullRow l = given (full l) JournalFull ∷ []
+-- THE ROWS OF EVERY CALL ARE APART.
+pub rows-apart : (l : Look) (c : Call) → Apart (rowsOf l c)
+unfolding distinct unlike accepted both notOfMap eachOf
+rows-apart l (opening s job map) =
+    apart-both (takingRows (l .broken) (l .seat) (l .opened) job (l .jobs)) (mapRows map job) notOfMap
+    (taking-apart (l .broken) (l .seat) (l .opened) job (l .jobs)) refl (map-differs map job) (map-apart map job)
+rows-apart l (closing s) = naming-apart (l .broken) (l .seat) (l .opened)
+rows-apart l (making s (Placing p h)) = apart-by (rowsOf l (making s (Placing p h))) refl
+rows-apart l (making s (Moving p to)) = apart-by (rowsOf l (making s (Moving p to))) refl
+rows-apart l (making s (Removing p)) = apart-by (rowsOf l (making s (Removing p))) refl
+rows-apart l (undoing s) = apart-by (rowsOf l (undoing s)) refl
+rows-apart l (redoing s) = apart-by (rowsOf l (redoing s)) refl
+rows-apart l (asking s (writing room)) = apart-by (rowsOf l (asking s (writing room))) refl
+rows-apart l (asking s (wiring room)) = apart-by (rowsOf l (asking s (wiring room))) refl
 
--- Placing before 12: 28, 1, 2, 6, 7, 8, 9.
-abbrev pub placingBeforeFull : Look → ℕ → Place → List Row
-placingBeforeFull l p at =
-    namingRows l
-    ++ (given (leb mostPins p) NoSuchPin
-    ∷ given (isThere (pinAt l p)) PinThere
-    ∷ given (not (inside at)) Outside
-    ∷ given (crowded (spotsOf (l .pins)) p at) PlaceTaken
-    ∷ [])
-
--- Placing: these and 12.
-abbrev pub placingRows : Look → ℕ → Place → List Row
-placingRows l p at = placingBeforeFull l p at ++ fullRow l
-
--- Removing before 12, and moving to begin with: 28, 1, 2, 6.
-abbrev pub thereRows : Look → ℕ → List Row
-thereRows l p = namingRows l ++ (given (notThere l p) NoSuchPin ∷ [])
-
--- Moving before 12: these, 8, 9.
-abbrev pub movingBeforeFull : Look → ℕ → Place → List Row
-movingBeforeFull l p at =
-    thereRows l p
-    ++ (given (not (inside at)) Outside ∷ given (either (standsAt (pinAt l p) at) (crowded (spotsOf (l .pins)) p at)) PlaceTaken ∷ [])
-
--- Moving: 28, 1, 2, 6, 8, 9, 12.
-abbrev pub movingRows : Look → ℕ → Place → List Row
-movingRows l p at = movingBeforeFull l p at ++ fullRow l
-
--- Removing: 28, 1, 2, 6, 12.
-abbrev pub removingRows : Look → ℕ → List Row
-removingRows l p = thereRows l p ++ fullRow l
-
--- Undo: 28, 1, 2, 10.
-abbrev pub undoingRows : Look → List Row
-undoingRows l = namingRows l ++ (given (eqb (l .standing) 0) NothingStands ∷ [])
-
--- Redo: 28, 1, 2, 11.
-abbrev pub redoingRows : Look → List Row
-redoingRows l = namingRows l ++ (given (eqb (l .takenBack) 0) NothingTakenBack ∷ [])
-
--- Writing: 28, 1, 2, 19.
-abbrev pub writingRows : Look → ℕ → List Row
-writingRows l room = namingRows l ++ (given (noRoom (l .pins) (l .job) room) RoomTooSmall ∷ [])
-
--- Wiring a seat: 28, 1, 2, 17, 18, 19.
-abbrev pub wiringRows : Look → ℕ → List Row
-wiringRows l room = namingRows l ++ feedRows (spotsOf (l .pins)) room
-
--- ---- rows that were read before
+-- ---- what was read first
 
 -- What the test of a verdict says.
 module _ {r : Bool} (v : Verdict) (e : r ≡ accepted v) where
@@ -106,103 +73,85 @@ module _ {r : Bool} (v : Verdict) (e : r ≡ accepted v) where
   pub went : not r ≡ false → accepted v ≡ true
   went t = sym e ∙ not-false _ t
 
--- Rows that were read before, and end in an accepted verdict.
-module _ (t : Verdict) {v : Verdict} (a : accepted t ≡ true) where
-  -- One of them was met: it is met again, whatever comes after them.
-  pub stop : (rows : List Row) (rest : Verdict) → v ≡ firstOf rows t → accepted v ≡ false → v ≡ firstOf rows rest
-  unfolding firstOf turn choose
-  stop [] rest e f = absurd (true≢false (sym a ∙ ap accepted (sym e) ∙ f))
-  stop (r ∷ rows) rest e f = by (r .condition) (stop rows rest) e
-    where
-      -- The first row is met, or one after it.
-      by : (b : Bool) → (v ≡ firstOf rows t → accepted v ≡ false → v ≡ firstOf rows rest) → v ≡ choose b (r .refusal) (firstOf rows t)
-          → v ≡ choose b (r .refusal) (firstOf rows rest)
-      by true later g = g
-      by false later g = later g f
+-- Where 28, 1 and 2 are passed: the desk is sound, the seat is one of the desk's, and open.
+pub record SeatOpen (broken : Bool) (seat : ℕ) (opened : Bool) : Type 0 where
+  pub unbroken : broken ≡ false
+  pub low : seat < mostSeats
+  pub shown : opened ≡ true
 
--- All of them were passed, and none of them accepts: none of their conditions holds.
-pub all-passed : (rows : List Row) (rest : Verdict) {v : Verdict} → unlike Accepted rows ≡ true → v ≡ firstOf rows rest → accepted v ≡ true
-    → NoneHolds rows
-unfolding firstOf unlike accepted NoneHolds turn choose
-all-passed [] rest u e y = tt
-all-passed (r ∷ rows) rest {v} u e y =
-    by (r .condition) refl (all-passed rows rest (both-right (not (eqb 0 (numberOf (r .refusal)))) _ u)) e
-  where
-    -- A row that is met refuses.
-    refuses : v ≡ r .refusal → ⊥
-    refuses g =
-        let z : numberOf (r .refusal) ≡ 0 = eqb-true _ _ (ap accepted (sym g) ∙ y) in
-        false≢true (sym (ap not (eq-eqb 0 (numberOf (r .refusal)) (sym z))) ∙ both-left (not (eqb 0 (numberOf (r .refusal)))) _ u)
-
-    -- So the first row is passed, and those after it.
-    by : (b : Bool) → r .condition ≡ b → (v ≡ firstOf rows rest → accepted v ≡ true → NoneHolds rows) → v ≡ choose b (r .refusal) (firstOf rows rest)
-        → (r .condition ≡ false) × NoneHolds rows
-    by true q later g = absurd (refuses g)
-    by false q later g = (q, later g y)
-
--- Where no condition of some rows and of others after them holds, none of the first rows' does.
-pub none-before : (rows more : List Row) → NoneHolds (rows ++ more) → NoneHolds rows
+-- So it is where none of them holds.
+pub seat-open : (broken : Bool) (seat : ℕ) (opened : Bool) → NoneHolds (namingRows broken seat opened) → SeatOpen broken seat opened
 unfolding NoneHolds
-none-before [] more n = tt
-none-before (r ∷ rows) more n = (n .0, none-before rows more (n .1))
+seat-open broken seat opened n = record { unbroken = n .0; low = leb-false _ _ (n .1 .0); shown = not-false _ (n .1 .1 .0) }
 
--- Where none holds, what comes after them decides.
-pub go : (rows : List Row) {x rest : Verdict} → NoneHolds rows → x ≡ rest → x ≡ firstOf rows rest
-go rows {x} {rest} n e = e ∙ sym (none-is rows rest n)
+-- ---- what begins the rows of every call
 
--- Where 28, 1 and 2 were asked first: one of them applies, or none does.
-module _ (l : Look) {v : Verdict} (e : v ≡ turnedNaming l) where
+-- 28 and 1 come first in the rows of every call.
+pub rows-begin : (l : Look) (c : Call)
+    → (k : List Row) × (rowsOf l c ≡ given (l .broken) DeskBroken ∷ given (leb mostSeats (l .seat)) SeatAbove ∷ k)
+rows-begin l (opening s job map) = (_, refl)
+rows-begin l (closing s) = (_, refl)
+rows-begin l (making s m) = (_, refl)
+rows-begin l (undoing s) = (_, refl)
+rows-begin l (redoing s) = (_, refl)
+rows-begin l (asking s a) = (_, refl)
+
+-- So a call that names a seat above 7 is answered alike whatever else it looks at.
+pub above-alike : (l m : Look) (c : Call) → l .broken ≡ m .broken → l .seat ≡ m .seat → leb mostSeats (l .seat) ≡ true → firstOf (rowsOf l c) ≡ firstOf (rowsOf m c)
+unfolding firstOf choose
+above-alike l m c e f a = rw (rows-begin l c .1, rows-begin m c .1, ← e, ← f, a)
+
+-- An accepted call is made on a desk that is not broken, at one of its seats.
+pub seat-low : (l : Look) (c : Call) → accepted (firstOf (rowsOf l c)) ≡ true → (l .broken ≡ false) × (l .seat < mostSeats)
+unfolding NoneHolds
+seat-low l c y =
+    let n = rw (rows-begin l c .1) at (none-holds (rowsOf l c) (rows-apart l c) y) in
+    (n .0, leb-false _ _ (n .1 .0))
+
+-- ---- what is found
+
+-- Where 28, 1 and 2 were asked first of what is found: one of them applies, or none does.
+module _ (f : Found) {v : Verdict} (e : v ≡ firstOf (namingFound f)) where
   -- Refused by one of them, a call is so whatever comes after;
-  pub naming-stops : (rest : Verdict) → accepted v ≡ false → v ≡ firstOf (namingRows l) rest
-  unfolding firstOf accepted
-  naming-stops rest n = stop Accepted refl (namingRows l) rest e n
+  pub naming-stops : (more : List Row) → accepted v ≡ false → v ≡ firstOf (namingFound f ++ more)
+  naming-stops more n = stops (namingFound f) more (naming-apart (f .broken) (f .seat) (f .state .opened)) e n
 
-  -- accepted, none of them applies,
-  pub naming-passed : accepted v ≡ true → NoneHolds (namingRows l)
-  unfolding firstOf unlike both
-  naming-passed y = all-passed (namingRows l) Accepted refl e y
+  -- accepted, what comes after them decides,
+  pub naming-goes : (more : List Row) {x : Verdict} → accepted v ≡ true → x ≡ firstOf more → x ≡ firstOf (namingFound f ++ more)
+  naming-goes more y g = goes (namingFound f) more (naming-apart (f .broken) (f .seat) (f .state .opened)) e y g
 
-  -- and what comes after them decides.
-  pub naming-goes : {x rest : Verdict} → accepted v ≡ true → x ≡ rest → x ≡ firstOf (namingRows l) rest
-  naming-goes y f = go (namingRows l) (naming-passed y) f
+  -- and the seat is open.
+  pub naming-passed : accepted v ≡ true → SeatOpen (f .broken) (f .seat) (f .state .opened)
+  naming-passed y =
+      seat-open (f .broken) (f .seat) (f .state .opened)
+      (none-holds (namingFound f) (naming-apart (f .broken) (f .seat) (f .state .opened)) (ap accepted (sym e) ∙ y))
 
--- An empty map is never turned away.
-pub empty-read : (job : ℕ) → Accepted ≡ readMap [] job .verdict
-unfolding readMap wrongLength readFrom either choose
-empty-read job = refl
+-- What rows decide, where the first of them were asked before.
+module _ (rows more : List Row) (a : Apart rows) {v : Verdict} (e : v ≡ firstOf rows) where
+  -- Turned away by one of those, a map is not read;
+  pub read-away : (map : List ℕ) → accepted v ≡ false → _≡_ {A = Reading} (record { verdict = v; pins = noPins }) (readBy (rows ++ more) map)
+  read-away map n =
+      let w = stops rows more a e n in
+      λ i. record { verdict = w i; pins = sym (choose-no (withPinsOf noPins (recordsOf map)) noPins (ap accepted (sym w) ∙ n)) i }
 
--- A verdict decides between two outcomes.
-module _ {A : Type 0} {v t : Verdict} (e : v ≡ t) {x : A} where
-  -- Accepted, it is the first;
-  pub taken : {a : A} (b : A) → accepted v ≡ true → x ≡ a → x ≡ choose (accepted t) a b
-  taken b y f = f ∙ sym (choose-yes _ b (ap accepted (sym e) ∙ y))
+  -- else the later rows decide.
+  pub read-on : (map : List ℕ) → accepted v ≡ true → readBy more map ≡ readBy (rows ++ more) map
+  read-on map y =
+      ap (λ (x : Verdict). record { verdict = x; pins = choose (accepted x) (withPinsOf noPins (recordsOf map)) noPins }) (goes rows more a e y refl)
 
-  -- refused, the second.
-  pub turned : {b : A} (a : A) → accepted v ≡ false → x ≡ b → x ≡ choose (accepted t) a b
-  turned a n f = f ∙ sym (choose-no a _ (ap accepted (sym e) ∙ n))
+  -- So it is with a map that is not written,
+  pub write-away : (map buffer : List ℕ) → accepted v ≡ false
+      → _≡_ {A = Writing} (record { verdict = v; bytes = 0 }) (writeBy (rows ++ more) map) × (buffer ≡ bufferBy (rows ++ more) map buffer)
+  write-away map buffer n =
+      let w = stops rows more a e n in
+      let f = ap accepted (sym w) ∙ n in
+      (λ i. record { verdict = w i; bytes = sym (choose-no (length map) 0 f) i }, sym (choose-no _ _ f))
 
--- Where a pin is there, its number is at most 31.
-pub number-there : (l : Look) (p : ℕ) → notThere l p ≡ false → p < mostPins
-number-there l p e = leb-false mostPins p (either-false _ _ e .0)
-
--- Where removing is turned away, the journal having room, it is by 28, 1, 2 or 6, and so whatever comes after these.
-pub there-stops : (l : Look) (p : ℕ) {v : Verdict} (rest : Verdict) → full l ≡ false → v ≡ turnedRemoving l p → accepted v ≡ false
-    → v ≡ firstOf (thereRows l p) rest
-unfolding turnedRemoving firstOf turn choose accepted
-there-stops l p rest room e n = stop (turn (full l) JournalFull Accepted) (rw room) (thereRows l p) rest e n
-
--- Where removing is accepted, the journal having room:
-module _ (l : Look) (p : ℕ) {v : Verdict} (room : full l ≡ false) (e : v ≡ turnedRemoving l p) (y : accepted v ≡ true) where
-  -- none of 28, 1, 2 and 6 applies,
-  pub there-passed : NoneHolds (thereRows l p)
-  unfolding turnedRemoving firstOf unlike both
-  there-passed = all-passed (thereRows l p) (turn (full l) JournalFull Accepted) refl e y
-
-  -- what comes after them decides,
-  pub there-goes : {x rest : Verdict} → x ≡ rest → x ≡ firstOf (thereRows l p) rest
-  there-goes f = go (thereRows l p) there-passed f
-
-  -- and the pin is at most 31.
-  pub there-number : p < mostPins
-  unfolding NoneHolds
-  there-number = number-there l p (there-passed .1 .1 .1 .0)
+  -- and one that is.
+  pub write-on : (map buffer : List ℕ) → accepted v ≡ true
+      → (writeBy more map ≡ writeBy (rows ++ more) map) × (bufferBy more map buffer ≡ bufferBy (rows ++ more) map buffer)
+  write-on map buffer y =
+      let w = goes rows more a e y refl in (
+        ap (λ (x : Verdict). record { verdict = x; bytes = choose (accepted x) (length map) 0 }) w,
+        ap (λ (x : Verdict). choose (accepted x) (written map buffer) buffer) w,
+      )

@@ -1,4 +1,4 @@
 -- What the rows of refusals mean.
+pub mod Calls
 pub mod Refusals
-pub mod Answers
 pub mod Found

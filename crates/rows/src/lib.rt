@@ -1,6 +1,9 @@
 // Rows of refusals: what a call finds at the seat that it names, for each call its row in document 01's order over that, and what opening reads, writing writes and wiring answers.
 use board::PINS;
 use board::Place;
+use drawing::Held;
+use drawing::Pin;
+use drawing::stated::Making;
 use journal::RECORDS;
 use journal::Record;
 use journal::SEATS;
@@ -11,15 +14,17 @@ use seats::Seat;
 use wiring::Laid;
 ghost use mathlib.Core.Path.{_≡_};
 ghost use mathlib.Core.Bool.{true, false};
-ghost use mathlib.Core.List.{[]};
+ghost use mathlib.Core.List.{_++_};
 ghost use Prim.Native.Nat.{_≤_};
-ghost use lib.ListN.{take};
-ghost use Rattle.drawing.specs.Pins.{lawful};
+ghost use lib.ListN.{length, take};
+ghost use Rattle.refusal.specs.Rows.{firstOf};
+ghost use Rattle.drawing.specs.Pins.{lawful, feedOf};
+ghost use Rattle.drawing.specs.declared.stated.Making.the-variants.{Placing, Moving, Removing};
+ghost use Rattle.pinmap.specs.Map.{mapRows, mapOf, readBy, roomRows, writeBy, bufferBy};
 ghost use Rattle.journal.specs.Journal.{mostRecords, own};
 ghost use Rattle.seats.specs.Seats.{takenBackCount, jobsIn};
-ghost use Rattle.rows.specs.Refusals.{turnedOpening, turnedNaming, turnedPlacing, turnedMoving, turnedRemoving, turnedUndoing, turnedRedoing};
-ghost use Rattle.rows.specs.Answers.{mapRead, mapWritten, bufferWritten, feedWired};
-ghost use Rattle.rows.specs.Found.{foundIn, lookAtFound};
+ghost use Rattle.rows.specs.Refusals.{takingRows, makingRows, fullRow, undoingRow, redoingRow};
+ghost use Rattle.rows.specs.Found.{foundIn, namingFound, wiredBy};
 
 // What a call finds: whether the desk is broken, the seat that it names, and that seat's state, a closed one's where there is no such seat.
 pub struct Found {
@@ -51,7 +56,7 @@ pub fn find(seats: [Seat; SEATS], journal: [Record; RECORDS], used: usize, seat:
 
 // Every call naming a seat, but opening: 28, 1, 2. Closing no more than these.
 pub fn turned_naming(found: Found) -> Verdict
-    ensures { λ r. ⌜ r ≡ turnedNaming (lookAtFound found [] 0) ⌝ }
+    ensures { λ r. ⌜ r ≡ firstOf (namingFound found) ⌝ }
 {
     if found.broken {
         return Verdict::DeskBroken;
@@ -67,23 +72,18 @@ pub fn turned_naming(found: Found) -> Verdict
     }
 }
 
-// Placing, where the journal has room: 28, 1, 2, 6, 7, 8, 9.
-pub fn turned_placing(found: Found, pin: usize, at: Place) -> Verdict
-    ensures { λ r. ⌜ r ≡ turnedPlacing (lookAtFound found [] 0) pin at ⌝ }
+// Placing on these pins: 6, 7, 8, 9.
+fn turned_placing(pins: [Pin; PINS], pin: usize, held: Held) -> Verdict
+    ensures { λ r. ⌜ r ≡ firstOf (makingRows pins (Placing pin held)) ⌝ }
 {
-    let verdict = turned_naming(found);
-    if !refusal::is_accepted(verdict) {
-        return verdict;
-    }
     if PINS <= pin {
         return Verdict::NoSuchPin;
     }
-    let s = found.state;
-    let pins = s.pins;
-    let there = pins[pin];
+    let there = drawing::pin_at(pins, pin);
     if drawing::is_there(there) {
         return Verdict::PinThere;
     }
+    let at = held.place;
     if !board::is_inside(at) {
         return Verdict::Outside;
     }
@@ -94,20 +94,14 @@ pub fn turned_placing(found: Found, pin: usize, at: Place) -> Verdict
     }
 }
 
-// Removing, where the journal has room, and what moving is turned away by first: 28, 1, 2, 6.
-pub fn turned_removing(found: Found, pin: usize) -> Verdict
-    ensures { λ r. ⌜ r ≡ turnedRemoving (lookAtFound found [] 0) pin ⌝ }
+// Removing from these pins, and what moving is turned away by first: 6.
+fn turned_removing(pins: [Pin; PINS], pin: usize) -> Verdict
+    ensures { λ r. ⌜ r ≡ firstOf (makingRows pins (Removing pin)) ⌝ }
 {
-    let verdict = turned_naming(found);
-    if !refusal::is_accepted(verdict) {
-        return verdict;
-    }
     if PINS <= pin {
         return Verdict::NoSuchPin;
     }
-    let s = found.state;
-    let pins = s.pins;
-    let there = pins[pin];
+    let there = drawing::pin_at(pins, pin);
     if drawing::is_there(there) {
         Verdict::Accepted
     } else {
@@ -115,20 +109,18 @@ pub fn turned_removing(found: Found, pin: usize) -> Verdict
     }
 }
 
-// Moving, where the journal has room: 28, 1, 2, 6, 8, 9.
-pub fn turned_moving(found: Found, pin: usize, to: Place) -> Verdict
-    ensures { λ r. ⌜ r ≡ turnedMoving (lookAtFound found [] 0) pin to ⌝ }
+// Moving on these pins: 6, 8, 9.
+fn turned_moving(pins: [Pin; PINS], pin: usize, to: Place) -> Verdict
+    ensures { λ r. ⌜ r ≡ firstOf (makingRows pins (Moving pin to)) ⌝ }
 {
-    let verdict = turned_removing(found, pin);
+    let verdict = turned_removing(pins, pin);
     if !refusal::is_accepted(verdict) {
         return verdict;
     }
     if !board::is_inside(to) {
         return Verdict::Outside;
     }
-    let s = found.state;
-    let pins = s.pins;
-    let there = pins[pin];
+    let there = drawing::pin_at(pins, pin);
     if drawing::stands_at(there, to) {
         return Verdict::PlaceTaken;
     }
@@ -139,9 +131,58 @@ pub fn turned_moving(found: Found, pin: usize, to: Place) -> Verdict
     }
 }
 
+// Making an edit on these pins, by what the call states.
+fn turned_edit(pins: [Pin; PINS], making: Making) -> Verdict
+    ensures { λ r. ⌜ r ≡ firstOf (makingRows pins making) ⌝ }
+{
+    match making {
+        Making::Placing(pin, held) => turned_placing(pins, pin, held),
+        Making::Moving(pin, to) => turned_moving(pins, pin, to),
+        Making::Removing(pin) => turned_removing(pins, pin),
+    }
+}
+
+// An edit of the seat that is found takes a record: 12.
+fn turned_full(found: Found, journal: [Record; RECORDS], used: usize) -> Verdict
+    requires { ⌜ used ≤ mostRecords ⌝ }
+    ensures { λ r. ⌜ r ≡ firstOf (fullRow used (takenBackCount (found .state) (own (found .seat) (take used journal)))) ⌝ }
+{
+    let s = found.state;
+    let taken_back = seats::taken_back_count(s, journal, used, found.seat);
+    if used - taken_back == RECORDS {
+        Verdict::JournalFull
+    } else {
+        Verdict::Accepted
+    }
+}
+
+// Making an edit: 28, 1, 2, then what the pins say, then 12.
+pub fn turned_making(
+    found: Found,
+    making: Making,
+    journal: [Record; RECORDS],
+    used: usize,
+) -> Verdict
+    requires { ⌜ (found .broken ≡ false → used ≤ mostRecords) ⌝ }
+    ensures { λ r. ⌜ r ≡ firstOf (namingFound found ++ (makingRows (found .state .pins) making ++ fullRow used (takenBackCount (found .state) (own (found .seat) (take used journal))))) ⌝ }
+{
+    let verdict = turned_naming(found);
+    if !refusal::is_accepted(verdict) {
+        return verdict;
+    }
+    let s = found.state;
+    let pins = s.pins;
+    let told = turned_edit(pins, making);
+    if refusal::is_accepted(told) {
+        turned_full(found, journal, used)
+    } else {
+        told
+    }
+}
+
 // Undo: 28, 1, 2, 10.
 pub fn turned_undoing(found: Found) -> Verdict
-    ensures { λ r. ⌜ r ≡ turnedUndoing (lookAtFound found [] 0) ⌝ }
+    ensures { λ r. ⌜ r ≡ firstOf (namingFound found ++ undoingRow (found .state .standing)) ⌝ }
 {
     let verdict = turned_naming(found);
     if !refusal::is_accepted(verdict) {
@@ -158,7 +199,7 @@ pub fn turned_undoing(found: Found) -> Verdict
 // Redo: 28, 1, 2, 11.
 pub fn turned_redoing(found: Found, journal: [Record; RECORDS], used: usize) -> Verdict
     requires { ⌜ (found .broken ≡ false → used ≤ mostRecords) ⌝ }
-    ensures { λ r. ⌜ r ≡ turnedRedoing (lookAtFound found [] (takenBackCount (found .state) (own (found .seat) (take used journal)))) ⌝ }
+    ensures { λ r. ⌜ r ≡ firstOf (namingFound found ++ redoingRow (takenBackCount (found .state) (own (found .seat) (take used journal)))) ⌝ }
 {
     let verdict = turned_naming(found);
     if !refusal::is_accepted(verdict) {
@@ -174,8 +215,8 @@ pub fn turned_redoing(found: Found, journal: [Record; RECORDS], used: usize) -> 
 }
 
 // Opening, up to the map: 28, 1, 3, 4, 5.
-fn turned_opening(found: Found, seats: [Seat; SEATS], job: u16) -> Verdict
-    ensures { λ r. ⌜ r ≡ turnedOpening (lookAtFound found (jobsIn seats) 0) job [] ⌝ }
+fn turned_taking(found: Found, seats: [Seat; SEATS], job: u16) -> Verdict
+    ensures { λ r. ⌜ r ≡ firstOf (takingRows (found .broken) (found .seat) (found .state .opened) job (jobsIn seats)) ⌝ }
 {
     if found.broken {
         return Verdict::DeskBroken;
@@ -198,11 +239,11 @@ fn turned_opening(found: Found, seats: [Seat; SEATS], job: u16) -> Verdict
     }
 }
 
-// Opening: 28, 1, 3, 4, 5, then what reading the map says, 13, 14 or 15; and the pins, where none applies.
+// Opening: 28, 1, 3, 4, 5, then 13, 14 or 15 of the map; and the pins, where none applies.
 pub fn map_read(found: Found, seats: [Seat; SEATS], job: u16, map: &[u8]) -> Reading
-    ensures { λ r. ⌜ r ≡ mapRead (lookAtFound found (jobsIn seats) 0) job (now (map .entry)) ⌝ }
+    ensures { λ r. ⌜ r ≡ readBy (takingRows (found .broken) (found .seat) (found .state .opened) job (jobsIn seats) ++ mapRows (now (map .entry)) job) (now (map .entry)) ⌝ }
 {
-    let verdict = turned_opening(found, seats, job);
+    let verdict = turned_taking(found, seats, job);
     if refusal::is_accepted(verdict) {
         pinmap::read_map(map, job)
     } else {
@@ -213,8 +254,8 @@ pub fn map_read(found: Found, seats: [Seat; SEATS], job: u16, map: &[u8]) -> Rea
 
 // Writing: 28, 1, 2, 19; the map into the lent buffer, and the number of bytes, where none applies.
 pub fn map_written(found: Found, buffer: &mut [u8]) -> Writing
-    ensures { λ r. ⌜ r ≡ mapWritten (lookAtFound found [] 0) (now (buffer .entry)) ⌝ }
-    ensures { λ _. ⌜ now (buffer .exit) ≡ bufferWritten (lookAtFound found [] 0) (now (buffer .entry)) ⌝ }
+    ensures { λ r. ⌜ r ≡ writeBy (namingFound found ++ roomRows (found .state .job) (found .state .pins) (length (now (buffer .entry)))) (mapOf (found .state .job) (found .state .pins)) ⌝ }
+    ensures { λ _. ⌜ now (buffer .exit) ≡ bufferBy (namingFound found ++ roomRows (found .state .job) (found .state .pins) (length (now (buffer .entry)))) (mapOf (found .state .job) (found .state .pins)) (now (buffer .entry)) ⌝ }
 {
     let verdict = turned_naming(found);
     if refusal::is_accepted(verdict) {
@@ -229,14 +270,17 @@ pub fn map_written(found: Found, buffer: &mut [u8]) -> Writing
 // Wiring a seat, with room for so many legs: 28, 1, 2, then what wiring the drawing's feed answers, 17, 18 or 19 among it.
 pub fn feed_wired(found: Found, room: usize) -> Laid
     requires { ⌜ (found .broken ≡ false → found .state .opened ≡ true → lawful (found .state .pins) ≡ true) ⌝ }
-    ensures { λ r. ⌜ r ≡ feedWired (lookAtFound found [] 0) room ⌝ }
+    ensures { λ r. ⌜ r ≡ wiredBy (namingFound found) (feedOf (found .state .pins)) room ⌝ }
 {
     let verdict = turned_naming(found);
     if refusal::is_accepted(verdict) {
         let s = found.state;
         let pins = s.pins;
-        let feed = drawing::spots_of(pins);
-        wiring::wire_feed(feed, room)
+        let lists = drawing::lists_of(pins);
+        let xs = lists.xs;
+        let ys = lists.ys;
+        let there = lists.there;
+        wiring::wire_feed(&xs, &ys, &there, room)
     } else {
         wiring::refused(verdict)
     }

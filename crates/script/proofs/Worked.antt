@@ -7,8 +7,8 @@ use lib.ListN.{replicate}
 use Rattle.basics.specs.Tests.{both, either, choose, eachOf}
 use Rattle.text.specs.Text.{text, same}
 use Rattle.text.specs.Words.{endOf, beforeFirst, pieces, nonEmpty, wordsOf}
-use Rattle.text.specs.Numbers.{between, valueFrom, isNumber, hasMinus, isCoordinate, signed, listed, isRow, isList, isHex, hexValue, allPairs, bytesOf, isMap}
-use Rattle.script.specs.Said.{only, seatCall, pairCall, isOpenCall, isBareCall, openCall, bareCall, lentCall, isPlacing, placeCall, callOf, isSkipped, saidIn, isLong, saidBy}
+use Rattle.text.specs.Numbers.{between, valueFrom, isNumber, hasMinus, isCoordinate, signed, listed, isRow, isList, isHex, hexValue, allPairs, bytesOf, isSpelled, isMap, spelled}
+use Rattle.script.specs.Said.{only, isSeatAlone, isPair, isPlacing, seatCall, pairCall, placeCall, openCall, bareCall, saidAs, callIn, isSkipped, saidIn, isLong, saidBy, mapGiven, xsGiven, ysGiven}
 use Rattle.script.specs.declared.Said.{Said}
 
 -- What lines say.
@@ -21,8 +21,8 @@ pub each-call :
     saidByEach
     ("open 00 0007 -" ∷ "open 1 9 0009fF" ∷ "close 7" ∷ "  place   0 0 -0 007  " ∷ "move 3 31 -5 12" ∷ "remove 0 4294967295"
     ∷ "undo 0" ∷ "redo 0\r" ∷ "write 1 1024" ∷ "wire 1 64" ∷ "bare 64 0,-0 1,002" ∷ "bare 0 - 5" ∷ "pins 8" ∷ [])
-    ≡ Said.Open 0 7 0
-    ∷ Said.Open 1 9 3
+    ≡ Said.Open 0 7
+    ∷ Said.Open 1 9
     ∷ Said.Close 7
     ∷ Said.Place 0 0 (record { x = pos 0; y = pos 7 })
     ∷ Said.Move 3 31 (record { x = negsuc 4; y = pos 12 })
@@ -31,14 +31,22 @@ pub each-call :
     ∷ Said.Redo 0
     ∷ Said.Write 1 1024
     ∷ Said.Wire 1 64
-    ∷ Said.Bare 64 2 2
-    ∷ Said.Bare 0 0 1
+    ∷ Said.Bare 64
+    ∷ Said.Bare 0
     ∷ Said.Pins 8
     ∷ []
 unfolding saidByEach both either choose same endOf beforeFirst pieces nonEmpty wordsOf between eachOf valueFrom isNumber hasMinus isCoordinate signed
-    listed isRow isList isHex hexValue allPairs bytesOf isMap only seatCall pairCall isOpenCall isBareCall openCall bareCall lentCall
-    isPlacing placeCall callOf isSkipped saidIn isLong saidBy
+    isRow isList isHex allPairs isSpelled isMap only isSeatAlone isPair isPlacing seatCall pairCall placeCall openCall bareCall
+    saidAs callIn isSkipped saidIn isLong saidBy
 each-call = refl
+
+-- What such lines give: the bytes of a map, and x and y.
+pub given :
+    (mapGiven (text "open 1 9 0009fF\r") ≡ 0 ∷ 9 ∷ 255 ∷ []) × (mapGiven (text "open 00 0007 -") ≡ [])
+    × (xsGiven (text "bare 64 0,-7 -") ≡ pos 0 ∷ negsuc 6 ∷ []) × (ysGiven (text "bare 64 0,-7 -") ≡ [])
+unfolding both either choose endOf beforeFirst pieces nonEmpty wordsOf between eachOf valueFrom isNumber hasMinus isCoordinate signed isRow
+    listed isHex hexValue allPairs bytesOf isSpelled spelled mapGiven xsGiven ysGiven
+given = (refl, refl, refl, refl)
 
 -- What is no call: signs where none may stand, numbers out of range, words missing, over or unknown, tabs, wrong or odd hex digits, lists with a gap.
 pub no-calls :
@@ -50,8 +58,8 @@ pub no-calls :
     ∷ "bare 64 1, 2" ∷ "bare 64 , ," ∷ "bare 64 -,1 1,2" ∷ "bare 65 - -" ∷ [])
     ≡ replicate 24 Said.NotACall
 unfolding saidByEach both either choose same endOf beforeFirst pieces nonEmpty wordsOf between eachOf valueFrom isNumber hasMinus isCoordinate signed
-    listed isRow isList isHex hexValue allPairs bytesOf isMap only seatCall pairCall isOpenCall isBareCall openCall bareCall lentCall
-    isPlacing placeCall callOf isSkipped saidIn isLong saidBy
+    isRow isList isHex allPairs isSpelled isMap only isSeatAlone isPair isPlacing seatCall pairCall placeCall openCall bareCall
+    saidAs callIn isSkipped saidIn isLong saidBy
 no-calls = refl
 
 -- Lines with no word, and remarks.
@@ -71,12 +79,12 @@ pub edges :
     ∷ Said.Place 4294967295 2 (record { x = pos 0; y = pos 0 })
     ∷ []
 unfolding saidByEach both either choose same endOf beforeFirst pieces nonEmpty wordsOf between eachOf valueFrom isNumber hasMinus
-    isCoordinate signed only isPlacing placeCall callOf isSkipped saidIn isLong saidBy
+    isCoordinate signed only isPlacing placeCall saidAs callIn isSkipped saidIn isLong saidBy
 edges = refl
 
 -- A call on a line of 16,384 bytes,
 pub longest : saidBy (text "undo 0" ++ replicate 16378 32) ≡ Said.Undo 0
-unfolding both either choose same endOf beforeFirst pieces nonEmpty wordsOf between eachOf valueFrom isNumber only seatCall callOf isSkipped saidIn isLong saidBy
+unfolding both either choose same endOf beforeFirst pieces nonEmpty wordsOf between eachOf valueFrom isNumber only isSeatAlone seatCall saidAs callIn isSkipped saidIn isLong saidBy
 longest = refl
 
 -- and one byte more, which is not a call.

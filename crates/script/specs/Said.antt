@@ -1,100 +1,104 @@
--- What a line says: nothing, no call, or a call with its numbers; and what of it stands in the lent buffers.
+-- What a line says: nothing, no call, or a call with its numbers; and the map and the lists that it gives.
 use mathlib.Core.Bool.{Bool}
-use mathlib.Core.List.{List, []}
+use mathlib.Core.List.{List, [], _∷_}
 use Prim.Native.Nat.{ℕ}
+use Prim.Native.String.{String}
 use lib.IntN.{ℤ}
 use lib.Dec.{ltb, eqb}
 use lib.ListN.{length, getD}
-use Rattle.board.specs.Place.{place}
 use Rattle.basics.specs.Tests.{both, either, choose}
+use Rattle.board.specs.Place.{place}
 use Rattle.board.specs.declared.Place.{Place}
-use Rattle.text.specs.Text.{text, same}
+use Rattle.text.specs.Text.{text, same, mostRoom}
 use Rattle.text.specs.Words.{hash, withoutReturn, wordsOf, word}
-use Rattle.text.specs.Numbers.{mostNumber, mostJob, valueOf, isNumber, isCoordinate, signed, listed, isList, bytesOf, isMap}
+use Rattle.text.specs.Numbers.{mostNumber, mostJob, valueOf, isNumber, isCoordinate, signed, listed, isList, spelled, isMap}
 use Rattle.script.specs.declared.Said.{Said}
-use Rattle.script.specs.declared.Placing.{Placing}
 
 -- A line of more bytes is not a call.
 abbrev pub mostLine : ℕ
 mostLine = 16384
 
--- The most bytes that a call lends.
-abbrev pub mostRoom : ℕ
-mostRoom = 1024
-
 -- The most legs that a call lends.
 abbrev pub mostLegsLent : ℕ
 mostLegsLent = 64
 
--- Out of its range it is not a call.
+-- Words out of their form or range, too few or too many, are not a call.
 unfoldable pub only : Bool → Said → Said
 only b said = choose b said Said.NotACall
 
--- Two words: close SEAT, undo SEAT, redo SEAT, pins SEAT.
-unfoldable pub seatCall : List ℕ → List ℕ → Said
-seatCall name a =
-    only (isNumber mostNumber a)
-    (choose (same name (text "close")) (Said.Close (valueOf a))
-    (choose (same name (text "undo")) (Said.Undo (valueOf a))
-    (choose (same name (text "redo")) (Said.Redo (valueOf a))
-    (choose (same name (text "pins")) (Said.Pins (valueOf a)) Said.NotACall))))
+-- The number that is the word of a number.
+abbrev pub numberIn : ℕ → List (List ℕ) → ℕ
+numberIn k words = valueOf (word k words)
 
--- Three words: remove SEAT PIN, write SEAT ROOM, wire SEAT ROOM.
-unfoldable pub pairCall : List ℕ → List ℕ → List ℕ → Said
-pairCall name a b =
-    only (isNumber mostNumber a)
-    (choose (same name (text "remove")) (only (isNumber mostNumber b) (Said.Remove (valueOf a) (valueOf b)))
-    (choose (same name (text "write")) (only (isNumber mostRoom b) (Said.Write (valueOf a) (valueOf b)))
-    (choose (same name (text "wire")) (only (isNumber mostLegsLent b) (Said.Wire (valueOf a) (valueOf b))) Said.NotACall)))
+-- NAME SEAT.
+unfoldable pub isSeatAlone : List (List ℕ) → Bool
+isSeatAlone words = both (eqb (length words) 2) (isNumber mostNumber (word 1 words))
 
--- The words after open are a seat, a job and a map.
-unfoldable pub isOpenCall : List ℕ → List ℕ → List ℕ → Bool
-isOpenCall a b c = both (isNumber mostNumber a) (both (isNumber mostJob b) (isMap c))
+-- NAME SEAT and one number more, up to the given one.
+unfoldable pub isPair : ℕ → List (List ℕ) → Bool
+isPair top words = both (eqb (length words) 3) (both (isNumber mostNumber (word 1 words)) (isNumber top (word 2 words)))
 
--- The words after bare are a room and two lists.
-unfoldable pub isBareCall : List ℕ → List ℕ → List ℕ → Bool
-isBareCall a b c = both (isNumber mostLegsLent a) (both (isList b) (isList c))
+-- NAME SEAT PIN X Y.
+unfoldable pub isPlacing : List (List ℕ) → Bool
+isPlacing words =
+    both (eqb (length words) 5)
+    (both (isNumber mostNumber (word 1 words))
+    (both (isNumber mostNumber (word 2 words)) (both (isCoordinate (word 3 words)) (isCoordinate (word 4 words)))))
+
+-- The place of a placing's X and Y.
+abbrev pub placeIn : List (List ℕ) → Place
+placeIn words = place (signed (word 3 words)) (signed (word 4 words))
+
+-- A call on a seat.
+unfoldable pub seatCall : (ℕ → Said) → List (List ℕ) → Said
+seatCall call words = only (isSeatAlone words) (call (numberIn 1 words))
+
+-- A call on a seat with one number more, up to the given one.
+unfoldable pub pairCall : ℕ → (ℕ → ℕ → Said) → List (List ℕ) → Said
+pairCall top call words = only (isPair top words) (call (numberIn 1 words) (numberIn 2 words))
+
+-- A call on a seat with a pin and a place.
+unfoldable pub placeCall : (ℕ → ℕ → Place → Said) → List (List ℕ) → Said
+placeCall call words = only (isPlacing words) (call (numberIn 1 words) (numberIn 2 words) (placeIn words))
 
 -- open SEAT JOB MAP.
-unfoldable pub openCall : List ℕ → List ℕ → List ℕ → Said
-openCall a b c = only (isOpenCall a b c) (Said.Open (valueOf a) (valueOf b) (length (bytesOf c)))
+unfoldable pub openCall : List (List ℕ) → Said
+openCall words =
+    only
+    (both (eqb (length words) 4) (both (isNumber mostNumber (word 1 words)) (both (isNumber mostJob (word 2 words)) (isMap (word 3 words)))))
+    (Said.Open (numberIn 1 words) (numberIn 2 words))
 
 -- bare ROOM XS YS.
-unfoldable pub bareCall : List ℕ → List ℕ → List ℕ → Said
-bareCall a b c = only (isBareCall a b c) (Said.Bare (valueOf a) (length (listed b)) (length (listed c)))
+unfoldable pub bareCall : List (List ℕ) → Said
+bareCall words =
+    only
+    (both (eqb (length words) 4) (both (isNumber mostLegsLent (word 1 words)) (both (isList (word 2 words)) (isList (word 3 words)))))
+    (Said.Bare (numberIn 1 words))
 
--- Four words: open SEAT JOB MAP, bare ROOM XS YS.
-unfoldable pub lentCall : List ℕ → List ℕ → List ℕ → List ℕ → Said
-lentCall name a b c =
-    choose (same name (text "open")) (openCall a b c)
-    (choose (same name (text "bare")) (bareCall a b c) Said.NotACall)
+-- The calls: the name of each, and what the words of such a line say.
+abbrev pub calls : List (String × (List (List ℕ) → Said))
+calls =
+    ("open", openCall)
+    ∷ ("close", seatCall Said.Close)
+    ∷ ("place", placeCall Said.Place)
+    ∷ ("move", placeCall Said.Move)
+    ∷ ("remove", pairCall mostNumber Said.Remove)
+    ∷ ("undo", seatCall Said.Undo)
+    ∷ ("redo", seatCall Said.Redo)
+    ∷ ("write", pairCall mostRoom Said.Write)
+    ∷ ("wire", pairCall mostLegsLent Said.Wire)
+    ∷ ("bare", bareCall)
+    ∷ ("pins", seatCall Said.Pins)
+    ∷ []
 
--- Four words are a seat, a pin, an x and a y.
-unfoldable pub isPlacing : List ℕ → List ℕ → List ℕ → List ℕ → Bool
-isPlacing a b c d = both (isNumber mostNumber a) (both (isNumber mostNumber b) (both (isCoordinate c) (isCoordinate d)))
+-- What words say by the first of these calls that has the name given; with none it is not a call.
+unfoldable pub saidAs : List (String × (List (List ℕ) → Said)) → List ℕ → List (List ℕ) → Said
+saidAs [] name words = Said.NotACall
+saidAs (call ∷ rest) name words = choose (same name (text (call .0))) (call .1 words) (saidAs rest name words)
 
--- The place of an x and a y.
-abbrev pub placeRead : List ℕ → List ℕ → Place
-placeRead c d = place (signed c) (signed d)
-
--- Four words read as a seat, a pin and a place, where they are that.
-unfoldable pub placingOf : List ℕ → List ℕ → List ℕ → List ℕ → Placing
-placingOf a b c d = choose (isPlacing a b c d) (Placing.Of (valueOf a) (valueOf b) (placeRead c d)) Placing.Unread
-
--- Five words: place SEAT PIN X Y, move SEAT PIN X Y.
-unfoldable pub placeCall : List ℕ → List ℕ → List ℕ → List ℕ → List ℕ → Said
-placeCall name a b c d =
-    only (isPlacing a b c d)
-    (choose (same name (text "place")) (Said.Place (valueOf a) (valueOf b) (placeRead c d))
-    (choose (same name (text "move")) (Said.Move (valueOf a) (valueOf b) (placeRead c d)) Said.NotACall))
-
--- The call of a name and the words after it; more or fewer words than the call has is not a call.
-unfoldable pub callOf : ℕ → List ℕ → List ℕ → List ℕ → List ℕ → List ℕ → Said
-callOf n name a b c d =
-    choose (eqb n 2) (seatCall name a)
-    (choose (eqb n 3) (pairCall name a b)
-    (choose (eqb n 4) (lentCall name a b c)
-    (choose (eqb n 5) (placeCall name a b c d) Said.NotACall)))
+-- The call that the first word names.
+unfoldable pub callIn : List (List ℕ) → Said
+callIn words = saidAs calls (word 0 words) words
 
 -- A line with no word, or whose first word begins with #, is skipped.
 unfoldable pub isSkipped : List ℕ → Bool
@@ -102,43 +106,28 @@ isSkipped name = either (eqb (length name) 0) (eqb (getD name 0 0) hash)
 
 -- What the words of a line say.
 unfoldable pub saidIn : List (List ℕ) → Said
-saidIn words =
-    choose (isSkipped (word 0 words)) Said.Skip
-    (callOf (length words) (word 0 words) (word 1 words) (word 2 words) (word 3 words) (word 4 words))
+saidIn words = choose (isSkipped (word 0 words)) Said.Skip (callIn words)
 
 -- A line of more than 16,384 bytes is not a call.
 unfoldable pub isLong : List ℕ → Bool
 isLong line = ltb mostLine (length (withoutReturn line))
 
+-- The words of a line.
+abbrev pub wordsIn : List ℕ → List (List ℕ)
+wordsIn line = wordsOf (withoutReturn line)
+
 -- What a line says.
 unfoldable pub saidBy : List ℕ → Said
-saidBy line = choose (isLong line) Said.NotACall (saidIn (wordsOf (withoutReturn line)))
+saidBy line = choose (isLong line) Said.NotACall (saidIn (wordsIn line))
 
--- The bytes of the map, where words are an opening.
-unfoldable pub mapIn : List ℕ → List ℕ → List ℕ → List ℕ → List ℕ
-mapIn name a b c = choose (both (same name (text "open")) (isOpenCall a b c)) (bytesOf c) []
-
--- The numbers of a list, where words are a bare wiring.
-unfoldable pub listIn : List ℕ → List ℕ → List ℕ → List ℕ → List ℕ → List ℤ
-listIn name a b c list = choose (both (same name (text "bare")) (isBareCall a b c)) (listed list) []
-
--- The bytes of the map in words; only calls of four words have one.
-unfoldable pub mapSaid : List (List ℕ) → List ℕ
-mapSaid words = choose (eqb (length words) 4) (mapIn (word 0 words) (word 1 words) (word 2 words) (word 3 words)) []
-
--- The numbers of the list that is the word of a number; only calls of four words have one.
-unfoldable pub listSaid : ℕ → List (List ℕ) → List ℤ
-listSaid k words =
-    choose (eqb (length words) 4) (listIn (word 0 words) (word 1 words) (word 2 words) (word 3 words) (word k words)) []
-
--- The bytes of the map in a line.
+-- The bytes of the map in an opening's line.
 unfoldable pub mapGiven : List ℕ → List ℕ
-mapGiven line = choose (isLong line) [] (mapSaid (wordsOf (withoutReturn line)))
+mapGiven line = spelled (word 3 (wordsIn line))
 
--- The list of x in a line.
+-- The x in a bare wiring's line,
 unfoldable pub xsGiven : List ℕ → List ℤ
-xsGiven line = choose (isLong line) [] (listSaid 2 (wordsOf (withoutReturn line)))
+xsGiven line = listed (word 2 (wordsIn line))
 
--- The list of y in a line.
+-- and its y.
 unfoldable pub ysGiven : List ℕ → List ℤ
-ysGiven line = choose (isLong line) [] (listSaid 3 (wordsOf (withoutReturn line)))
+ysGiven line = listed (word 3 (wordsIn line))

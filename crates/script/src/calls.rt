@@ -1,27 +1,26 @@
-// What the words of a line say.
-use crate::MOST_ROOM;
+// What the words of a line say: a small reader for each call.
+use crate::Pair;
 use crate::Placing;
 use crate::Said;
 use board::Place;
 use text::Coordinate;
-use text::MOST_NUMBERS;
-use text::MOST_PAIRS;
+use text::MOST_ROOM;
 use text::Number;
 use text::numbers::MOST;
 use text::numbers::coordinate;
-use text::numbers::fill_list;
-use text::numbers::fill_map;
 use text::numbers::is_list;
 use text::numbers::is_map;
 use text::numbers::number;
+use text::words::count_words;
 use text::words::same;
+use text::words::word;
 ghost use mathlib.Core.Path.{_≡_};
-ghost use mathlib.Core.List.{[]};
-ghost use lib.Dec.{eqb};
+ghost use Prim.Native.Nat.{_≤_};
+ghost use Rattle.text.specs.Text.{mostRoom};
+ghost use Rattle.text.specs.Words.{wordsOf};
+ghost use Rattle.text.specs.Numbers.{mostNumber};
 ghost use Rattle.basics.specs.Tests.{choose};
-ghost use Rattle.text.specs.Text.{over};
-ghost use Rattle.text.specs.Numbers.{mostNumber, isNumber, valueOf, bytesOf, listed};
-ghost use Rattle.script.specs.Said.{mostRoom, mostLegsLent, only, seatCall, pairCall, isOpenCall, isBareCall, openCall, bareCall, lentCall, placingOf, placeCall, callOf, isSkipped as skipped, mapIn, listIn};
+ghost use Rattle.script.specs.Said.{mostLegsLent, numberIn, placeIn, isSeatAlone, isPair, isPlacing, seatCall, pairCall, placeCall, openCall, bareCall, callIn, isSkipped as skipped};
 
 // The most legs that a call lends.
 const MOST_LEGS_LENT: usize = 64;
@@ -29,156 +28,223 @@ const MOST_LEGS_LENT: usize = 64;
 // The largest job.
 const MOST_JOB: usize = 65535;
 
-// Two words: close SEAT, undo SEAT, redo SEAT, pins SEAT.
-fn seat_call(name: &[u8], a: &[u8]) -> Said
-    ensures { λ r. ⌜ r ≡ seatCall (now (name .entry)) (now (a .entry)) ⌝ }
+// NAME SEAT
+fn seat_alone(text: &[u8]) -> Number
+    ensures { λ r. ⌜ r ≡ choose (isSeatAlone (wordsOf (now (text .entry)))) (Number.Of (numberIn 1 (wordsOf (now (text .entry))))) Number.Unread ⌝ }
 {
-    let Number::Of(seat) = number(a, MOST) else {
+    if count_words(text) != 2 {
+        return Number::Unread;
+    }
+    number(word(text, 1), MOST)
+}
+
+// NAME SEAT and one number more, from 0 to `top`.
+fn pair(text: &[u8], top: usize) -> Pair
+    requires { ⌜ top ≤ mostNumber ⌝ }
+    ensures { λ r. ⌜ r ≡ choose (isPair top (wordsOf (now (text .entry)))) (Pair.Of (numberIn 1 (wordsOf (now (text .entry)))) (numberIn 2 (wordsOf (now (text .entry))))) Pair.Unread ⌝ }
+{
+    if count_words(text) != 3 {
+        return Pair::Unread;
+    }
+    let Number::Of(seat) = number(word(text, 1), MOST) else {
+        return Pair::Unread;
+    };
+    let Number::Of(n) = number(word(text, 2), top) else {
+        return Pair::Unread;
+    };
+    Pair::Of(seat, n)
+}
+
+// NAME SEAT PIN X Y
+fn placing(text: &[u8]) -> Placing
+    ensures { λ r. ⌜ r ≡ choose (isPlacing (wordsOf (now (text .entry)))) (Placing.Of (numberIn 1 (wordsOf (now (text .entry)))) (numberIn 2 (wordsOf (now (text .entry)))) (placeIn (wordsOf (now (text .entry))))) Placing.Unread ⌝ }
+{
+    if count_words(text) != 5 {
+        return Placing::Unread;
+    }
+    let Number::Of(seat) = number(word(text, 1), MOST) else {
+        return Placing::Unread;
+    };
+    let Number::Of(pin) = number(word(text, 2), MOST) else {
+        return Placing::Unread;
+    };
+    let Coordinate::At(x) = coordinate(word(text, 3)) else {
+        return Placing::Unread;
+    };
+    let Coordinate::At(y) = coordinate(word(text, 4)) else {
+        return Placing::Unread;
+    };
+    Placing::Of(seat, pin, Place { x, y })
+}
+
+// open SEAT JOB MAP
+fn read_open(text: &[u8]) -> Said
+    ensures { λ r. ⌜ r ≡ openCall (wordsOf (now (text .entry))) ⌝ }
+{
+    if count_words(text) != 4 {
+        return Said::NotACall;
+    }
+    let Number::Of(seat) = number(word(text, 1), MOST) else {
         return Said::NotACall;
     };
-    if same(name, b"close") {
-        return Said::Close { seat };
+    let Number::Of(job) = number(word(text, 2), MOST_JOB) else {
+        return Said::NotACall;
+    };
+    if !is_map(word(text, 3)) {
+        return Said::NotACall;
     }
-    if same(name, b"undo") {
-        return Said::Undo { seat };
+    Said::Open {
+        seat,
+        job: job as u16,
     }
-    if same(name, b"redo") {
-        return Said::Redo { seat };
-    }
-    if same(name, b"pins") {
-        return Said::Pins { seat };
-    }
-    Said::NotACall
+}
+
+// close SEAT
+fn read_close(text: &[u8]) -> Said
+    ensures { λ r. ⌜ r ≡ seatCall Said.Close (wordsOf (now (text .entry))) ⌝ }
+{
+    let Number::Of(seat) = seat_alone(text) else {
+        return Said::NotACall;
+    };
+    Said::Close { seat }
+}
+
+// place SEAT PIN X Y
+fn read_place(text: &[u8]) -> Said
+    ensures { λ r. ⌜ r ≡ placeCall Said.Place (wordsOf (now (text .entry))) ⌝ }
+{
+    let Placing::Of(seat, pin, at) = placing(text) else {
+        return Said::NotACall;
+    };
+    Said::Place { seat, pin, at }
+}
+
+// move SEAT PIN X Y
+fn read_move(text: &[u8]) -> Said
+    ensures { λ r. ⌜ r ≡ placeCall Said.Move (wordsOf (now (text .entry))) ⌝ }
+{
+    let Placing::Of(seat, pin, to) = placing(text) else {
+        return Said::NotACall;
+    };
+    Said::Move { seat, pin, to }
 }
 
 // remove SEAT PIN
-fn read_remove(seat: usize, b: &[u8]) -> Said
-    ensures { λ r. ⌜ r ≡ only (isNumber mostNumber (now (b .entry))) (Said.Remove seat (valueOf (now (b .entry)))) ⌝ }
+fn read_remove(text: &[u8]) -> Said
+    ensures { λ r. ⌜ r ≡ pairCall mostNumber Said.Remove (wordsOf (now (text .entry))) ⌝ }
 {
-    let Number::Of(pin) = number(b, MOST) else {
+    let Pair::Of(seat, pin) = pair(text, MOST) else {
         return Said::NotACall;
     };
     Said::Remove { seat, pin }
 }
 
-// write SEAT ROOM
-fn read_write(seat: usize, b: &[u8]) -> Said
-    ensures { λ r. ⌜ r ≡ only (isNumber mostRoom (now (b .entry))) (Said.Write seat (valueOf (now (b .entry)))) ⌝ }
+// undo SEAT
+fn read_undo(text: &[u8]) -> Said
+    ensures { λ r. ⌜ r ≡ seatCall Said.Undo (wordsOf (now (text .entry))) ⌝ }
 {
-    let Number::Of(room) = number(b, MOST_ROOM) else {
+    let Number::Of(seat) = seat_alone(text) else {
+        return Said::NotACall;
+    };
+    Said::Undo { seat }
+}
+
+// redo SEAT
+fn read_redo(text: &[u8]) -> Said
+    ensures { λ r. ⌜ r ≡ seatCall Said.Redo (wordsOf (now (text .entry))) ⌝ }
+{
+    let Number::Of(seat) = seat_alone(text) else {
+        return Said::NotACall;
+    };
+    Said::Redo { seat }
+}
+
+// write SEAT ROOM
+fn read_write(text: &[u8]) -> Said
+    ensures { λ r. ⌜ r ≡ pairCall mostRoom Said.Write (wordsOf (now (text .entry))) ⌝ }
+{
+    let Pair::Of(seat, room) = pair(text, MOST_ROOM) else {
         return Said::NotACall;
     };
     Said::Write { seat, room }
 }
 
 // wire SEAT ROOM
-fn read_wire(seat: usize, b: &[u8]) -> Said
-    ensures { λ r. ⌜ r ≡ only (isNumber mostLegsLent (now (b .entry))) (Said.Wire seat (valueOf (now (b .entry)))) ⌝ }
+fn read_wire(text: &[u8]) -> Said
+    ensures { λ r. ⌜ r ≡ pairCall mostLegsLent Said.Wire (wordsOf (now (text .entry))) ⌝ }
 {
-    let Number::Of(room) = number(b, MOST_LEGS_LENT) else {
+    let Pair::Of(seat, room) = pair(text, MOST_LEGS_LENT) else {
         return Said::NotACall;
     };
     Said::Wire { seat, room }
 }
 
-// Three words: remove SEAT PIN, write SEAT ROOM, wire SEAT ROOM.
-fn pair_call(name: &[u8], a: &[u8], b: &[u8]) -> Said
-    ensures { λ r. ⌜ r ≡ pairCall (now (name .entry)) (now (a .entry)) (now (b .entry)) ⌝ }
-{
-    let Number::Of(seat) = number(a, MOST) else {
-        return Said::NotACall;
-    };
-    if same(name, b"remove") {
-        return read_remove(seat, b);
-    }
-    if same(name, b"write") {
-        return read_write(seat, b);
-    }
-    if same(name, b"wire") {
-        return read_wire(seat, b);
-    }
-    Said::NotACall
-}
-
-// open SEAT JOB MAP
-fn read_open(a: &[u8], b: &[u8], c: &[u8], map: &mut [u8; MOST_PAIRS]) -> Said
-    ensures { λ r. ⌜ r ≡ openCall (now (a .entry)) (now (b .entry)) (now (c .entry)) ⌝ }
-    ensures { λ _. ⌜ now (map .exit) ≡ over (choose (isOpenCall (now (a .entry)) (now (b .entry)) (now (c .entry))) (bytesOf (now (c .entry))) []) (now (map .entry)) ⌝ }
-{
-    let Number::Of(seat) = number(a, MOST) else {
-        return Said::NotACall;
-    };
-    let Number::Of(job) = number(b, MOST_JOB) else {
-        return Said::NotACall;
-    };
-    if !is_map(c) {
-        return Said::NotACall;
-    }
-    let bytes = fill_map(c, map);
-    Said::Open {
-        seat,
-        job: job as u16,
-        bytes,
-    }
-}
-
 // bare ROOM XS YS
-fn read_bare(
-    a: &[u8],
-    b: &[u8],
-    c: &[u8],
-    xs: &mut [i32; MOST_NUMBERS],
-    ys: &mut [i32; MOST_NUMBERS],
-) -> Said
-    ensures { λ r. ⌜ r ≡ bareCall (now (a .entry)) (now (b .entry)) (now (c .entry)) ⌝ }
-    ensures { λ _. ⌜ now (xs .exit) ≡ over (choose (isBareCall (now (a .entry)) (now (b .entry)) (now (c .entry))) (listed (now (b .entry))) []) (now (xs .entry)) ⌝ }
-    ensures { λ _. ⌜ now (ys .exit) ≡ over (choose (isBareCall (now (a .entry)) (now (b .entry)) (now (c .entry))) (listed (now (c .entry))) []) (now (ys .entry)) ⌝ }
+fn read_bare(text: &[u8]) -> Said
+    ensures { λ r. ⌜ r ≡ bareCall (wordsOf (now (text .entry))) ⌝ }
 {
-    let Number::Of(room) = number(a, MOST_LEGS_LENT) else {
-        return Said::NotACall;
-    };
-    if !is_list(b) {
+    if count_words(text) != 4 {
         return Said::NotACall;
     }
-    if !is_list(c) {
+    let Number::Of(room) = number(word(text, 1), MOST_LEGS_LENT) else {
+        return Said::NotACall;
+    };
+    if !is_list(word(text, 2)) {
         return Said::NotACall;
     }
-    let across = fill_list(b, xs);
-    let up = fill_list(c, ys);
-    Said::Bare { room, across, up }
+    if !is_list(word(text, 3)) {
+        return Said::NotACall;
+    }
+    Said::Bare { room }
 }
 
-// SEAT PIN X Y
-fn placing(a: &[u8], b: &[u8], c: &[u8], d: &[u8]) -> Placing
-    ensures { λ r. ⌜ r ≡ placingOf (now (a .entry)) (now (b .entry)) (now (c .entry)) (now (d .entry)) ⌝ }
+// pins SEAT
+fn read_pins(text: &[u8]) -> Said
+    ensures { λ r. ⌜ r ≡ seatCall Said.Pins (wordsOf (now (text .entry))) ⌝ }
 {
-    let Number::Of(seat) = number(a, MOST) else {
-        return Placing::Unread;
-    };
-    let Number::Of(pin) = number(b, MOST) else {
-        return Placing::Unread;
-    };
-    let Coordinate::At(x) = coordinate(c) else {
-        return Placing::Unread;
-    };
-    let Coordinate::At(y) = coordinate(d) else {
-        return Placing::Unread;
-    };
-    Placing::Of(seat, pin, Place { x, y })
-}
-
-// Five words: place SEAT PIN X Y, move SEAT PIN X Y.
-fn place_call(name: &[u8], a: &[u8], b: &[u8], c: &[u8], d: &[u8]) -> Said
-    ensures { λ r. ⌜ r ≡ placeCall (now (name .entry)) (now (a .entry)) (now (b .entry)) (now (c .entry)) (now (d .entry)) ⌝ }
-{
-    let Placing::Of(seat, pin, at) = placing(a, b, c, d) else {
+    let Number::Of(seat) = seat_alone(text) else {
         return Said::NotACall;
     };
+    Said::Pins { seat }
+}
+
+// The call that the first word names.
+pub(crate) fn read_call(text: &[u8]) -> Said
+    ensures { λ r. ⌜ r ≡ callIn (wordsOf (now (text .entry))) ⌝ }
+{
+    let name = word(text, 0);
+    if same(name, b"open") {
+        return read_open(text);
+    }
+    if same(name, b"close") {
+        return read_close(text);
+    }
     if same(name, b"place") {
-        return Said::Place { seat, pin, at };
+        return read_place(text);
     }
     if same(name, b"move") {
-        return Said::Move { seat, pin, to: at };
+        return read_move(text);
+    }
+    if same(name, b"remove") {
+        return read_remove(text);
+    }
+    if same(name, b"undo") {
+        return read_undo(text);
+    }
+    if same(name, b"redo") {
+        return read_redo(text);
+    }
+    if same(name, b"write") {
+        return read_write(text);
+    }
+    if same(name, b"wire") {
+        return read_wire(text);
+    }
+    if same(name, b"bare") {
+        return read_bare(text);
+    }
+    if same(name, b"pins") {
+        return read_pins(text);
     }
     Said::NotACall
 }
@@ -188,60 +254,4 @@ pub(crate) fn is_skipped(name: &[u8]) -> bool
     ensures { λ r. ⌜ r ≡ skipped (now (name .entry)) ⌝ }
 {
     name.len() == 0 || name[0] == b'#'
-}
-
-// Four words: open SEAT JOB MAP, bare ROOM XS YS.
-fn lent_call(
-    name: &[u8],
-    a: &[u8],
-    b: &[u8],
-    c: &[u8],
-    map: &mut [u8; MOST_PAIRS],
-    xs: &mut [i32; MOST_NUMBERS],
-    ys: &mut [i32; MOST_NUMBERS],
-) -> Said
-    ensures { λ r. ⌜ r ≡ lentCall (now (name .entry)) (now (a .entry)) (now (b .entry)) (now (c .entry)) ⌝ }
-    ensures { λ _. ⌜ now (map .exit) ≡ over (mapIn (now (name .entry)) (now (a .entry)) (now (b .entry)) (now (c .entry))) (now (map .entry)) ⌝ }
-    ensures { λ _. ⌜ now (xs .exit) ≡ over (listIn (now (name .entry)) (now (a .entry)) (now (b .entry)) (now (c .entry)) (now (b .entry))) (now (xs .entry)) ⌝ }
-    ensures { λ _. ⌜ now (ys .exit) ≡ over (listIn (now (name .entry)) (now (a .entry)) (now (b .entry)) (now (c .entry)) (now (c .entry))) (now (ys .entry)) ⌝ }
-{
-    if same(name, b"open") {
-        return read_open(a, b, c, map);
-    }
-    if same(name, b"bare") {
-        return read_bare(a, b, c, xs, ys);
-    }
-    Said::NotACall
-}
-
-// The call of a name and the words after it, from the number of words.
-pub(crate) fn read_call(
-    count: usize,
-    name: &[u8],
-    a: &[u8],
-    b: &[u8],
-    c: &[u8],
-    d: &[u8],
-    map: &mut [u8; MOST_PAIRS],
-    xs: &mut [i32; MOST_NUMBERS],
-    ys: &mut [i32; MOST_NUMBERS],
-) -> Said
-    ensures { λ r. ⌜ r ≡ callOf count (now (name .entry)) (now (a .entry)) (now (b .entry)) (now (c .entry)) (now (d .entry)) ⌝ }
-    ensures { λ _. ⌜ now (map .exit) ≡ over (choose (eqb count 4) (mapIn (now (name .entry)) (now (a .entry)) (now (b .entry)) (now (c .entry))) []) (now (map .entry)) ⌝ }
-    ensures { λ _. ⌜ now (xs .exit) ≡ over (choose (eqb count 4) (listIn (now (name .entry)) (now (a .entry)) (now (b .entry)) (now (c .entry)) (now (b .entry))) []) (now (xs .entry)) ⌝ }
-    ensures { λ _. ⌜ now (ys .exit) ≡ over (choose (eqb count 4) (listIn (now (name .entry)) (now (a .entry)) (now (b .entry)) (now (c .entry)) (now (c .entry))) []) (now (ys .entry)) ⌝ }
-{
-    if count == 2 {
-        return seat_call(name, a);
-    }
-    if count == 3 {
-        return pair_call(name, a, b);
-    }
-    if count == 4 {
-        return lent_call(name, a, b, c, map, xs, ys);
-    }
-    if count == 5 {
-        return place_call(name, a, b, c, d);
-    }
-    Said::NotACall
 }

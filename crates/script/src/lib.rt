@@ -6,102 +6,84 @@ use calls::is_skipped;
 use calls::read_call;
 use text::MOST_NUMBERS;
 use text::MOST_PAIRS;
-use text::words::cut;
-use text::words::end_of;
-use text::words::part;
+use text::numbers::fill_list;
+use text::numbers::fill_map;
+use text::words::without_return;
+use text::words::word;
 ghost use mathlib.Core.Path.{_≡_};
+ghost use Prim.Native.Nat.{_≤_};
+ghost use lib.ListN.{length};
 ghost use Rattle.text.specs.Text.{over};
+ghost use Rattle.text.specs.Numbers.{mostPairs, mostNumbers};
 ghost use Rattle.script.specs.Said.{saidBy, mapGiven, xsGiven, ysGiven};
 
 // A line of more bytes is not a call.
 const MOST_LINE: usize = 16384;
 
-// The most bytes that a call lends.
-pub const MOST_ROOM: usize = 1024;
+// Words read as a seat and one number more.
+pub enum Pair {
+    Unread,
+    Of(usize, usize),
+}
 
-// Four words read as a seat, a pin and a place.
+// Words read as a seat, a pin and a place.
 pub enum Placing {
     Unread,
     Of(usize, usize, Place),
 }
 
-// What a line says: nothing, no call, or a call with its numbers. The bytes of an opening's map and the lists of a bare
-// wiring stand in lent buffers, their counts here.
+// What a line says: nothing, no call, or a call with its numbers. The map of an opening and the lists of a bare wiring are
+// read from the line by functions of their own, into lent buffers.
 pub enum Said {
     Skip,
     NotACall,
-    Open {
-        seat: usize,
-        job: u16,
-        bytes: usize,
-    },
-    Close {
-        seat: usize,
-    },
-    Place {
-        seat: usize,
-        pin: usize,
-        at: Place,
-    },
-    Move {
-        seat: usize,
-        pin: usize,
-        to: Place,
-    },
-    Remove {
-        seat: usize,
-        pin: usize,
-    },
-    Undo {
-        seat: usize,
-    },
-    Redo {
-        seat: usize,
-    },
-    Write {
-        seat: usize,
-        room: usize,
-    },
-    Wire {
-        seat: usize,
-        room: usize,
-    },
-    Bare {
-        room: usize,
-        across: usize,
-        up: usize,
-    },
-    Pins {
-        seat: usize,
-    },
+    Open { seat: usize, job: u16 },
+    Close { seat: usize },
+    Place { seat: usize, pin: usize, at: Place },
+    Move { seat: usize, pin: usize, to: Place },
+    Remove { seat: usize, pin: usize },
+    Undo { seat: usize },
+    Redo { seat: usize },
+    Write { seat: usize, room: usize },
+    Wire { seat: usize, room: usize },
+    Bare { room: usize },
+    Pins { seat: usize },
 }
 
-// Reads a line, without its newline. The map of an opening goes into `map`, the x and y of a bare wiring into `xs` and `ys`,
-// from the start on; any other line leaves them as they were.
-pub fn read_line(
-    line: &[u8],
-    map: &mut [u8; MOST_PAIRS],
-    xs: &mut [i32; MOST_NUMBERS],
-    ys: &mut [i32; MOST_NUMBERS],
-) -> Said
+// Reads a line, without its newline.
+pub fn read_line(line: &[u8]) -> Said
     ensures { λ r. ⌜ r ≡ saidBy (now (line .entry)) ⌝ }
-    ensures { λ _. ⌜ now (map .exit) ≡ over (mapGiven (now (line .entry))) (now (map .entry)) ⌝ }
-    ensures { λ _. ⌜ now (xs .exit) ≡ over (xsGiven (now (line .entry))) (now (xs .entry)) ⌝ }
-    ensures { λ _. ⌜ now (ys .exit) ≡ over (ysGiven (now (line .entry))) (now (ys .entry)) ⌝ }
 {
-    let end = end_of(line);
-    if MOST_LINE < end {
+    let text = without_return(line);
+    if MOST_LINE < text.len() {
         return Said::NotACall;
     }
-    let text = &line[..end];
-    let words = cut(text);
-    let name = part(text, words.name);
-    if is_skipped(name) {
+    if is_skipped(word(text, 0)) {
         return Said::Skip;
     }
-    let a = part(text, words.first);
-    let b = part(text, words.second);
-    let c = part(text, words.third);
-    let d = part(text, words.fourth);
-    read_call(words.count, name, a, b, c, d, map, xs, ys)
+    read_call(text)
+}
+
+// Writes the map of an opening from the start on, and answers how many bytes it has.
+pub fn given_map(line: &[u8], map: &mut [u8; MOST_PAIRS]) -> usize
+    ensures { λ r. ⌜ (r ≡ length (mapGiven (now (line .entry)))) × (r ≤ mostPairs) ⌝ }
+    ensures { λ _. ⌜ now (map .exit) ≡ over (mapGiven (now (line .entry))) (now (map .entry)) ⌝ }
+{
+    fill_map(word(without_return(line), 3), map)
+}
+
+// Writes the x of a bare wiring from the start on, and answers how many there are.
+pub fn given_xs(line: &[u8], xs: &mut [i32; MOST_NUMBERS]) -> usize
+    ensures { λ r. ⌜ (r ≡ length (xsGiven (now (line .entry)))) × (r ≤ mostNumbers) ⌝ }
+    ensures { λ _. ⌜ now (xs .exit) ≡ over (xsGiven (now (line .entry))) (now (xs .entry)) ⌝ }
+{
+    fill_list(word(without_return(line), 2), xs)
+}
+
+// Writes the y of a bare wiring from the start on, and answers how many there are.
+pub fn given_ys(line: &[u8], ys: &mut [i32; MOST_NUMBERS]) -> usize
+    ensures { λ r. ⌜ (r ≡ length (ysGiven (now (line .entry)))) × (r ≤ mostNumbers) ⌝ }
+    ensures { λ _. ⌜ now (ys .exit) ≡ over (ysGiven (now (line .entry))) (now (ys .entry)) ⌝ }
+{
+    fill_list(word(without_return(line), 3), ys)
 }

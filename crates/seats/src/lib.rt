@@ -6,13 +6,11 @@ use journal::RECORDS;
 use journal::Record;
 use journal::SEATS;
 ghost use mathlib.Core.Path.{_≡_};
-ghost use Prim.Native.Nat.{_-_, _<_, _≤_};
+ghost use Prim.Native.Nat.{_<_, _≤_};
 ghost use lib.Dec.{leb};
-ghost use lib.ListN.{length, take, drop, getD};
+ghost use lib.ListN.{length, take, drop};
 ghost use Rattle.basics.specs.Tests.{both};
-ghost use Rattle.board.specs.Spots.{mostPins};
-ghost use Rattle.drawing.specs.Edits.{pinOf};
-ghost use Rattle.journal.specs.Journal.{mostRecords, mostSeats, noEdit, own, countsOf, seated};
+ghost use Rattle.journal.specs.Journal.{mostRecords, mostSeats, own, countsOf, seated};
 ghost use Rattle.seats.specs.Seats.{closedSeat, openSeat, takenBackCount, editedSeat, undoneSeat, redoneSeat, jobOf, jobsIn, sameJob, jobAmong, jobsApart};
 ghost use Rattle.seats.specs.Sound.{soundOpen, soundTo, soundAll};
 
@@ -136,8 +134,8 @@ fn open_is_sound(
     if !drawing::keep_rules(pins) {
         return false;
     }
-    journal::can_take_back_all(pins, journal, used, seat, owned, standing)
-        && journal::can_redo_all(pins, journal, used, seat, standing)
+    tried::can_take_back_all(pins, journal, used, seat, owned, standing)
+        && tried::can_redo_all(pins, journal, used, seat, standing)
 }
 
 // Whether every seat is sound, with so many records owned by each: as an open one, or as a closed one, which owns none.
@@ -183,7 +181,7 @@ pub fn are_sound(seats: [Seat; SEATS], journal: [Record; RECORDS], used: usize) 
 
 // A seat after a new edit, which stands: its pins with the edit made.
 pub fn edited(s: Seat, edit: Edit) -> Seat
-    requires { ⌜ (pinOf edit < mostPins) × (s .standing ≤ mostRecords) ⌝ }
+    requires { ⌜ s .standing ≤ mostRecords ⌝ }
     ensures { λ r. ⌜ r ≡ editedSeat s edit ⌝ }
 {
     let pins = s.pins;
@@ -211,7 +209,7 @@ pub fn taken_back_count(s: Seat, journal: [Record; RECORDS], used: usize, seat: 
 
 // A seat after undo: its latest standing edit taken back.
 pub fn undone(s: Seat, journal: [Record; RECORDS], used: usize, seat: usize) -> Seat
-    requires { ⌜ (used ≤ mostRecords) × (0 < s .standing) × (s .standing ≤ length (own seat (take used journal))) × (pinOf (getD (own seat (take used journal)) (s .standing - 1) noEdit) < mostPins) ⌝ }
+    requires { ⌜ (used ≤ mostRecords) × (0 < s .standing) × (s .standing ≤ length (own seat (take used journal))) ⌝ }
     ensures { λ r. ⌜ r ≡ undoneSeat s (own seat (take used journal)) ⌝ }
 {
     let standing = s.standing;
@@ -229,7 +227,7 @@ pub fn undone(s: Seat, journal: [Record; RECORDS], used: usize, seat: usize) -> 
 
 // A seat after redo: the most recently taken-back of its edits made again.
 pub fn redone(s: Seat, journal: [Record; RECORDS], used: usize, seat: usize) -> Seat
-    requires { ⌜ (used ≤ mostRecords) × (s .standing < length (own seat (take used journal))) × (pinOf (getD (own seat (take used journal)) (s .standing) noEdit) < mostPins) ⌝ }
+    requires { ⌜ (used ≤ mostRecords) × (s .standing < length (own seat (take used journal))) ⌝ }
     ensures { λ r. ⌜ r ≡ redoneSeat s (own seat (take used journal)) ⌝ }
 {
     let standing = s.standing;

@@ -8,9 +8,8 @@ use native.Mathlib.Omega.{arith}
 use lib.ListN.{length, take, drop, getD}
 use lib.Seq.{length-take-le}
 use Rattle.basics.specs.Sums.{howMany}
-use Rattle.board.specs.declared.Spot.{Spot}
-use Rattle.board.specs.declared.Spot.the-variants.{Absent}
-use Rattle.board.specs.Spots.{present}
+use Rattle.drawing.specs.declared.Pin.{Pin}
+use Rattle.drawing.specs.Pins.{absent, isThere}
 use Rattle.refusal.specs.Refusals.{accepted}
 use Rattle.basics.proofs.Tests.{choose-yes, choose-no}
 use Rattle.wiring.specs.declared.Wiring.{Wiring}
@@ -19,7 +18,7 @@ use Rattle.text.specs.Text.{over, answerBytes, Holds}
 use Rattle.printed.specs.Answers.{verdictLine, wiredLine, jobLine}
 use Rattle.text.proofs.Printing.{Put, take-smaller}
 use Rattle.text.proofs.Steps.{front, first-more}
-use Rattle.shown.specs.Shown.{lineForEach, runsText, legsText, spotText, pinsText, pinsThere, wiredText, laidText, jobText, mapText}
+use Rattle.shown.specs.Shown.{lineForEach, runsText, legsText, pinText, pinsText, pinsThere, wiredText, laidText, jobText, mapText}
 
 module _ {A : Type 0} where
   -- The text of a list with one element more is one line longer;
@@ -41,34 +40,33 @@ module _ {A : Type 0} where
       ap (λ (k : ℕ). take k l) m ∙ take-smaller l count
 
 -- The text of pins with one more is longer by that pin;
-pins-snoc : (k : ℕ) (l : List Spot) (s : Spot) → pinsText k l ++ spotText (k + length l) s ≡ pinsText k (l ++ (s ∷ []))
+pins-snoc : (k : ℕ) (l : List Pin) (q : Pin) → pinsText k l ++ pinText (k + length l) (q .stand) ≡ pinsText k (l ++ (q ∷ []))
 unfolding pinsText
-pins-snoc k [] s = ap (λ (n : ℕ). spotText n s) (add-zero k) ∙ sym (append-nil (spotText k s))
-pins-snoc k (b ∷ rest) s =
+pins-snoc k [] q = ap (λ (n : ℕ). pinText n (q .stand)) (add-zero k) ∙ sym (append-nil (pinText k (q .stand)))
+pins-snoc k (b ∷ rest) q =
     let e : k + suc (length rest) ≡ suc k + length rest = omega arith in
-    append-assoc (spotText k b) (pinsText (suc k) rest) (spotText (k + suc (length rest)) s)
-    ∙ ap (λ (t : List ℕ). spotText k b ++ t) (ap (λ (n : ℕ). pinsText (suc k) rest ++ spotText n s) e ∙ pins-snoc (suc k) rest s)
+    append-assoc (pinText k (b .stand)) (pinsText (suc k) rest) (pinText (k + suc (length rest)) (q .stand))
+    ∙ ap (λ (t : List ℕ). pinText k (b .stand) ++ t)
+    (ap (λ (n : ℕ). pinsText (suc k) rest ++ pinText n (q .stand)) e ∙ pins-snoc (suc k) rest q)
 
--- so the text of the first pins grows pin by pin.
-pub pins-more : (feed : List Spot) (pin : ℕ) → pin < length feed
-    → pinsText 0 (take pin feed) ++ spotText pin (getD feed pin Absent) ≡ pinsText 0 (take (pin + 1) feed)
-pins-more feed pin h =
-    let e : pin ≡ 0 + length (take pin feed) = omega (arith, length-take-le pin feed (omega arith)) in
-    ap (λ (n : ℕ). pinsText 0 (take pin feed) ++ spotText n (getD feed pin Absent)) e
-    ∙ pins-snoc 0 (take pin feed) (getD feed pin Absent)
-    ∙ ap (pinsText 0) (first-more Absent feed pin h)
+module _ (pins : List Pin) (number : ℕ) (h : number < length pins) where
+  -- so the text of the first pins grows pin by pin.
+  pub pins-more : pinsText 0 (take number pins) ++ pinText number (getD pins number absent .stand) ≡ pinsText 0 (take (number + 1) pins)
+  pins-more =
+      let e : number ≡ 0 + length (take number pins) = omega (arith, length-take-le number pins (omega arith)) in
+      ap (λ (n : ℕ). pinsText 0 (take number pins) ++ pinText n (getD pins number absent .stand)) e
+      ∙ pins-snoc 0 (take number pins) (getD pins number absent)
+      ∙ ap (pinsText 0) (first-more absent pins number h)
 
--- A pin that is there is counted,
-pub count-there : (feed : List Spot) (pin : ℕ) → pin < length feed → present (getD feed pin Absent) ≡ true
-    → pinsThere (drop pin feed) ≡ 1 + pinsThere (drop (pin + 1) feed)
-unfolding howMany
-count-there feed pin h t = ap pinsThere (front Absent feed pin h) ∙ rw t
+  -- A pin that is there is counted,
+  pub count-there : isThere (getD pins number absent) ≡ true → pinsThere (drop number pins) ≡ 1 + pinsThere (drop (number + 1) pins)
+  unfolding howMany
+  count-there t = ap pinsThere (front absent pins number h) ∙ rw t
 
--- one that is not is not.
-pub count-absent : (feed : List Spot) (pin : ℕ) → pin < length feed → present (getD feed pin Absent) ≡ false
-    → pinsThere (drop pin feed) ≡ pinsThere (drop (pin + 1) feed)
-unfolding howMany
-count-absent feed pin h t = ap pinsThere (front Absent feed pin h) ∙ rw t (zero-add (pinsThere (drop (pin + 1) feed)))
+  -- one that is not is not.
+  pub count-absent : isThere (getD pins number absent) ≡ false → pinsThere (drop number pins) ≡ pinsThere (drop (number + 1) pins)
+  unfolding howMany
+  count-absent t = ap pinsThere (front absent pins number h) ∙ rw t (zero-add (pinsThere (drop (number + 1) pins)))
 
 -- What is printed from the start on, as a piece that others follow.
 pub begun : (o p : List ℕ) {n : ℕ} {v : List ℕ} → n ≡ length p → v ≡ over p o → Put o 0 p n v

@@ -4,10 +4,12 @@ use mathlib.Core.List.{List, [], _∷_, _++_}
 use lib.IntN.{pos, negsuc}
 use Rattle.basics.specs.Tests.{both, either, choose, anyOf, noTwo}
 use Rattle.basics.specs.Sums.{sum}
-use Rattle.refusal.specs.Refusals.{accepted, turn}
+use Rattle.refusal.specs.Refusals.{accepted}
+use Rattle.refusal.specs.Rows.{firstOf}
 use Rattle.refusal.specs.declared.Verdict.the-variants.{MapLength, OtherJob}
-use Rattle.board.specs.declared.Spot.{Spot}
-use Rattle.board.specs.declared.Spot.the-variants.{Absent, At}
+use Rattle.board.specs.declared.Spot.the-variants.{At}
+use Rattle.drawing.specs.declared.Pin.{Pin}
+use Rattle.drawing.specs.Pins.{absent, there, holding, isThere}
 use Rattle.board.specs.Place.{difference, larger, sameNumber, isStraight}
 use Rattle.tree.specs.Weight.{weightOf, pairOf, byPart, byNumber, comesBefore}
 use Rattle.board.specs.Place.{distanceOf}
@@ -20,11 +22,11 @@ use Rattle.copper.specs.Length.{sameStep, stepsAcross, stepsUp, stepsOf, stepsO
 use Rattle.board.specs.Place.{smaller}
 use Rattle.wiring.specs.declared.Laid.{Laid}
 use Rattle.wiring.specs.Choices.{bentShapes, shapesOf, withShape, withShapes, choicesOf, legsOfChoice, lengthOfChoice, shortest, shortestOf, bestChoice, weighedAt, weighedOf}
-use Rattle.wiring.specs.Answer.{shapedRuns, runEntries, legEntries, turnedAway, answerWith, wiringVerdict, wiringWith, wiringFavouring, wiringOf}
+use Rattle.wiring.specs.Answer.{shapedRuns, runEntries, legEntries, turnedAway, answerWith, wiringWith, wiringFavouring, wiringOf}
 use Rattle.text.specs.Text.{text}
 use Rattle.text.specs.Digits.{digits, integer, placeText}
 use Rattle.printed.specs.Answers.{carriedText, toldLine, wiredLine, jobLine, runLine, legLine, drawingLine, pinLine}
-use Rattle.shown.specs.Shown.{entryLine, lineForEach, legText, spotText, pinsText, wiredText, laidText, jobText, mapText, drawnText}
+use Rattle.shown.specs.Shown.{entryLine, lineForEach, legText, pinText, pinsText, wiredText, laidText, jobText, mapText, drawnText}
 
 -- W3: (0,0), (4,2), (4,-2).
 abbrev w3 : Laid
@@ -32,21 +34,21 @@ w3 = wiringOf (At (record { x = pos 0; y = pos 0 }) ∷ At (record { x = pos 4; 
 
 -- W3 as a map of job 7.
 pub map-of-w3 : mapText 7 (w3 .wiring) ≡ text "job 7 length 8 runs 2 weighed 5\n0 1 lower\n1 2 straight\n"
-unfolding wiringOf wiringFavouring wiringWith wiringVerdict answerWith turnedAway legEntries runEntries shapedRuns weighedOf sum weighedAt
+unfolding wiringOf wiringFavouring wiringWith answerWith turnedAway legEntries runEntries shapedRuns weighedOf sum weighedAt
     howMany bent bestChoice shortestOf shortest lengthOfChoice legsOfChoice choicesOf withShapes withShape shapesOf bentShapes lengthOf different
     anyOf stepsOfAll stepsOf smaller stepsUp stepsAcross sameStep legsOf lowerCorner upperCorner isStraight noTwo clash common isEnd
     boxesShare overlap under belowBoth runsOf pinsOf runsAmong grown nextRun earliestOf earliest runsBetween runsFrom without pinsFrom keptIf sooner
-    pairAt comesBefore byPart byNumber pairOf weightOf distanceOf difference larger sameNumber accepted turn both either choose digits jobLine runLine
+    pairAt comesBefore byPart byNumber pairOf weightOf distanceOf difference larger sameNumber accepted firstOf both either choose digits jobLine runLine
     entryLine lineForEach jobText mapText
 map-of-w3 = refl
 
 -- W3 with its legs.
 pub laid-w3 : laidText w3 ≡ text "0 length 8 runs 2 legs 3 weighed 5\n0 1 lower\n1 2 straight\nleg 0 0 4 0\nleg 4 0 4 2\nleg 4 2 4 -2\n"
-unfolding wiringOf wiringFavouring wiringWith wiringVerdict answerWith turnedAway legEntries runEntries shapedRuns weighedOf sum weighedAt
+unfolding wiringOf wiringFavouring wiringWith answerWith turnedAway legEntries runEntries shapedRuns weighedOf sum weighedAt
     howMany bent bestChoice shortestOf shortest lengthOfChoice legsOfChoice choicesOf withShapes withShape shapesOf bentShapes lengthOf different
     anyOf stepsOfAll stepsOf smaller stepsUp stepsAcross sameStep legsOf lowerCorner upperCorner isStraight noTwo clash common isEnd
     boxesShare overlap under belowBoth runsOf pinsOf runsAmong grown nextRun earliestOf earliest runsBetween runsFrom without pinsFrom keptIf sooner
-    pairAt comesBefore byPart byNumber pairOf weightOf distanceOf difference larger sameNumber accepted turn both either choose digits integer
+    pairAt comesBefore byPart byNumber pairOf weightOf distanceOf difference larger sameNumber accepted firstOf both either choose digits integer
     placeText wiredLine runLine legLine entryLine lineForEach legText wiredText laidText
 laid-w3 = refl
 
@@ -56,10 +58,10 @@ unfolding turnedAway runEntries accepted choose digits carriedText toldLine mapT
 refused-maps = refl
 
 -- A drawing whose pins 1 and 2 are there: (1,-1) and (20000,-20000).
-abbrev two : List Spot
-two = Absent ∷ At (record { x = pos 1; y = negsuc 0 }) ∷ At (record { x = pos 20000; y = negsuc 19999 }) ∷ Absent ∷ []
+abbrev two : List Pin
+two = absent ∷ there (holding (record { x = pos 1; y = negsuc 0 })) ∷ there (holding (record { x = pos 20000; y = negsuc 19999 })) ∷ absent ∷ []
 
 -- It is printed with its two pins counted and a line for each.
 pub drawn-two : drawnText 7 two 2 1 ≡ text "job 7 pins 2 standing 2 taken 1\npin 1 1 -1\npin 2 20000 -20000\n"
-unfolding choose digits integer placeText drawingLine pinLine spotText pinsText howMany drawnText
+unfolding choose digits integer placeText drawingLine pinLine pinText pinsText isThere howMany drawnText
 drawn-two = refl

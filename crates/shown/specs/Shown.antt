@@ -5,9 +5,10 @@ use lib.ListN.{take}
 use Rattle.basics.specs.Sums.{howMany}
 use Rattle.basics.specs.Tests.{choose}
 use Rattle.refusal.specs.Refusals.{accepted}
-use Rattle.board.specs.declared.Spot.{Spot}
-use Rattle.board.specs.declared.Spot.the-variants.{Absent, At}
-use Rattle.board.specs.Spots.{present}
+use Rattle.drawing.specs.declared.Pin.{Pin}
+use Rattle.drawing.specs.declared.Stand.{Stand}
+use Rattle.drawing.specs.declared.Stand.the-variants.{Absent, There}
+use Rattle.drawing.specs.Pins.{isThere}
 use Rattle.copper.specs.declared.Shape.{Shape}
 use Rattle.copper.specs.declared.Shape.the-variants.{Straight, Lower, Upper}
 use Rattle.copper.specs.declared.Leg.{Leg}
@@ -45,18 +46,18 @@ abbrev pub legsText : List Leg → List ℕ
 legsText legs = lineForEach legText legs
 
 -- The line of a pin that is there; none for one that is not.
-unfoldable pub spotText : ℕ → Spot → List ℕ
-spotText pin Absent = []
-spotText pin (At place) = pinLine pin place
+unfoldable pub pinText : ℕ → Stand → List ℕ
+pinText number Absent = []
+pinText number (There held) = pinLine number (held .place)
 
 -- A line for each pin that is there, numbered from the given number on.
-unfoldable pub pinsText : ℕ → List Spot → List ℕ
-pinsText pin [] = []
-pinsText pin (spot ∷ rest) = spotText pin spot ++ pinsText (suc pin) rest
+unfoldable pub pinsText : ℕ → List Pin → List ℕ
+pinsText number [] = []
+pinsText number (pin ∷ rest) = pinText number (pin .stand) ++ pinsText (suc number) rest
 
 -- How many pins are there.
-abbrev pub pinsThere : List Spot → ℕ
-pinsThere feed = howMany present feed
+abbrev pub pinsThere : List Pin → ℕ
+pinsThere pins = howMany isThere pins
 
 -- An accepted wiring: its line, its runs, its legs.
 unfoldable pub wiredText : Wiring → List Leg → List ℕ
@@ -80,5 +81,5 @@ unfoldable pub mapText : ℕ → Wiring → List ℕ
 mapText job wiring = choose (accepted (wiring .verdict)) (jobText job wiring) (verdictLine (wiring .verdict))
 
 -- A drawing: its line, then its pins from pin 0 on.
-unfoldable pub drawnText : ℕ → List Spot → ℕ → ℕ → List ℕ
-drawnText job feed standing taken = drawingLine job (pinsThere feed) standing taken ++ pinsText 0 feed
+unfoldable pub drawnText : ℕ → List Pin → ℕ → ℕ → List ℕ
+drawnText job pins standing taken = drawingLine job (pinsThere pins) standing taken ++ pinsText 0 pins

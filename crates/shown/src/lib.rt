@@ -1,9 +1,10 @@
 // Answers of several lines printed into a lent buffer: a wiring, the wiring of a map, a drawing.
 use basics::smaller;
 use board::PINS;
-use board::Spot;
 use copper::Leg;
 use copper::Shape;
+use drawing::Pin;
+use drawing::Stand;
 use printed::print_drawing;
 use printed::print_job;
 use printed::print_leg;
@@ -26,7 +27,7 @@ ghost use Rattle.tree.specs.Trees.{mostRuns};
 ghost use Rattle.wiring.specs.Answer.{mostLegs};
 ghost use Rattle.text.specs.Text.{over, answerBytes};
 ghost use Rattle.printed.specs.Answers.{mostRunBytes, mostLegBytes, mostPinBytes};
-ghost use Rattle.shown.specs.Shown.{entryLine, runsText, legText, legsText, spotText, pinsText, pinsThere, laidText, mapText, drawnText};
+ghost use Rattle.shown.specs.Shown.{entryLine, runsText, legText, legsText, pinText, pinsText, pinsThere, laidText, mapText, drawnText};
 
 // A run, from a position on.
 fn put_entry(run: RunEntry, out: &mut [u8; ANSWER_BYTES], at: usize) -> usize
@@ -88,43 +89,47 @@ fn put_legs(legs: [Leg; LEGS], count: usize, out: &mut [u8; ANSWER_BYTES], at: u
 }
 
 // A pin that is there, from a position on.
-fn put_spot(pin: usize, spot: Spot, out: &mut [u8; ANSWER_BYTES], at: usize) -> usize
+fn put_pin(number: usize, pin: Pin, out: &mut [u8; ANSWER_BYTES], at: usize) -> usize
     requires { ⌜ at + mostPinBytes ≤ answerBytes ⌝ }
-    ensures { λ r. ⌜ (r ≡ at + length (spotText pin spot)) × (r ≤ at + mostPinBytes) ⌝ }
-    ensures { λ _. ⌜ now (out .exit) ≡ sets (now (out .entry)) at (spotText pin spot) ⌝ }
+    ensures { λ r. ⌜ (r ≡ at + length (pinText number (pin .stand))) × (r ≤ at + mostPinBytes) ⌝ }
+    ensures { λ _. ⌜ now (out .exit) ≡ sets (now (out .entry)) at (pinText number (pin .stand)) ⌝ }
 {
-    match spot {
-        Spot::Absent => at,
-        Spot::At(place) => print_pin(pin, place, out, at),
+    let stand = pin.stand;
+    match stand {
+        Stand::Absent => at,
+        Stand::There(held) => {
+            let place = held.place;
+            print_pin(number, place, out, at)
+        }
     }
 }
 
-// The pins of a feed that are there, from a position on.
-fn put_pins(feed: [Spot; PINS], out: &mut [u8; ANSWER_BYTES], at: usize) -> usize
+// The pins of a drawing that are there, from a position on.
+fn put_pins(pins: [Pin; PINS], out: &mut [u8; ANSWER_BYTES], at: usize) -> usize
     requires { ⌜ at + mostPins * mostPinBytes ≤ answerBytes ⌝ }
-    ensures { λ r. ⌜ (r ≡ at + length (pinsText 0 feed)) × (r ≤ at + mostPins * mostPinBytes) ⌝ }
-    ensures { λ _. ⌜ now (out .exit) ≡ sets (now (out .entry)) at (pinsText 0 feed) ⌝ }
+    ensures { λ r. ⌜ (r ≡ at + length (pinsText 0 pins)) × (r ≤ at + mostPins * mostPinBytes) ⌝ }
+    ensures { λ _. ⌜ now (out .exit) ≡ sets (now (out .entry)) at (pinsText 0 pins) ⌝ }
 {
     let mut next = at;
-    let mut pin = 0;
-    while pin < PINS {
-        let spot = feed[pin];
-        next = put_spot(pin, spot, out, next);
-        pin += 1;
+    let mut number = 0;
+    while number < PINS {
+        let pin = pins[number];
+        next = put_pin(number, pin, out, next);
+        number += 1;
     }
     next
 }
 
-// How many pins of a feed are there.
-fn pins_there(feed: [Spot; PINS]) -> usize
-    ensures { λ r. ⌜ r ≡ pinsThere feed ⌝ }
+// How many pins of a drawing are there.
+fn pins_there(pins: [Pin; PINS]) -> usize
+    ensures { λ r. ⌜ r ≡ pinsThere pins ⌝ }
 {
     let mut count = 0;
-    let mut pin = 0;
-    while pin < PINS {
-        let spot = feed[pin];
-        pin += 1;
-        if board::is_there(spot) {
+    let mut number = 0;
+    while number < PINS {
+        let pin = pins[number];
+        number += 1;
+        if drawing::is_there(pin) {
             count += 1;
         }
     }
@@ -167,14 +172,14 @@ pub fn print_map(job: u16, wiring: Wiring, out: &mut [u8; ANSWER_BYTES]) -> usiz
 // Prints a drawing, and answers how many bytes that is.
 pub fn print_drawn(
     job: u16,
-    feed: [Spot; PINS],
+    pins: [Pin; PINS],
     standing: usize,
     taken: usize,
     out: &mut [u8; ANSWER_BYTES],
 ) -> usize
-    ensures { λ r. ⌜ ((r ≡ length (drawnText job feed standing taken)) × (r ≤ answerBytes)) × (now (out .exit) ≡ over (drawnText job feed standing taken) (now (out .entry))) ⌝ }
+    ensures { λ r. ⌜ ((r ≡ length (drawnText job pins standing taken)) × (r ≤ answerBytes)) × (now (out .exit) ≡ over (drawnText job pins standing taken) (now (out .entry))) ⌝ }
 {
-    let pins = pins_there(feed);
-    let next = print_drawing(job as usize, pins, standing, taken, out);
-    put_pins(feed, out, next)
+    let there = pins_there(pins);
+    let next = print_drawing(job as usize, there, standing, taken, out);
+    put_pins(pins, out, next)
 }

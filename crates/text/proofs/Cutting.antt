@@ -8,15 +8,13 @@ use native.Mathlib.Nat.{le-refl, add-zero}
 use native.Mathlib.Omega.{arith}
 use lib.Dec.{eqb}
 use lib.ListN.{length, take, drop, getD, List·getD-eq-default, length-drop, drop-of-length-le}
-use lib.Seq.{drop-drop, take-length, getD-drop}
+use lib.Seq.{drop-drop, take-length, length-take-le, getD-drop}
 use borrow.Author.Tests.{eqb-true, eq-eqb, ne-eqb}
 use Rattle.bytes.specs.Bytes.{indexOf, indexAfter, slice}
 use Rattle.basics.specs.Tests.{choose, both}
 use Rattle.basics.proofs.Tests.{opposite, fails-if, both-left, both-right, choose-yes, choose-no}
 use Rattle.text.specs.Text.{same}
-use Rattle.text.specs.Words.{return, space, endOf, beforeFirst, pieces, nonEmpty, wordsOf, word, spacesOf, startAt, stopAt, wordAt, partOf, afterWords, spanOf, cutOf}
-use Rattle.text.specs.declared.Span.{Span}
-use Rattle.text.specs.declared.Cut.{Cut}
+use Rattle.text.specs.Words.{return, space, endOf, withoutReturn, beforeFirst, pieces, nonEmpty, wordsOf, word, spacesOf, startAt, stopAt, afterWords}
 use Rattle.text.proofs.Steps.{front}
 
 module _ (l : List ℕ) where
@@ -34,6 +32,22 @@ module _ (l : List ℕ) where
   pub end-plain : (getD l (length l - 1) 0 ≡ return → ⊥) → length l ≡ endOf l
   unfolding endOf
   end-plain h = sym (choose-no (length l - 1) (length l) (ne-eqb (getD l (length l - 1) 0) return h))
+
+  end-there : (length l - 1 ≤ endOf l) × (endOf l ≤ length l)
+  unfolding endOf choose
+  end-there = by (eqb (getD l (length l - 1) 0) return)
+    where
+      by : (t : Bool) → (length l - 1 ≤ choose t (length l - 1) (length l)) × (choose t (length l - 1) (length l) ≤ length l)
+      by true = (omega arith, omega arith)
+      by false = (omega arith, omega arith)
+
+  -- The bytes before its end are as many as the end says,
+  pub end-whole : {end : ℕ} → end ≡ endOf l → end ≡ length (take end l)
+  end-whole {end} h = sym (length-take-le end l (omega (arith, end-there .1)))
+
+  -- and at most one fewer than there are.
+  pub return-one : length l ≤ length (withoutReturn l) + 1
+  return-one = omega (arith, end-whole refl, end-there .0)
 
   -- From a space on, the next word begins where it begins after that space;
   pub start-space : (i : ℕ) → i < length l → getD l i 0 ≡ space → startAt l i ≡ startAt l (i + 1)
@@ -84,10 +98,6 @@ pub stop-found : (s : ℕ) (l : List ℕ) (at : ℕ) → at + indexOf s (slice a
 unfolding stopAt slice
 stop-found s l at = rw (take-length l)
 
--- A start and a stop found one after the other are the next word.
-pub word-found : (l : List ℕ) (at : ℕ) {f t : ℕ} → f ≡ startAt l at → t ≡ stopAt space l f → _≡_ {A = Span} (record { from = f; to = t }) (wordAt l at)
-word-found l at hf ht = λ i. record { from = hf i; to = (ht ∙ ap (stopAt space l) hf) i }
-
 -- One byte more, and at most one more counted:
 count-within : (t : Bool) {m n : ℕ} → m ≤ n → choose t (suc m) 0 ≤ suc n
 unfolding choose
@@ -101,13 +111,13 @@ count-after true h = omega arith
 count-after false h = omega arith
 
 -- A text begins with no more spaces than it has bytes,
-pub spaces-within : (l : List ℕ) → spacesOf l ≤ length l
+spaces-within : (l : List ℕ) → spacesOf l ≤ length l
 unfolding spacesOf
 spaces-within [] = le-refl 0
 spaces-within (b ∷ rest) = count-within (eqb b space) (spaces-within rest)
 
 -- and a separator is found within it, or its end is;
-pub index-within : (s : ℕ) (l : List ℕ) → indexOf s l ≤ length l
+index-within : (s : ℕ) (l : List ℕ) → indexOf s l ≤ length l
 unfolding indexOf
 index-within s [] = le-refl 0
 index-within s (b ∷ rest) = count-after (eqb b s) (index-within s rest)
@@ -245,11 +255,12 @@ unfolding spacesOf
 spaces-done [] = refl
 spaces-done (b ∷ rest) = done-by b rest (eqb b space) refl (spaces-done rest)
 
--- A text that begins with no space: its first word, the words after it, and whether there is one.
-pub record Begun (l : List ℕ) : Type 0 where
-  pub first : word 0 (wordsOf l) ≡ take (indexOf space l) l
-  pub rest : drop 1 (wordsOf l) ≡ wordsOf (drop (indexOf space l) l)
-  pub some : min 1 (indexOf space l) ≡ min 1 (length (wordsOf l))
+-- A text that begins with no space: its first word, which has a byte where the text has one, the words after it, and whether there is one.
+record Begun (l : List ℕ) : Type 0 where
+  first : word 0 (wordsOf l) ≡ take (indexOf space l) l
+  rest : drop 1 (wordsOf l) ≡ wordsOf (drop (indexOf space l) l)
+  full : min 1 (indexOf space l) ≡ min 1 (length l)
+  some : min 1 (length l) ≡ min 1 (length (wordsOf l))
 
 -- Where a text begins with no space, its first word begins there: one byte more,
 begun-by : (b : ℕ) (rest : List ℕ) (t : Bool) → eqb b space ≡ t → spacesOf (b ∷ rest) ≡ 0 → Begun (b ∷ rest)
@@ -259,13 +270,14 @@ begun-by b rest false e h =
     record {
       first = rw (e, filled-longer b (pieces space rest), first-piece space rest);
       rest = rw (e, filled-longer b (pieces space rest)) (rest-filled rest);
+      full = rw e (omega arith);
       some = rw (e, filled-longer b (pieces space rest)) (omega arith);
     }
 
 -- and any text.
 begun : (l : List ℕ) → spacesOf l ≡ 0 → Begun l
 unfolding pieces nonEmpty wordsOf indexOf
-begun [] h = record { first = refl; rest = refl; some = refl }
+begun [] h = record { first = refl; rest = refl; full = refl; some = refl }
 begun (b ∷ rest) h = begun-by b rest (eqb b space) refl h
 
 -- The next word from a position on is the first of the words that are left there:
@@ -291,23 +303,31 @@ module _ (l : List ℕ) (at : ℕ) where
   unfolding stopAt left-there
   rest-there = drop-drop (indexOf space (drop (startAt l at) l)) (startAt l at) l
 
+  length-there : length left-there ≡ length l - startAt l at
+  unfolding left-there
+  length-there = length-drop (startAt l at) l
+
   -- its bytes are those of that first word,
-  pub next-word : word 0 (wordsOf (drop at l)) ≡ partOf l (wordAt l at)
-  unfolding left-there partOf
+  next-word : take (stopAt space l (startAt l at) - startAt l at) (drop (startAt l at) l) ≡ word 0 (wordsOf (drop at l))
+  unfolding left-there
   next-word =
-      ap (λ (ws : List (List ℕ)). word 0 ws) words-there ∙ begun-there .first
-      ∙ ap (λ (n : ℕ). take n left-there) (sym stop-there)
+      ap (λ (n : ℕ). take n left-there) stop-there ∙ sym (begun-there .first)
+      ∙ ap (λ (ws : List (List ℕ)). word 0 ws) (sym words-there)
 
   -- what follows it holds the other words,
-  pub next-rest : drop 1 (wordsOf (drop at l)) ≡ wordsOf (drop (stopAt space l (startAt l at)) l)
+  next-rest : drop 1 (wordsOf (drop at l)) ≡ wordsOf (drop (stopAt space l (startAt l at)) l)
   next-rest = ap (λ (ws : List (List ℕ)). drop 1 ws) words-there ∙ begun-there .rest ∙ ap wordsOf rest-there
 
-  -- and it is empty exactly where no word is left.
-  pub next-some : min 1 (stopAt space l (startAt l at) - startAt l at) ≡ min 1 (length (wordsOf (drop at l)))
-  next-some = ap (λ (n : ℕ). min 1 n) stop-there ∙ begun-there .some ∙ ap (λ (ws : List (List ℕ)). min 1 (length ws)) (sym words-there)
+  -- it has a byte where one is left,
+  next-full : startAt l at < length l → startAt l at < stopAt space l (startAt l at)
+  next-full h = omega (arith, stop-there, length-there, begun-there .full)
+
+  -- and one is left exactly where a word is.
+  next-some : min 1 (length l - startAt l at) ≡ min 1 (length (wordsOf (drop at l)))
+  next-some = rw (← length-there) (begun-there .some ∙ ap (λ (ws : List (List ℕ)). min 1 (length ws)) (sym words-there))
 
 -- After k words, the words that are left are those after the first k.
-pub after-words : (l : List ℕ) (k : ℕ) → drop k (wordsOf l) ≡ wordsOf (drop (afterWords k l) l)
+after-words : (l : List ℕ) (k : ℕ) → drop k (wordsOf l) ≡ wordsOf (drop (afterWords k l) l)
 unfolding afterWords
 after-words l zero = refl
 after-words l (suc k) =
@@ -315,93 +335,63 @@ after-words l (suc k) =
     ∙ ap (λ (ws : List (List ℕ)). drop 1 ws) (after-words l k)
     ∙ next-rest l (afterWords k l)
 
--- So the word of a number stands where it is looked for,
-pub word-is : (l : List ℕ) (k : ℕ) → partOf l (spanOf k l) ≡ word k (wordsOf l)
-unfolding spanOf
-word-is l k =
-    sym (next-word l (afterWords k l))
-    ∙ ap (λ (ws : List (List ℕ)). word 0 ws) (sym (after-words l k))
-    ∙ getD-drop k (wordsOf l) 0 []
-    ∙ rw (add-zero k)
-
--- what is found there is empty exactly where there are not so many words,
-pub span-some : (l : List ℕ) (k : ℕ) → min 1 (spanOf k l .to - spanOf k l .from) ≡ min 1 (length (wordsOf l) - k)
-unfolding spanOf
-span-some l k =
-    next-some l (afterWords k l)
-    ∙ ap (λ (ws : List (List ℕ)). min 1 (length ws)) (sym (after-words l k))
-    ∙ ap (λ (n : ℕ). min 1 n) (length-drop k (wordsOf l))
-
--- and the line is never read beyond its end.
+-- The line is never read beyond its end.
 pub after-within : (l : List ℕ) (k : ℕ) → afterWords k l ≤ length l
 unfolding afterWords
 after-within l zero = zero-le
 after-within l (suc k) = stop-within space l (startAt l (afterWords k l)) (start-within l (afterWords k l) (after-within l k))
 
--- A count that goes up by one for each word there is comes to the number of words, up to where it stops.
-one-more : (k n s : ℕ) {f : ℕ} → s ≡ min k n → f ≡ min 1 (n - k) → s + f ≡ min (k + 1) n
-one-more k n s h e = omega arith
+-- One word more is read from where a text has been read to.
+pub after-more : (l : List ℕ) (k : ℕ) {at from to : ℕ} → at ≡ afterWords k l → from ≡ startAt l at → to ≡ stopAt space l from → to ≡ afterWords (k + 1) l
+unfolding afterWords
+after-more l k p q r = rw (add-one k) (r ∙ ap (stopAt space l) (q ∙ ap (startAt l) p))
 
--- The word of a number ends no earlier than it begins
-pub span-ordered : (l : List ℕ) (k : ℕ) → spanOf k l .from ≤ spanOf k l .to
-unfolding spanOf stopAt
-span-ordered l k = omega arith
+-- What is found there is the word of a number.
+pub word-found : (l : List ℕ) (k : ℕ) {at from to : ℕ} → at ≡ afterWords k l → from ≡ startAt l at → to ≡ stopAt space l from
+    → take (to - from) (drop from l) ≡ word k (wordsOf l)
+word-found l k p q r =
+    rw (r, q, p)
+    (next-word l (afterWords k l)
+    ∙ ap (λ (ws : List (List ℕ)). word 0 ws) (sym (after-words l k))
+    ∙ getD-drop k (wordsOf l) 0 []
+    ∙ rw (add-zero k))
 
--- and within the line;
-pub span-within : (l : List ℕ) (k : ℕ) → spanOf k l .to ≤ length l
-unfolding spanOf afterWords
-span-within l k = after-within l (suc k)
+-- So many words were counted, and the next begins there if there is one.
+pub record Counted (l : List ℕ) (count from : ℕ) : Type 0 where
+  pub is : from ≡ startAt l (afterWords count l)
+  pub bytes : count ≤ from
+  pub within : from ≤ length l
+  pub words : count ≤ length (wordsOf l)
 
--- so its span can be cut out.
-pub span-good : (l : List ℕ) (k : ℕ) {s : Span} → s ≡ spanOf k l → (s .from ≤ s .to) × (s .to ≤ length l)
-span-good l k h = rw h (span-ordered l k, span-within l k)
+module _ (l : List ℕ) where
+  -- None at first;
+  pub count-start : {from : ℕ} → from ≡ startAt l 0 → Counted l 0 from
+  unfolding afterWords
+  count-start h = record { is = h; bytes = zero-le; within = rw h (start-within l 0 zero-le); words = zero-le }
 
--- A word found after the word of a number is the next one.
-next-span : (l : List ℕ) (k : ℕ) {v w : Span} → v ≡ spanOf k l → w ≡ wordAt l (v .to) → w ≡ spanOf (suc k) l
-unfolding spanOf afterWords
-next-span l k h e = e ∙ ap (λ (s : Span). wordAt l (s .to)) h
+  module _ {count from : ℕ} (c : Counted l count from) where
+    left : min 1 (length l - from) ≡ min 1 (length (wordsOf l) - count)
+    left =
+        rw (c .is) (next-some l (afterWords count l))
+        ∙ ap (λ (ws : List (List ℕ)). min 1 (length ws)) (sym (after-words l count))
+        ∙ ap (λ (n : ℕ). min 1 n) (length-drop count (wordsOf l))
 
--- The word of a number counts for one where there are so many words.
-full-is : (l : List ℕ) (k : ℕ) {w : Span} {f : ℕ} → w ≡ spanOf k l → f ≡ min 1 (w .to - w .from) → f ≡ min 1 (length (wordsOf l) - k)
-full-is l k h e = e ∙ ap (λ (s : Span). min 1 (s .to - s .from)) h ∙ span-some l k
+    -- one more where another byte is left,
+    pub count-more : {to next : ℕ} → from < length l → to ≡ stopAt space l from → next ≡ startAt l to → Counted l (count + 1) next × (from < next)
+    unfolding startAt
+    count-more {to} {next} h p q =
+        let more : from < to = rw p (rw (← (c .is)) at (next-full l (afterWords count l) (rw (← (c .is)) h))) in
+        let beyond : to ≤ next = omega arith in
+        let start : startAt l to ≤ length l = start-within l to (rw p (stop-within space l from (c .within))) in (
+          record {
+            is = q ∙ ap (startAt l) (after-more l count refl (c .is) p);
+            bytes = omega arith;
+            within = rw q start;
+            words = omega (arith, left);
+          },
+          omega arith,
+        )
 
--- Six words found one after another, and for each whether it is there.
-module _ (l : List ℕ) {a b c d e g : Span} {p q r s t u : ℕ}
-    (ha : a ≡ wordAt l 0) (hb : b ≡ wordAt l (a .to)) (hc : c ≡ wordAt l (b .to)) (hd : d ≡ wordAt l (c .to))
-    (he : e ≡ wordAt l (d .to)) (hg : g ≡ wordAt l (e .to))
-    (hp : p ≡ min 1 (a .to - a .from)) (hq : q ≡ min 1 (b .to - b .from)) (hr : r ≡ min 1 (c .to - c .from))
-    (hs : s ≡ min 1 (d .to - d .from)) (ht : t ≡ min 1 (e .to - e .from)) (hu : u ≡ min 1 (g .to - g .from)) where
-  is0 : a ≡ spanOf 0 l
-  unfolding spanOf afterWords
-  is0 = ha
-
-  is1 : b ≡ spanOf 1 l
-  is1 = next-span l 0 is0 hb
-
-  is2 : c ≡ spanOf 2 l
-  is2 = next-span l 1 is1 hc
-
-  is3 : d ≡ spanOf 3 l
-  is3 = next-span l 2 is2 hd
-
-  is4 : e ≡ spanOf 4 l
-  is4 = next-span l 3 is3 he
-
-  is5 : g ≡ spanOf 5 l
-  is5 = next-span l 4 is4 hg
-
-  abbrev n : ℕ
-  n = length (wordsOf l)
-
-  counted : p + q + r + s + t + u ≡ min 6 n
-  counted =
-      let c1 : p ≡ min 1 n = omega (arith, full-is l 0 is0 hp) in
-      let c2 : p + q ≡ min 2 n = one-more 1 n p c1 (full-is l 1 is1 hq) in
-      let c3 : p + q + r ≡ min 3 n = one-more 2 n (p + q) c2 (full-is l 2 is2 hr) in
-      let c4 : p + q + r + s ≡ min 4 n = one-more 3 n (p + q + r) c3 (full-is l 3 is3 hs) in
-      let c5 : p + q + r + s + t ≡ min 5 n = one-more 4 n (p + q + r + s) c4 (full-is l 4 is4 ht) in
-      one-more 5 n (p + q + r + s + t) c5 (full-is l 5 is5 hu)
-
-  -- Together they are the line cut into words.
-  pub cut-is : _≡_ {A = Cut} (record { count = p + q + r + s + t + u; name = a; first = b; second = c; third = d; fourth = e }) (cutOf l)
-  cut-is = λ i. record { count = counted i; name = is0 i; first = is1 i; second = is2 i; third = is3 i; fourth = is4 i }
+    -- and all of them at the end.
+    pub count-done : length l ≤ from → count ≡ length (wordsOf l)
+    count-done h = omega (arith, left)

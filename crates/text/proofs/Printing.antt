@@ -47,11 +47,11 @@ digits-more zero n h = sym (digits-small 0 n (omega (arith, pow-suc 10 0))) ∙ 
 digits-more (suc k) n h = more-by (suc k) n (digits-more k (n / 10)) h (order 10 n)
 
 -- So a number below ten is one digit,
-pub decimal-small : (n : ℕ) → n < 10 → (48 + n) ∷ [] ≡ decimal n
+decimal-small : (n : ℕ) → n < 10 → (48 + n) ∷ [] ≡ decimal n
 decimal-small n h = digits-small 19 n h
 
 -- and a larger one the digits of its tenth and its last digit.
-pub decimal-large : (n : ℕ) → 10 ≤ n → n < 18446744073709551616 → decimal (n / 10) ++ ((48 + n % 10) ∷ []) ≡ decimal n
+decimal-large : (n : ℕ) → 10 ≤ n → n < 18446744073709551616 → decimal (n / 10) ++ ((48 + n % 10) ∷ []) ≡ decimal n
 decimal-large n h k =
     ap (λ (l : List ℕ). l ++ ((48 + n % 10) ∷ [])) (sym (digits-more 18 (n / 10) (omega arith)))
     ∙ digits-step 19 n h

@@ -18,14 +18,6 @@ module _ {A : Type 0} where
   pub unpicked : {a b : A} (t : Bool) → (b ≡ a → ⊥) → b ≡ choose t a b → t ≡ false
   unpicked t n e = second-chosen t n e .0
 
-  -- Nothing stored in a buffer leaves it as it is,
-  pub over-none : {new old : List A} → [] ≡ new → old ≡ over new old
-  over-none {old} e = ap (λ (l : List A). over l old) e
-
-  -- and what is stored in it may be said in other words.
-  pub over-as : {new other last : List A} (old : List A) → new ≡ other → last ≡ over new old → last ≡ over other old
-  over-as old e f = f ∙ ap (λ (l : List A). over l old) e
-
   -- Elements stored from a position on: one more.
   pub stored-more : (d : A) (new old : List A) (at n : ℕ) {a : A} {rest : List A} → drop n new ≡ a ∷ rest
       → (set (sets old at (take n new)) (at + n) a ≡ sets old at (take (n + 1) new)) × (n < length new)

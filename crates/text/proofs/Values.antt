@@ -3,7 +3,7 @@ use mathlib.Core.Path.{_≡_, refl, sym, _∙_, ap}
 use mathlib.Core.Bool.{Bool, true, false}
 use mathlib.Core.Logic.{_⊎_, inl, inr}
 use mathlib.Core.List.{List, [], _∷_, map}
-use Prim.Native.Nat.{ℕ, zero, suc, _+_, _-_, _*_, _≤_, _<_, min}
+use Prim.Native.Nat.{ℕ, zero, suc, _+_, _-_, _*_, _≤_, _<_, min, zero-le}
 use native.Mathlib.Omega.{arith}
 use lib.IntN.{ℤ, pos, negsuc, negℤ}
 use lib.Dec.{leb, ltb, eqb}
@@ -15,15 +15,15 @@ use mir.Syntax.{w32}
 use mir.Val.{toZ}
 use borrow.Author.Tests.{lt-leb, le-leb, lt-ltb, le-ltb, eq-eqb, ne-eqb, leb-true}
 use Rattle.basics.specs.Tests.{both, either, choose, eachOf}
-use Rattle.basics.proofs.Tests.{opposite, both-left, both-right}
+use Rattle.basics.proofs.Tests.{opposite, both-left, both-right, either-left, either-right}
 use Rattle.board.proofs.Flat.{order}
-use Rattle.text.specs.Text.{same, over}
+use Rattle.text.specs.Text.{over}
 use Rattle.text.specs.Words.{comma, pieces, stopAt}
-use Rattle.text.specs.Numbers.{mostAbove, mostBelow, mostNumber, mostNumbers, mostPairs, between, allDigits, valueFrom, valueOf, isNumber, numberOf, hasMinus, isCoordinate, signed, coordinateOf, noneWord, allCoordinates, isRow, listed, isList, isHex, hexValue, allPairs, bytesOf, isMap, beyond}
+use Rattle.text.specs.Numbers.{mostAbove, mostBelow, mostNumber, mostNumbers, mostPairs, between, allDigits, valueFrom, valueOf, isNumber, numberOf, hasMinus, isCoordinate, signed, coordinateOf, allCoordinates, isRow, isHex, hexValue, allPairs, bytesOf, isSpelled, beyond}
 use Rattle.text.specs.declared.Number.{Number}
 use Rattle.text.specs.declared.Coordinate.{Coordinate}
 use Rattle.text.proofs.Steps.{front, picked, unpicked, fill-more, fill-done}
-use Rattle.text.proofs.Cutting.{first-piece, after-piece, last-piece, some-piece, same-is}
+use Rattle.text.proofs.Cutting.{first-piece, after-piece, last-piece, some-piece}
 
 -- A byte below the low end is not between,
 pub between-below : (low high b : ℕ) → b < low → false ≡ between low high b
@@ -266,34 +266,25 @@ module _ (w : List ℕ) where
   unfolding coordinateOf choose
   coordinate-unread e = unpicked (isCoordinate w) (λ q. opposite {t = true} refl cc) e
 
-  -- A minus alone is a map,
-  pub map-none : same w noneWord ≡ true → true ≡ isMap w
-  unfolding isMap either
-  map-none h = rw h
+  -- An empty word spells no map,
+  pub spelled-empty : length w ≡ 0 → false ≡ isSpelled w
+  unfolding isSpelled both
+  spelled-empty k = rw (le-ltb 0 (length w) (omega arith))
 
-  -- an empty word is none,
-  pub map-empty : same w noneWord ≡ false → length w ≡ 0 → false ≡ isMap w
-  unfolding isMap either both
-  map-empty h k = rw (h, le-ltb 0 (length w) (omega arith))
+  -- nor does one of more than 8,400 bytes;
+  pub spelled-long : mostPairs * 2 < length w → false ≡ isSpelled w
+  unfolding isSpelled both
+  spelled-long k = rw (lt-ltb 0 (length w) (omega arith), lt-leb (length w) (mostPairs * 2) k)
 
-  -- nor is one of more than 8,400 bytes;
-  pub map-long : same w noneWord ≡ false → mostPairs * 2 < length w → false ≡ isMap w
-  unfolding isMap either both
-  map-long h k = rw (h, lt-ltb 0 (length w) (omega arith), lt-leb (length w) (mostPairs * 2) k)
-
-  -- any other is a map where all its bytes are pairs of hex digits,
-  pub map-pairs : same w noneWord ≡ false → (length w ≡ 0 → ⊥) → length w ≤ mostPairs * 2 → allPairs w ≡ isMap w
-  unfolding isMap either both
-  map-pairs h n k = rw (h, lt-ltb 0 (length w) (omega arith), le-leb (length w) (mostPairs * 2) k)
+  -- any other does where all its bytes are pairs of hex digits,
+  pub spelled-pairs : (length w ≡ 0 → ⊥) → length w ≤ mostPairs * 2 → allPairs w ≡ isSpelled w
+  unfolding isSpelled both
+  spelled-pairs n k = rw (lt-ltb 0 (length w) (omega arith), le-leb (length w) (mostPairs * 2) k)
 
   -- and so no map has more than 8,400.
-  pub map-length : isMap w ≡ true → length w ≤ mostPairs * 2
-  unfolding isMap either
-  map-length h = by (same w noneWord) refl h
-    where
-      by : (t : Bool) → same w noneWord ≡ t → either t (both (ltb 0 (length w)) (both (leb (length w) (mostPairs * 2)) (allPairs w))) ≡ true → length w ≤ mostPairs * 2
-      by true e k = omega (arith, ap length (same-is w noneWord e))
-      by false e k = leb-true (length w) (mostPairs * 2) (both-left _ _ (both-right _ _ k))
+  pub spelled-length : isSpelled w ≡ true → length w ≤ mostPairs * 2
+  unfolding isSpelled
+  spelled-length h = leb-true (length w) (mostPairs * 2) (both-left _ _ (both-right _ _ h))
 
 -- The pieces that are left from a position on.
 unfoldable pub rowLeft : List ℕ → ℕ → List (List ℕ)
@@ -332,7 +323,7 @@ module _ (w : List ℕ) (at : ℕ) (h : at ≤ length w) where
       first-piece comma (drop at w) ∙ ap (λ (n : ℕ). take n (drop at w)) e
 
   -- and elsewhere the piece up to the next comma and those after that comma.
-  pub row-next : rowLeft w at ≡ take (stopAt comma w at - at) (drop at w) ∷ rowLeft w (stopAt comma w at + 1)
+  row-next : rowLeft w at ≡ take (stopAt comma w at - at) (drop at w) ∷ rowLeft w (stopAt comma w at + 1)
   unfolding rowLeft choose
   row-next =
       rw (le-leb at (length w) h)
@@ -352,12 +343,12 @@ judged-start w =
     rw (row-start w) (ap (λ (n : ℕ). both (allCoordinates (pieces comma w)) (leb n mostNumbers)) e)
 
 -- a piece that is no number settles that it is none,
-pub judged-stop : (count : ℕ) (p : List ℕ) (ps : List (List ℕ)) → isCoordinate p ≡ false → judged count (p ∷ ps) ≡ false
+judged-stop : (count : ℕ) (p : List ℕ) (ps : List (List ℕ)) → isCoordinate p ≡ false → judged count (p ∷ ps) ≡ false
 unfolding judged eachOf both
 judged-stop count p ps h = rw h
 
 -- a number leaves it to the pieces after it, with one more counted,
-pub judged-next : (count : ℕ) (p : List ℕ) (ps : List (List ℕ)) → isCoordinate p ≡ true → judged count (p ∷ ps) ≡ judged (count + 1) ps
+judged-next : (count : ℕ) (p : List ℕ) (ps : List (List ℕ)) → isCoordinate p ≡ true → judged count (p ∷ ps) ≡ judged (count + 1) ps
 unfolding judged eachOf both
 judged-next count p ps h =
     let e : count + suc (length ps) ≡ count + 1 + length ps = omega arith in
@@ -430,28 +421,23 @@ row-done w at count old h k d =
     fill-done (map signed (pieces comma w)) old count k (d ∙ ap (map signed) (row-end w at h)) in
     (f .0 ∙ length-map (pieces comma w) signed, f .1)
 
--- A word that is a list, and what it lists.
-module _ (w : List ℕ) where
-  -- A minus alone is a list,
-  pub list-none : same w noneWord ≡ true → true ≡ isList w
-  unfolding isList either
-  list-none h = rw h
+-- What a word holds that has the form asked for is stored,
+pub form-stored : {A : Type 0} {t : Bool} (new old : List A) {n most : ℕ} {last : List A} → t ≡ true
+    → n ≡ length new → n ≤ most → last ≡ over new old
+    → ((n ≡ length (choose t new [])) × (n ≤ most)) × (last ≡ over (choose t new []) old)
+unfolding choose
+form-stored new old h e k f = rw h ((e, k), f)
 
-  -- and any other word where it is a row.
-  pub list-row : same w noneWord ≡ false → isRow w ≡ isList w
-  unfolding isList either
-  list-row h = rw h
+-- and any other word leaves the buffer as it is.
+pub form-none : {A : Type 0} {t : Bool} (new old : List A) {most : ℕ} → t ≡ false
+    → ((0 ≡ length (choose t new [])) × (0 ≤ most)) × (old ≡ over (choose t new []) old)
+unfolding choose
+form-none new old h = rw h ((refl, zero-le), refl)
 
-  -- A minus alone lists nothing,
-  pub listed-none : same w noneWord ≡ true → [] ≡ listed w
-  unfolding listed choose
-  listed-none h = rw h
+-- A word passes as a list or a map where it is a minus alone,
+pub none-passes : {s a : Bool} (b : Bool) → s ≡ a → s ≡ true → s ≡ either a b
+none-passes b e h = h ∙ sym (either-left b (sym e ∙ h))
 
-  -- a row the number of each of its pieces,
-  pub listed-row : same w noneWord ≡ false → map signed (pieces comma w) ≡ listed w
-  unfolding listed choose
-  listed-row h = rw h
-
-  -- as many as it has pieces.
-  pub listed-length : same w noneWord ≡ false → length (pieces comma w) ≡ length (listed w)
-  listed-length h = sym (length-map (pieces comma w) signed) ∙ ap length (listed-row h)
+-- and else where it has the form.
+pub form-passes : {s a r b : Bool} → s ≡ a → s ≡ false → r ≡ b → r ≡ either a b
+form-passes {b = b} e h f = f ∙ sym (either-right b (sym e ∙ h))

@@ -92,17 +92,17 @@ noneWord = text "-"
 abbrev pub allCoordinates : List (List ℕ) → Bool
 allCoordinates words = eachOf isCoordinate words
 
--- The numbers that a list holds; none where it is a single minus.
-unfoldable pub listed : List ℕ → List ℤ
-listed w = choose (same w noneWord) [] (map signed (pieces comma w))
-
 -- Numbers separated by single commas, up to 40.
 unfoldable pub isRow : List ℕ → Bool
 isRow w = both (allCoordinates (pieces comma w)) (leb (length (pieces comma w)) mostNumbers)
 
--- A list: none, or such numbers.
+-- A list: such numbers, or - for none.
 unfoldable pub isList : List ℕ → Bool
 isList w = either (same w noneWord) (isRow w)
+
+-- The numbers that a list holds; none where it is a single minus or no list.
+unfoldable pub listed : List ℕ → List ℤ
+listed w = choose (isRow w) (map signed (pieces comma w)) []
 
 -- A small letter from a to f.
 abbrev pub isSmall : ℕ → Bool
@@ -132,6 +132,14 @@ bytesOf [] = []
 bytesOf (a ∷ []) = []
 bytesOf (a ∷ b ∷ rest) = (hexValue a * 16 + hexValue b) ∷ bytesOf rest
 
--- A map is one to 4,200 pairs of hex digits, or - for an empty one.
+-- One to 4,200 pairs of hex digits.
+unfoldable pub isSpelled : List ℕ → Bool
+isSpelled w = both (ltb 0 (length w)) (both (leb (length w) (mostPairs * 2)) (allPairs w))
+
+-- A map: such pairs, or - for an empty one.
 unfoldable pub isMap : List ℕ → Bool
-isMap w = either (same w noneWord) (both (ltb 0 (length w)) (both (leb (length w) (mostPairs * 2)) (allPairs w)))
+isMap w = either (same w noneWord) (isSpelled w)
+
+-- The bytes that a map spells; none where it is a single minus or no map.
+unfoldable pub spelled : List ℕ → List ℕ
+spelled w = choose (isSpelled w) (bytesOf w) []

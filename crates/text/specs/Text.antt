@@ -27,6 +27,10 @@ same (a ∷ u) (b ∷ v) = both (eqb a b) (same u v)
 abbrev pub over : {A : Type 0} → List A → List A → List A
 over new old = sets old 0 new
 
+-- The most bytes that a call lends.
+abbrev pub mostRoom : ℕ
+mostRoom = 1024
+
 -- An answer has room for so many bytes.
 abbrev pub answerBytes : ℕ
 answerBytes = 8192

@@ -1,12 +1,10 @@
 -- A line cut into its words.
 use mathlib.Core.List.{List, [], _∷_}
-use Prim.Native.Nat.{ℕ, zero, suc, _+_, _-_, min}
+use Prim.Native.Nat.{ℕ, zero, suc, _+_, _-_}
 use lib.Dec.{eqb}
 use lib.ListN.{length, take, drop, getD}
 use Rattle.bytes.specs.Bytes.{indexOf}
 use Rattle.basics.specs.Tests.{choose}
-use Rattle.text.specs.declared.Span.{Span}
-use Rattle.text.specs.declared.Cut.{Cut}
 
 -- The byte of a space.
 abbrev pub space : ℕ
@@ -77,31 +75,7 @@ startAt line at = at + spacesOf (drop at line)
 unfoldable pub stopAt : ℕ → List ℕ → ℕ → ℕ
 stopAt s line at = at + indexOf s (drop at line)
 
--- Where the next word begins and ends, from a position on.
-abbrev pub wordAt : List ℕ → ℕ → Span
-wordAt line at = record { from = startAt line at; to = stopAt space line (startAt line at) }
-
--- The bytes of a span.
-unfoldable pub partOf : List ℕ → Span → List ℕ
-partOf line s = take (s .to - s .from) (drop (s .from) line)
-
 -- Where a line has been read to after so many words.
 unfoldable pub afterWords : ℕ → List ℕ → ℕ
 afterWords zero line = 0
 afterWords (suc k) line = stopAt space line (startAt line (afterWords k line))
-
--- Where the word of a number stands.
-unfoldable pub spanOf : ℕ → List ℕ → Span
-spanOf k line = wordAt line (afterWords k line)
-
--- The first five words of a line, and how many there are, counted up to six.
-abbrev pub cutOf : List ℕ → Cut
-cutOf line =
-    record {
-      count = min 6 (length (wordsOf line));
-      name = spanOf 0 line;
-      first = spanOf 1 line;
-      second = spanOf 2 line;
-      third = spanOf 3 line;
-      fourth = spanOf 4 line;
-    }

@@ -13,7 +13,7 @@ ghost use lib.IntN.{pos, negℤ};
 ghost use lib.ListN.{length};
 ghost use Rattle.text.specs.Text.{over};
 ghost use Rattle.text.specs.Words.{comma, pieces};
-ghost use Rattle.text.specs.Numbers.{mostNumber, mostPairs, mostBelow, beyond, between as isBetween, isDigit, isSmall, isCapital, allDigits, valueOf, numberOf, hasMinus, isCoordinate, signed, coordinateOf, isRow, listed, isList, isHex, hexValue, allPairs, bytesOf, isMap};
+ghost use Rattle.text.specs.Numbers.{mostNumber, mostPairs, mostNumbers, mostBelow, beyond, between as isBetween, isDigit, isSmall, isCapital, allDigits, valueOf, numberOf, hasMinus, isCoordinate, signed, coordinateOf, isRow, listed, isList, isHex, hexValue, allPairs, bytesOf, isSpelled, isMap, spelled};
 
 // The largest number of a seat or a pin.
 pub const MOST: usize = 4294967295;
@@ -217,14 +217,13 @@ fn fill_row(word: &[u8], values: &mut [i32; MOST_NUMBERS]) -> usize
 
 // Writes the numbers of a list from the start on, and answers how many there are.
 pub fn fill_list(word: &[u8], values: &mut [i32; MOST_NUMBERS]) -> usize
-    requires { ⌜ isList (now word) ≡ true ⌝ }
-    ensures { λ r. ⌜ r ≡ length (listed (now (word .entry))) ⌝ }
+    ensures { λ r. ⌜ (r ≡ length (listed (now (word .entry)))) × (r ≤ mostNumbers) ⌝ }
     ensures { λ _. ⌜ now (values .exit) ≡ over (listed (now (word .entry))) (now (values .entry)) ⌝ }
 {
-    if same(word, b"-") {
-        return 0;
+    if is_row(word) {
+        return fill_row(word, values);
     }
-    fill_row(word, values)
+    0
 }
 
 // Whether a byte is a hex digit.
@@ -274,13 +273,10 @@ fn all_pairs(word: &[u8]) -> bool
     i == word.len()
 }
 
-// Whether a word is a map, or a minus for an empty one.
-pub fn is_map(word: &[u8]) -> bool
-    ensures { λ r. ⌜ r ≡ isMap (now (word .entry)) ⌝ }
+// Whether a word is one to 4,200 pairs of hex digits.
+fn is_spelled(word: &[u8]) -> bool
+    ensures { λ r. ⌜ r ≡ isSpelled (now (word .entry)) ⌝ }
 {
-    if same(word, b"-") {
-        return true;
-    }
     let n = word.len();
     if n == 0 {
         return false;
@@ -291,6 +287,13 @@ pub fn is_map(word: &[u8]) -> bool
     all_pairs(word)
 }
 
+// Whether a word is a map, or a minus for an empty one.
+pub fn is_map(word: &[u8]) -> bool
+    ensures { λ r. ⌜ r ≡ isMap (now (word .entry)) ⌝ }
+{
+    same(word, b"-") || is_spelled(word)
+}
+
 // The byte that two hex digits spell.
 fn joined(a: u8, b: u8) -> u8
     ensures { λ r. ⌜ r ≡ hexValue a * 16 + hexValue b ⌝ }
@@ -298,10 +301,10 @@ fn joined(a: u8, b: u8) -> u8
     hex_value(a) * 16 + hex_value(b)
 }
 
-// Writes the bytes that a word spells from the start on, and answers how many there are.
-pub fn fill_map(word: &[u8], map: &mut [u8; MOST_PAIRS]) -> usize
+// Writes the bytes that pairs of hex digits spell from the start on, and answers how many there are.
+fn fill_pairs(word: &[u8], map: &mut [u8; MOST_PAIRS]) -> usize
     requires { ⌜ length (now word) ≤ mostPairs * 2 ⌝ }
-    ensures { λ r. ⌜ r ≡ length (bytesOf (now (word .entry))) ⌝ }
+    ensures { λ r. ⌜ (r ≡ length (bytesOf (now (word .entry)))) × (r ≤ mostPairs) ⌝ }
     ensures { λ _. ⌜ now (map .exit) ≡ over (bytesOf (now (word .entry))) (now (map .entry)) ⌝ }
 {
     let mut at = 0;
@@ -310,4 +313,15 @@ pub fn fill_map(word: &[u8], map: &mut [u8; MOST_PAIRS]) -> usize
         at += 1;
     }
     at
+}
+
+// Writes the bytes of a map from the start on, and answers how many there are.
+pub fn fill_map(word: &[u8], map: &mut [u8; MOST_PAIRS]) -> usize
+    ensures { λ r. ⌜ (r ≡ length (spelled (now (word .entry)))) × (r ≤ mostPairs) ⌝ }
+    ensures { λ _. ⌜ now (map .exit) ≡ over (spelled (now (word .entry))) (now (map .entry)) ⌝ }
+{
+    if is_spelled(word) {
+        return fill_pairs(word, map);
+    }
+    0
 }

@@ -1,15 +1,12 @@
 // A line cut into words.
-use crate::Cut;
-use crate::Span;
 ghost use mathlib.Core.Path.{_≡_};
-ghost use mathlib.Core.Bool.{true};
-ghost use Prim.Native.Nat.{_-_, _≤_, min};
+ghost use Prim.Native.Nat.{_≤_};
 ghost use lib.ListN.{length};
 ghost use Rattle.text.specs.Text.{same as sameBytes};
-ghost use Rattle.text.specs.Words.{endOf, startAt, stopAt, wordAt, partOf, cutOf};
+ghost use Rattle.text.specs.Words.{endOf, withoutReturn, startAt, stopAt, afterWords, wordsOf, word as wordIn};
 
 // Where a line ends without a carriage return.
-pub fn end_of(line: &[u8]) -> usize
+fn end_of(line: &[u8]) -> usize
     ensures { λ r. ⌜ r ≡ endOf (now (line .entry)) ⌝ }
 {
     let n = line.len();
@@ -20,6 +17,14 @@ pub fn end_of(line: &[u8]) -> usize
         return n - 1;
     }
     n
+}
+
+// A line without a carriage return at its end.
+pub fn without_return(line: &[u8]) -> &[u8]
+    ensures { λ r. ⌜ now r ≡ withoutReturn (now (line .entry)) ⌝ }
+{
+    let end = end_of(line);
+    &line[..end]
 }
 
 // Where the spaces from `at` on end.
@@ -45,15 +50,41 @@ pub fn stop_at(text: &[u8], at: usize, separator: u8) -> usize
     bytes::scan::find(text, at, text.len(), separator)
 }
 
-// The next word from `at` on; empty at the text's end.
-fn word_at(text: &[u8], at: usize) -> Span
-    requires { ⌜ at ≤ length (now text) ⌝ }
-    ensures { λ r. ⌜ r ≡ wordAt (now (text .entry)) at ⌝ }
-    ensures { λ r. ⌜ r .to ≤ length (now (text .entry)) ⌝ }
+// Where a text has been read to after so many words.
+fn after_words(text: &[u8], count: usize) -> usize
+    ensures { λ r. ⌜ r ≡ afterWords count (now (text .entry)) ⌝ }
 {
-    let from = start_at(text, at);
+    let mut at = 0;
+    let mut i = 0;
+    while i < count {
+        let from = start_at(text, at);
+        at = stop_at(text, from, b' ');
+        i += 1;
+    }
+    at
+}
+
+// The word of a number, counted from 0; empty where there are not so many.
+pub fn word(text: &[u8], number: usize) -> &[u8]
+    ensures { λ r. ⌜ now r ≡ wordIn number (wordsOf (now (text .entry))) ⌝ }
+{
+    let from = start_at(text, after_words(text, number));
     let to = stop_at(text, from, b' ');
-    Span { from, to }
+    &text[from..to]
+}
+
+// How many words a text has.
+pub fn count_words(text: &[u8]) -> usize
+    ensures { λ r. ⌜ r ≡ length (wordsOf (now (text .entry))) ⌝ }
+{
+    let mut count = 0;
+    let mut from = start_at(text, 0);
+    while from < text.len() {
+        let to = stop_at(text, from, b' ');
+        from = start_at(text, to);
+        count += 1;
+    }
+    count
 }
 
 // Whether two texts are the same.
@@ -71,42 +102,4 @@ pub fn same(a: &[u8], b: &[u8]) -> bool
         i += 1;
     }
     true
-}
-
-// One for a word that is there, none for an empty one.
-fn full(word: Span) -> usize
-    ensures { λ r. ⌜ (r ≡ min 1 (word .to - word .from)) × (r ≤ 1) ⌝ }
-{
-    if word.from < word.to { 1 } else { 0 }
-}
-
-// The first five words of a text, and how many there are.
-pub fn cut(text: &[u8]) -> Cut
-    ensures { λ r. ⌜ r ≡ cutOf (now (text .entry)) ⌝ }
-{
-    let name = word_at(text, 0);
-    let first = word_at(text, name.to);
-    let second = word_at(text, first.to);
-    let third = word_at(text, second.to);
-    let fourth = word_at(text, third.to);
-    let more = word_at(text, fourth.to);
-    let count = full(name) + full(first) + full(second) + full(third) + full(fourth) + full(more);
-    Cut {
-        count,
-        name,
-        first,
-        second,
-        third,
-        fourth,
-    }
-}
-
-// The bytes of a span.
-pub fn part(text: &[u8], span: Span) -> &[u8]
-    requires { ⌜ (span .from ≤ span .to) × (span .to ≤ length (now text)) ⌝ }
-    ensures { λ r. ⌜ now r ≡ partOf (now (text .entry)) span ⌝ }
-{
-    let from = span.from;
-    let to = span.to;
-    &text[from..to]
 }

@@ -7,7 +7,8 @@ use Prim.Native.Nat.{ℕ, zero, suc, _≤_}
 use native.Mathlib.Omega.{arith}
 use lib.ListN.{length}
 use Rattle.basics.specs.Tests.{choose}
-use Rattle.refusal.specs.Refusals.{accepted, turn}
+use Rattle.refusal.specs.Refusals.{accepted}
+use Rattle.refusal.specs.Rows.{firstOf}
 use Rattle.refusal.specs.declared.Verdict.the-variants.{Accepted, NoPins, BoxesMeet}
 use Rattle.basics.proofs.Tests.{decide}
 use Rattle.board.specs.declared.Spot.{Spot}
@@ -20,17 +21,17 @@ use Rattle.tree.proofs.Membership.{pins-few}
 module _ (feed : List Spot) where
   -- 17, where there are no pins.
   pub seventeen : none (pinsOf feed) ≡ true → treeOf feed ≡ treeWith NoPins []
-  unfolding treeOf turn accepted choose
+  unfolding treeOf firstOf accepted choose
   seventeen e = rw e
 
   -- 18, where there are, and boxes meet.
   pub eighteen : none (pinsOf feed) ≡ false → boxesMeet feed (runsOf feed) ≡ true → treeOf feed ≡ treeWith BoxesMeet []
-  unfolding treeOf turn accepted choose
+  unfolding treeOf firstOf accepted choose
   eighteen e b = rw (e, b)
 
   -- Else the runs.
   pub runs-told : none (pinsOf feed) ≡ false → boxesMeet feed (runsOf feed) ≡ false → treeOf feed ≡ treeWith Accepted (runsOf feed)
-  unfolding treeOf turn accepted choose
+  unfolding treeOf firstOf accepted choose
   runs-told e b = rw (e, b)
 
 -- 17, 18 or the runs.

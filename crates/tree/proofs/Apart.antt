@@ -18,7 +18,7 @@ use Rattle.board.proofs.Flat.{Site}
 use Rattle.tree.specs.declared.Run.{Run}
 use Rattle.board.specs.Spots.{mostPins, placeAt, allWithin}
 use Rattle.tree.specs.Growth.{pinsOf, runsOf}
-use Rattle.tree.specs.Boxes.{boxesShare, isEnd, common, clash, clashAny, boxesMeet}
+use Rattle.tree.specs.Boxes.{boxesShare, isEnd, common, clash, boxesMeet}
 use Rattle.tree.specs.Trees.{treeWith, none, treeOf}
 use Rattle.tree.proofs.Membership.{Among, first, later}
 use Rattle.tree.proofs.Answer.{runs-told}
@@ -208,7 +208,7 @@ module _ (feed : List Spot) (full : length feed ≡ mostPins) (ok : allWithin fe
       go (inr c) = both-yes _ (ap not c) ∙ boxes-apart r s hr hs c
 
   -- no run clashes with any of the others,
-  any-none : (r : Run) → Among r (runsOf feed) → (l : List Run) → ((s : Run) → Among s l → Among s (runsOf feed)) → clashAny feed r l ≡ false
+  any-none : (r : Run) → Among r (runsOf feed) → (l : List Run) → ((s : Run) → Among s l → Among s (runsOf feed)) → anyOf (clash feed r) l ≡ false
   unfolding anyOf
   any-none r hr [] h = refl
   any-none r hr (s ∷ l) h = either-no (clash-none r s hr (h s (first refl))) (any-none r hr l (λ q m. h q (later m)))

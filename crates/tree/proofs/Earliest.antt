@@ -14,6 +14,7 @@ use Rattle.board.specs.declared.Spot.{Spot}
 use Rattle.board.specs.Spots.{mostPins}
 use Rattle.tree.specs.Weight.{comesBefore}
 use Rattle.tree.specs.declared.Run.{Run}
+use Rattle.tree.specs.Offers.{LowEnds}
 use Rattle.tree.specs.Growth.{run, pairAt, sooner, runsBetween, earliest, earliestOf, nextRun}
 use Rattle.tree.proofs.Membership.{Among, first, later, between-in, in-between}
 
@@ -28,11 +29,6 @@ pub record Keyed (feed : List Spot) (key : ℕ → ℕ → ℕ) : Type 0 where
 -- The key of a run.
 abbrev pub keyOf : (ℕ → ℕ → ℕ) → Run → ℕ
 keyOf key r = key (r .near) (r .far)
-
--- Both ends are pin numbers.
-pub record LowEnds (r : Run) : Type 0 where
-  pub near : r .near < mostPins
-  pub far : r .far < mostPins
 
 -- The run joins a reached pin to one that is left, and none that does has a smaller key.
 pub record Earliest (key : ℕ → ℕ → ℕ) (reached left : List ℕ) (r : Run) : Type 0 where

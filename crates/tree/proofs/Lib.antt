@@ -4,20 +4,20 @@ pub mod Order
 pub mod Worked
 mod Weighed
 pub mod Arms
-pub mod Loops
 pub mod Membership
 pub mod Earliest
-pub mod Choosing
-pub mod Filling
 pub mod Numbering
-pub mod Going
+pub mod Lent
+pub mod Choosing
 pub mod Taking
-pub mod Result
+pub mod Going
+pub mod Loops
 pub mod Branches
 pub mod Listing
 pub mod Positions
 pub mod Ways
 pub mod Spanning
+pub mod TheTree
 pub mod FourPins
 pub mod Neighbours
 pub mod Zones
@@ -25,3 +25,4 @@ pub mod Bent
 pub mod Boxes
 pub mod Apart
 pub mod Answer
+pub mod Result

@@ -12,7 +12,7 @@ use Rattle.board.proofs.Flat.{same-or-not}
 use Rattle.tree.specs.declared.Run.{Run}
 use Rattle.board.specs.Spots.{mostPins, allWithin}
 use Rattle.tree.specs.Growth.{pinsOf, without, nextRun, grown, runsAmong, runsOf}
-use Rattle.tree.proofs.Membership.{Among, first, later, Distinct, also, without-in, in-without, length-without, distinct-without, pins-there, pins-once, distinct-rest}
+use Rattle.tree.proofs.Membership.{Among, first, later, Distinct, also, without-in, in-without, length-without, distinct-without, pin-in, pins-once, distinct-rest}
 use Rattle.tree.specs.Reached.{runAt}
 use Rattle.tree.proofs.Earliest.{Keyed, Earliest, next-earliest}
 use Rattle.tree.proofs.Numbering.{keyAt, keyed}
@@ -176,8 +176,7 @@ module _ (feed : List Spot) (full : length feed ≡ mostPins) (ok : allWithin fe
 
   -- The pins of a feed have numbers below 32.
   pub pins-low : (a : ℕ) → Among a (f ∷ left) → a < mostPins
-  unfolding pinsOf
-  pins-low a m = let z = pins-there 0 feed (rw (sym e) at m) in omega (arith, z .1, z .2)
+  pins-low a m = omega (arith, pin-in feed (rw (sym e) at m) .0)
 
   -- The runs of a feed are listed so.
   pub runs-listed : Listed (keyAt feed) (f ∷ []) left (runsOf feed)

@@ -14,11 +14,7 @@ use Rattle.board.proofs.Flat.{same-or-not}
 use Rattle.tree.specs.declared.Run.{Run}
 use Rattle.board.specs.Spots.{present}
 use Rattle.tree.specs.Growth.{run, keptIf, pinsFrom, without, runsFrom, runsBetween, pinsOf}
-
--- a stands in the list.
-pub data Among {A : Type 0} (a : A) : List A → Type 0 where
-  first : {b : A} {l : List A} → a ≡ b → Among a (b ∷ l)
-  later : {b : A} {l : List A} → Among a l → Among a (b ∷ l)
+pub use Rattle.tree.specs.Spanning.{Among, first, later}
 
 -- No member stands twice.
 pub data Distinct : List ℕ → Type 0 where
@@ -148,6 +144,14 @@ there-pins i (s ∷ feed) zero l e = kept-new (pinsFrom (suc i) feed) e (omega a
 there-pins i (s ∷ feed) (suc k) l e =
     let q : i + suc k ≡ suc i + k = omega arith in
     rw q (kept-old i (present s) (there-pins (suc i) feed k (omega arith) e))
+
+-- So a pin of a feed is the number of a spot that has a pin.
+pub pin-in : {a : ℕ} (feed : List Spot) → Among a (pinsOf feed) → (a < length feed) × (present (getD feed a Absent) ≡ true)
+unfolding pinsOf
+pin-in {a} feed m =
+    let z = pins-there 0 feed m in
+    let q : a ≡ z .0 = omega (arith, z .1) in
+    (omega (arith, z .1, z .2), rw q (z .3))
 
 -- Each pin stands there once.
 pub pins-distinct : (i : ℕ) (feed : List Spot) → Distinct (pinsFrom i feed)

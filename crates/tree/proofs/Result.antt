@@ -1,122 +1,185 @@
 -- What the parts of `tree_of` come to: no pins, boxes that meet, or the runs. From pins that stand on the board.
-use mathlib.Core.Path.{_≡_, refl, sym, ap, _∙_}
-use mathlib.Core.Bool.{true, false}
+use mathlib.Core.Path.{_≡_, refl, sym, ap, ap₂, _∙_}
+use mathlib.Core.Bool.{Bool, true, false, not}
 use mathlib.Core.List.{List, [], _∷_}
 use mathlib.Core.Logic.{_⊎_, inl, inr}
-use Prim.Native.Nat.{ℕ, zero, suc, _+_, _-_, _<_, _≤_}
+use Prim.Native.Nat.{ℕ, suc, _+_, _<_, _≤_}
 use native.Mathlib.Omega.{arith}
-use lib.ListN.{length, take}
-use Rattle.basics.specs.Tests.{choose}
+use lib.IntN.{ℤ}
+use lib.ListN.{length, getD, set, replicate, take}
+use Rattle.basics.specs.Tests.{both, either, choose, anyOf, noTwo}
 use Rattle.refusal.specs.declared.Verdict.the-variants.{Accepted, NoPins, BoxesMeet}
 use Rattle.basics.proofs.Tests.{decide, choose-yes, choose-no}
-use Rattle.basics.proofs.Lists.{padded-first}
+use Rattle.basics.proofs.Lists.{padded-first, padded-at}
 use Rattle.board.specs.declared.Spot.{Spot}
 use Rattle.tree.specs.declared.Run.{Run}
-use Rattle.tree.specs.declared.Offer.{Offer}
-use Rattle.tree.specs.declared.Taken.{Taken}
-use Rattle.board.specs.Spots.{mostPins, present, placeAt, allWithin}
-use Rattle.tree.specs.Growth.{run, pinsFrom, pinsOf, runsOf}
-use Rattle.tree.specs.Boxes.{boxesMeet}
+use Rattle.tree.specs.declared.Tree.{Tree}
+use Rattle.board.specs.Spots.{mostPins, present, spotAt, placeAt, spotsFrom, allWithin, placeIn}
+use Rattle.board.proofs.Lent.{spots-many}
+use Rattle.tree.specs.Growth.{run, pinsFrom, runsAmong, pinsOf, runsOf}
+use Rattle.tree.specs.Boxes.{clash, boxesMeet}
 use Rattle.tree.specs.Trees.{mostRuns, entries, treeWith, none, treeOf}
-use Rattle.tree.specs.Offers.{firstOffers, nextOf, takenRuns, takenOf, firstFrom}
-use Rattle.tree.proofs.Membership.{kept-yes, kept-no}
-use Rattle.tree.proofs.Going.{after, nothing, something}
-use Rattle.tree.proofs.Numbering.{keyed}
-use Rattle.tree.proofs.Taking.{taken-runs}
-use Rattle.tree.proofs.Answer.{seventeen, eighteen, runs-told}
+use Rattle.tree.specs.Offers.{firstFrom, firstPin, LowEnds, clashAt}
+use Rattle.tree.specs.Reached.{runAt}
+use Rattle.tree.proofs.Lent.{there-at, place-there}
+use Rattle.tree.proofs.Membership.{Among, later, kept-yes, kept-no, pin-in}
+use Rattle.tree.proofs.Listing.{runs-rooted}
+use Rattle.tree.proofs.Going.{Going, going-start}
+use Rattle.tree.proofs.Answer.{seventeen, eighteen, runs-told, runs-few}
 
 -- ---- the first pin
--- The first pin heads the pins that are there; where there is none, the number after the last stands in for it.
-pub data First (i : ℕ) (feed : List Spot) : Type 0 where
-  nowhere : firstFrom i feed ≡ i + length feed → pinsFrom i feed ≡ [] → First i feed
-  there : firstFrom i feed < i + length feed → (left : List ℕ) → pinsFrom i feed ≡ firstFrom i feed ∷ left → First i feed
+-- A number heads the pins that are there; where there is none, it is the number after the last.
+pub data First (i : ℕ) (feed : List Spot) (f : ℕ) : Type 0 where
+  nowhere : f ≡ i + length feed → pinsFrom i feed ≡ [] → First i feed f
+  there : f < i + length feed → (left : List ℕ) → pinsFrom i feed ≡ f ∷ left → First i feed f
 
--- Every feed has one or the other.
-pub first-of : (i : ℕ) (feed : List Spot) → First i feed
+-- The number that is looked for is such a number.
+first-of : (ts : List Bool) (i : ℕ) (feed : List Spot) → ((k : ℕ) → k < length feed → present (spotAt feed k) ≡ getD ts (i + k) false)
+    → First i feed (firstFrom ts i (length feed))
 unfolding firstFrom pinsFrom
-first-of i [] = nowhere (omega arith) refl
-first-of i (s ∷ feed) = go (decide (present s)) (first-of (suc i) feed)
+first-of ts i [] h = nowhere (omega arith) refl
+first-of ts i (s ∷ feed) h =
+    go (decide (getD ts i false)) (first-of ts (suc i) feed (λ k l. h (suc k) (omega arith) ∙ ap (λ (j : ℕ). getD ts j false) (omega arith)))
   where
-    yes' : present s ≡ true → First i (s ∷ feed)
-    yes' e =
-        let f : choose (present s) i (firstFrom (suc i) feed) ≡ i = choose-yes i (firstFrom (suc i) feed) e in
-        there (omega arith) (pinsFrom (suc i) feed) (kept-yes i (pinsFrom (suc i) feed) e ∙ ap (λ (z : ℕ). z ∷ pinsFrom (suc i) feed) (sym f))
+    same : present s ≡ getD ts i false
+    same = h 0 (omega arith) ∙ ap (λ (j : ℕ). getD ts j false) (omega arith)
 
-    go : (present s ≡ true) ⊎ (present s ≡ false) → First (suc i) feed → First i (s ∷ feed)
-    go (inl e) h = yes' e
+    go : (getD ts i false ≡ true) ⊎ (getD ts i false ≡ false) → First (suc i) feed (firstFrom ts (suc i) (length feed))
+        → First i (s ∷ feed) (choose (getD ts i false) i (firstFrom ts (suc i) (length feed)))
+    go (inl e) r =
+        rw (choose-yes i (firstFrom ts (suc i) (length feed)) e)
+        (there (omega arith) (pinsFrom (suc i) feed) (kept-yes i (pinsFrom (suc i) feed) (same ∙ e)))
     go (inr e) (nowhere f p) =
-        let g : choose (present s) i (firstFrom (suc i) feed) ≡ firstFrom (suc i) feed = choose-no i (firstFrom (suc i) feed) e in
-        nowhere (omega arith) (kept-no i (pinsFrom (suc i) feed) e ∙ p)
+        rw (choose-no i (firstFrom ts (suc i) (length feed)) e) (nowhere (omega arith) (kept-no i (pinsFrom (suc i) feed) (same ∙ e) ∙ p))
     go (inr e) (there f left p) =
-        let g : choose (present s) i (firstFrom (suc i) feed) ≡ firstFrom (suc i) feed = choose-no i (firstFrom (suc i) feed) e in
-        there (omega arith) left (kept-no i (pinsFrom (suc i) feed) e ∙ p ∙ ap (λ (z : ℕ). z ∷ left) (sym g))
+        rw (choose-no i (firstFrom ts (suc i) (length feed)) e) (there (omega arith) left (kept-no i (pinsFrom (suc i) feed) (same ∙ e) ∙ p))
 
--- ---- how many runs are taken
--- No more runs are taken than there are turns.
-pub taken-few : (feed : List Spot) (turns : ℕ) (offers : List Offer) → length (takenRuns feed turns offers) ≤ turns
-unfolding takenRuns
-taken-few feed zero offers = omega arith
-taken-few feed (suc turns) offers = go (decide (nextOf offers .offer .waits)) (taken-few feed turns (after feed (nextOf offers .pin) offers))
-  where
-    go : (nextOf offers .offer .waits ≡ true) ⊎ (nextOf offers .offer .waits ≡ false)
-        → length (takenRuns feed turns (after feed (nextOf offers .pin) offers)) ≤ turns → length (takenRuns feed (suc turns) offers) ≤ suc turns
-    go (inl e) h = rw (something feed turns offers e) (omega arith)
-    go (inr e) h = rw (nothing feed (suc turns) offers e) (omega arith)
+-- ---- a feed told by lent arrays
+module _ (xs ys : List ℤ) (ts : List Bool) where
+  -- Its first pin.
+  first-is : First 0 (spotsFrom xs ys ts) (firstPin ts)
+  first-is =
+      let m = spots-many xs ys ts in
+      rw m at (first-of ts 0 (spotsFrom xs ys ts) (λ k l. there-at xs ys ts k (omega arith) ∙ ap (λ (j : ℕ). getD ts j false) (omega arith)))
 
+  -- 17, where no pin is there.
+  pub no-pins : firstPin ts ≡ mostPins → treeWith NoPins [] ≡ treeOf (spotsFrom xs ys ts)
+  no-pins e = go first-is
+    where
+      go : First 0 (spotsFrom xs ys ts) (firstPin ts) → treeWith NoPins [] ≡ treeOf (spotsFrom xs ys ts)
+      go (nowhere f p) = sym (seventeen (spotsFrom xs ys ts) (unfold pinsOf in ap none p))
+      go (there f left p) = absurd (omega (arith, spots-many xs ys ts))
+
+  -- Else there is a first pin, from which the growth starts,
+  pub going-first : (f : ℕ) → f ≡ firstPin ts → f < mostPins
+      → Going (spotsFrom xs ys ts) (placeIn xs ys) (set ts f false) (replicate mostPins f) f (replicate mostRuns (run 0 0)) 0
+  going-first f e h = go (rw (sym e) at first-is)
+    where
+      go : First 0 (spotsFrom xs ys ts) f → Going (spotsFrom xs ys ts) (placeIn xs ys) (set ts f false) (replicate mostPins f) f (replicate mostRuns (run 0 0)) 0
+      go (nowhere q p) = absurd (omega (arith, spots-many xs ys ts))
+      go (there q left p) =
+          going-start (spotsFrom xs ys ts) (spots-many xs ys ts) ts (λ k l. there-at xs ys ts k l) (placeIn xs ys) (λ k l t. place-there xs ys ts k l t) f left
+          (unfold pinsOf in p)
+
+  module _ (some : firstPin ts ≡ mostPins → ⊥) where
+    -- whose number is below 32,
+    pub first-low : firstPin ts < mostPins
+    first-low = go first-is
+      where
+        go : First 0 (spotsFrom xs ys ts) (firstPin ts) → firstPin ts < mostPins
+        go (nowhere f p) = absurd (some (omega (arith, spots-many xs ys ts)))
+        go (there f left p) = omega (arith, spots-many xs ys ts)
+
+    -- and some pin is there.
+    pins-some : none (pinsOf (spotsFrom xs ys ts)) ≡ false
+    unfolding pinsOf
+    pins-some = go first-is
+      where
+        go : First 0 (spotsFrom xs ys ts) (firstPin ts) → none (pinsOf (spotsFrom xs ys ts)) ≡ false
+        go (nowhere f p) = absurd (some (omega (arith, spots-many xs ys ts)))
+        go (there f left p) = rw p refl
+
+-- ---- the runs that were taken
 -- The first entries of an answer are its runs.
 pub take-entries : (l : List Run) → take (length l) (entries l) ≡ l
 unfolding entries
 take-entries l = padded-first mostRuns (run 0 0) l refl
 
--- ---- the three outcomes
--- 17, where no pin is there.
-pub no-pins : (feed : List Spot) → length feed ≡ mostPins → firstFrom 0 feed ≡ mostPins → treeWith NoPins [] ≡ treeOf feed
-no-pins feed full e = go (first-of 0 feed)
+-- Without pins there are no runs.
+no-run : (feed : List Spot) → pinsOf feed ≡ [] → length (runsOf feed) ≡ 0
+unfolding runsOf runsAmong
+no-run feed e = rw e refl
+
+-- The ends of a feed's runs are pins of the feed.
+ends-there : (feed : List Spot) → length feed ≡ mostPins → allWithin feed ≡ true → (r : ℕ) → r < length (runsOf feed)
+    → Among (runAt (runsOf feed) r .near) (pinsOf feed) × Among (runAt (runsOf feed) r .far) (pinsOf feed)
+ends-there feed full ok r h = go (pinsOf feed) refl
   where
-    go : First 0 feed → treeWith NoPins [] ≡ treeOf feed
-    go (nowhere f p) = sym (seventeen feed (unfold pinsOf in ap none p))
-    go (there f left p) = absurd (omega arith)
+    go : (l : List ℕ) → pinsOf feed ≡ l → Among (runAt (runsOf feed) r .near) (pinsOf feed) × Among (runAt (runsOf feed) r .far) (pinsOf feed)
+    go [] e = absurd (omega (arith, no-run feed e))
+    go (f ∷ left) e = let o = runs-rooted feed full ok f left e in (rw e (o .near-there r h), rw e (later {l = left} (o .far-there r h)))
 
-module _ (feed : List Spot) (full : length feed ≡ mostPins) (ok : allWithin feed ≡ true) (t : Taken)
-    (e : t ≡ takenOf (takenRuns feed mostRuns (firstOffers (firstFrom 0 feed) (placeAt feed (firstFrom 0 feed)) 0 feed))) where
-  -- There are 31 runs at most.
-  pub count-few : t .count ≤ mostRuns
-  unfolding takenOf
-  count-few =
-      rw e (taken-few feed mostRuns (firstOffers (firstFrom 0 feed) (placeAt feed (firstFrom 0 feed)) 0 feed))
+-- Tests that say the same of each of some runs say the same of any,
+any-same : (f g : Run → Bool) (l : List Run) → ((j : ℕ) → j < length l → f (runAt l j) ≡ g (runAt l j)) → anyOf f l ≡ anyOf g l
+unfolding anyOf
+any-same f g [] h = refl
+any-same f g (a ∷ l) h = ap₂ either (h 0 (omega arith)) (any-same f g l (λ j k. h (suc j) (omega arith)))
 
-  module _ (some : firstFrom 0 feed ≡ mostPins → ⊥) where
-    -- There are pins.
-    pins-some : none (pinsOf feed) ≡ false
-    unfolding pinsOf
-    pins-some = go (first-of 0 feed)
-      where
-        go : First 0 feed → none (pinsFrom 0 feed) ≡ false
-        go (nowhere f p) = absurd (some (omega arith))
-        go (there f left p) = rw p refl
+-- and of any two.
+two-same : (f g : Run → Run → Bool) (l : List Run) → ((i j : ℕ) → i < length l → j < length l → f (runAt l i) (runAt l j) ≡ g (runAt l i) (runAt l j))
+    → noTwo f l ≡ noTwo g l
+unfolding noTwo
+two-same f g [] h = refl
+two-same f g (a ∷ l) h =
+    ap₂ both (ap not (any-same (f a) (g a) l (λ j k. h 0 (suc j) (omega arith) (omega arith))))
+    (two-same f g l (λ i j p q. h (suc i) (suc j) (omega arith) (omega arith)))
 
-    -- The runs taken are those of the feed,
-    taken-is : t ≡ takenOf (runsOf feed)
-    unfolding pinsOf
-    taken-is = e ∙ ap takenOf (go (first-of 0 feed))
-      where
-        go : First 0 feed → takenRuns feed mostRuns (firstOffers (firstFrom 0 feed) (placeAt feed (firstFrom 0 feed)) 0 feed) ≡ runsOf feed
-        go (nowhere f p) = absurd (some (omega arith))
-        go (there f left p) = taken-runs (keyed feed ok) full (firstFrom 0 feed) left p
+module _ (xs ys : List ℤ) (ts : List Bool) (ok : allWithin (spotsFrom xs ys ts) ≡ true) where
+  -- A pin of the feed has a number below 32,
+  pin-low : (a : ℕ) → Among a (pinsOf (spotsFrom xs ys ts)) → a < mostPins
+  pin-low a m = omega (arith, pin-in (spotsFrom xs ys ts) m .0, spots-many xs ys ts)
 
-    -- and their boxes meet where those of the feed do.
-    meet-is : boxesMeet feed (take (t .count) (t .runs)) ≡ boxesMeet feed (runsOf feed)
-    unfolding takenOf
-    meet-is = ap (boxesMeet feed) (rw taken-is (take-entries (runsOf feed)))
+  -- and stands where its x and its y say,
+  pin-stands : (a : ℕ) → Among a (pinsOf (spotsFrom xs ys ts)) → placeIn xs ys a ≡ placeAt (spotsFrom xs ys ts) a
+  pin-stands a m = place-there xs ys ts a (pin-low a m) (pin-in (spotsFrom xs ys ts) m .1)
 
-    -- 18, where boxes of the runs taken meet.
-    pub boxes-meet : boxesMeet feed (take (t .count) (t .runs)) ≡ true → treeWith BoxesMeet [] ≡ treeOf feed
-    boxes-meet h = sym (eighteen feed pins-some (sym meet-is ∙ h))
+  -- so two runs of the feed clash by where their pins stand in the lists.
+  clash-same : (i j : ℕ) → i < length (runsOf (spotsFrom xs ys ts)) → j < length (runsOf (spotsFrom xs ys ts))
+      → clashAt (placeIn xs ys) (runAt (runsOf (spotsFrom xs ys ts)) i) (runAt (runsOf (spotsFrom xs ys ts)) j)
+      ≡ clash (spotsFrom xs ys ts) (runAt (runsOf (spotsFrom xs ys ts)) i) (runAt (runsOf (spotsFrom xs ys ts)) j)
+  unfolding clashAt clash
+  clash-same i j p q =
+      let m = ends-there (spotsFrom xs ys ts) (spots-many xs ys ts) ok i p in
+      let n = ends-there (spotsFrom xs ys ts) (spots-many xs ys ts) ok j q in
+      rw (pin-stands _ (m .0), pin-stands _ (m .1), pin-stands _ (n .0), pin-stands _ (n .1))
 
-    -- Else the runs taken.
-    pub the-runs : boxesMeet feed (take (t .count) (t .runs)) ≡ false
-        → record { verdict = Accepted; count = t .count; runs = t .runs } ≡ treeOf feed
-    unfolding treeWith takenOf
-    the-runs h =
-        ap (λ (z : Taken). record { verdict = Accepted; count = z .count; runs = z .runs }) taken-is
-        ∙ sym (runs-told feed pins-some (sym meet-is ∙ h))
+  module _ (t : Tree) (e : t ≡ treeWith Accepted (runsOf (spotsFrom xs ys ts))) where
+    -- There are 31 at most,
+    pub count-few : t .count ≤ mostRuns
+    unfolding treeWith
+    count-few = rw e (runs-few (spotsFrom xs ys ts) (spots-many xs ys ts))
+
+    -- their ends are pin numbers,
+    pub low-ends : (i : ℕ) → i < t .count → LowEnds (runAt (t .runs) i)
+    unfolding treeWith entries
+    low-ends i h =
+        let k : i < length (runsOf (spotsFrom xs ys ts)) = rw e at h in
+        let m = ends-there (spotsFrom xs ys ts) (spots-many xs ys ts) ok i k in
+        rw (e, padded-at mostRuns (run 0 0) (runsOf (spotsFrom xs ys ts)) i) (record { near = pin-low _ (m .0); far = pin-low _ (m .1) })
+
+    -- and their boxes meet where those of the feed's runs do.
+    meet-is : not (noTwo (clashAt (placeIn xs ys)) (take (t .count) (t .runs))) ≡ boxesMeet (spotsFrom xs ys ts) (runsOf (spotsFrom xs ys ts))
+    unfolding treeWith
+    meet-is =
+        ap not
+        (ap (noTwo (clashAt (placeIn xs ys))) (rw e (take-entries (runsOf (spotsFrom xs ys ts))))
+        ∙ two-same (clashAt (placeIn xs ys)) (clash (spotsFrom xs ys ts)) (runsOf (spotsFrom xs ys ts)) clash-same)
+
+    module _ (some : firstPin ts ≡ mostPins → ⊥) where
+      -- 18, where they do;
+      pub boxes-meet : not (noTwo (clashAt (placeIn xs ys)) (take (t .count) (t .runs))) ≡ true → treeWith BoxesMeet [] ≡ treeOf (spotsFrom xs ys ts)
+      boxes-meet h = sym (eighteen (spotsFrom xs ys ts) (pins-some xs ys ts some) (sym meet-is ∙ h))
+
+      -- else the runs.
+      pub the-runs : not (noTwo (clashAt (placeIn xs ys)) (take (t .count) (t .runs))) ≡ false → t ≡ treeOf (spotsFrom xs ys ts)
+      the-runs h = e ∙ sym (runs-told (spotsFrom xs ys ts) (pins-some xs ys ts some) (sym meet-is ∙ h))

@@ -15,25 +15,13 @@ use Rattle.tree.specs.declared.Run.{Run}
 use Rattle.board.specs.Spots.{mostPins, allWithin}
 use Rattle.tree.specs.Growth.{run, pairAt, pinsOf, runsAmong, runsOf}
 use Rattle.tree.specs.Reached.{runAt}
-use Rattle.tree.proofs.Membership.{Among, first, later, without-in}
+use Rattle.tree.specs.Spanning.{Among, first, later, EndsAre, Way, stay, along, Out, top, under, JoinsAll, CutBefore, EitherWay, SameRuns}
+use Rattle.tree.proofs.Membership.{without-in}
 use Rattle.tree.proofs.Earliest.{Keyed}
 use Rattle.tree.proofs.Numbering.{keyAt, keyed}
 use Rattle.tree.proofs.Branches.{IsReached, start, new, old, from-start, HasRun, here, further, hangs, Branching, trunk, branch, Grown, branching, reached-there, ends-differ as runs-differ, far-reached, near-reached, way-least, Widest, differ, widest-run, cut, far-hangs, near-stays, run-hangs}
 use Rattle.tree.proofs.Listing.{Listed, taking, runs-listed, runs-rooted, runs-grown, pins-low}
-use Rattle.tree.proofs.Ways.{EndsAre, Way, stay, along, Out, top, under, ends-turn, way-then, way-back, way-more, way-same, out-in, rest-in, in-rest, take-out, Parted, spared, used, part, crossing}
-
--- Some runs join all of some pins: each joins two different ones, and there is a way between any two.
-pub record JoinsAll (pins : List ℕ) (runs : List Run) : Type 0 where
-  pub near-there : (r : Run) → Among r runs → Among (r .near) pins
-  pub far-there : (r : Run) → Among r runs → Among (r .far) pins
-  pub ends-differ : (r : Run) → Among r runs → r .near ≡ r .far → ⊥
-  pub ways : (a b : ℕ) → Among a pins → Among b pins → Way runs a b
-
--- Take any run away, and it comes before every other pair of a pin that has a way to its near end and one that has a way to its far end.
-unfoldable pub CutBefore : List Spot → List ℕ → List Run → Type 0
-CutBefore feed pins runs =
-    (r : Run) (rest : List Run) → Out r runs rest → (a b : ℕ) → Among a pins → Among b pins
-    → Way rest a (r .near) → Way rest b (r .far) → (EndsAre r a b → ⊥) → comesBefore (pairAt feed (r .near) (r .far)) (pairAt feed a b) ≡ true
+use Rattle.tree.proofs.Ways.{ends-turn, way-then, way-back, way-more, way-same, out-in, rest-in, in-rest, take-out, Parted, spared, used, part, crossing}
 
 -- ---- between the two orders of a list
 -- What stands in one of two lists stands in the two joined, the first turned round,
@@ -179,17 +167,6 @@ module _ {feed : List Spot} {key : ℕ → ℕ → ℕ} {pins : List ℕ} {runs 
   facts-two r rest o w = differ (side-far (out-in o)) (side-near (out-in o)) (sym (still o w))
 
 -- ---- the only tree
--- A run is among some others, perhaps the other way round.
-pub record EitherWay (r : Run) (l : List Run) : Type 0 where
-  pub q : Run
-  pub is-in : Among q l
-  pub ends : EndsAre q (r .near) (r .far)
-
--- The runs of two lists are the same, each perhaps the other way round.
-pub record SameRuns (l m : List Run) : Type 0 where
-  pub there : (r : Run) → Among r l → EitherWay r m
-  pub back : (r : Run) → Among r m → EitherWay r l
-
 -- Both of two, or not both.
 two-or : {A B : Type 0} → A ⊎ (A → ⊥) → B ⊎ (B → ⊥) → (A × B) ⊎ (A × B → ⊥)
 two-or (inl a) (inl b) = inl (a, b)

@@ -7,21 +7,7 @@ use mathlib.Core.Logic.{_⊎_, inl, inr, ⊎-elim}
 use Prim.Native.Nat.{ℕ}
 use native.Mathlib.Omega.{arith}
 use Rattle.tree.specs.declared.Run.{Run}
-use Rattle.tree.proofs.Membership.{Among, first, later}
-
--- a and b are the two ends of a run.
-abbrev pub EndsAre : Run → ℕ → ℕ → Type 0
-EndsAre r a b = ((a ≡ r .near) × (b ≡ r .far)) ⊎ ((a ≡ r .far) × (b ≡ r .near))
-
--- A way from a to b along some runs, in either direction of each.
-pub data Way (runs : List Run) : ℕ → ℕ → Type 0 where
-  stay : {a b : ℕ} → a ≡ b → Way runs a b
-  along : {a b : ℕ} (r : Run) (m : ℕ) → Among r runs → EndsAre r a m → Way runs m b → Way runs a b
-
--- A run stands among some; the rest are the others.
-pub data Out (r : Run) : List Run → List Run → Type 0 where
-  top : {l : List Run} → Out r (r ∷ l) l
-  under : {q : Run} {l m : List Run} → Out r l m → Out r (q ∷ l) (q ∷ m)
+pub use Rattle.tree.specs.Spanning.{Among, first, later, EndsAre, Way, stay, along, Out, top, under}
 
 -- The ends of a run are its ends in either direction.
 pub ends-turn : {r : Run} {a b : ℕ} → EndsAre r a b → EndsAre r b a

@@ -2,12 +2,12 @@
 use mathlib.Core.Path.{_≡_, refl}
 use mathlib.Core.Bool.{true, false}
 use mathlib.Core.List.{List, [], _∷_, map}
-use Prim.Native.Nat.{_-_}
 use lib.IntN.{pos}
 use lib.ListN.{replicate}
 use Rattle.basics.specs.Tests.{both, either, choose, anyOf, eachOf, noTwo}
 use Rattle.basics.specs.Lists.{padded}
-use Rattle.refusal.specs.Refusals.{accepted, turn}
+use Rattle.refusal.specs.Refusals.{accepted}
+use Rattle.refusal.specs.Rows.{firstOf}
 use Rattle.refusal.specs.declared.Verdict.the-variants.{Accepted, NoPins}
 use Rattle.board.specs.declared.Spot.{Spot}
 use Rattle.board.specs.declared.Spot.the-variants.{Absent, At}
@@ -41,14 +41,14 @@ runs =
 
 -- THE RUNS ARE THOSE WORKED BY HAND.
 pub worked : map (λ board. treeOf (feed board)) boards ≡ map (treeWith Accepted) runs
-unfolding treeOf treeWith accepted turn entries noTwo anyOf clash common isEnd boxesShare overlap under belowBoth
+unfolding treeOf treeWith accepted firstOf entries noTwo anyOf clash common isEnd boxesShare overlap under belowBoth
     runsOf pinsOf runsAmong grown nextRun earliestOf earliest runsBetween runsFrom without pinsFrom keptIf sooner
     pairAt comesBefore byPart byNumber pairOf weightOf distanceOf difference larger both either choose
 worked = refl
 
 -- A feed with no pins: 17.
 pub nothing : treeOf (feed []) ≡ treeWith NoPins []
-unfolding treeOf treeWith accepted turn pinsOf pinsFrom keptIf choose
+unfolding treeOf treeWith accepted firstOf pinsOf pinsFrom keptIf choose
 nothing = refl
 
 -- What the code asks of a feed can be met: every board stands on the board's range.

@@ -5,7 +5,7 @@ use Prim.Native.Nat.{ℕ}
 use lib.IntN.{ℤ}
 use lib.Signed.{ltZ}
 use lib.Dec.{eqb}
-use Rattle.basics.specs.Tests.{both, either, anyOf, noTwo}
+use Rattle.basics.specs.Tests.{both, either, noTwo}
 use Rattle.board.specs.declared.Place.{Place}
 use Rattle.board.specs.declared.Spot.{Spot}
 use Rattle.tree.specs.declared.Run.{Run}
@@ -40,10 +40,6 @@ unfoldable pub clash : List Spot → Run → Run → Bool
 clash feed r s =
     both (not (common r s))
     (boxesShare (placeAt feed (r .near)) (placeAt feed (r .far)) (placeAt feed (s .near)) (placeAt feed (s .far)))
-
--- A run clashes with one of some others.
-abbrev pub clashAny : List Spot → Run → List Run → Bool
-clashAny feed r others = anyOf (clash feed r) others
 
 -- The boxes of two of the runs, without a common pin, share a point.
 abbrev pub boxesMeet : List Spot → List Run → Bool

@@ -1,89 +1,80 @@
--- How the runs are found: each pin not reached keeps one offer, the earliest pair that would reach it. No entry point's promise rests on these.
-use mathlib.Core.Bool.{true, false, not}
-use mathlib.Core.List.{List, [], _∷_}
-use Prim.Native.Nat.{ℕ, zero, suc}
+-- How the runs are found: each pin that waits keeps one reached pin, the near pin of its earliest pair so far. No entry point's promise rests on these.
+use mathlib.Core.Path.{_≡_}
+use mathlib.Core.Bool.{Bool, true, false, not}
+use mathlib.Core.List.{List}
+use Prim.Native.Nat.{ℕ, zero, suc, _<_}
 use lib.IntN.{pos}
-use lib.Dec.{eqb}
-use lib.ListN.{length}
+use lib.ListN.{length, getD}
 use Rattle.basics.specs.Tests.{both, choose}
+use Rattle.basics.specs.Lists.{valuesFrom}
 use Rattle.board.specs.declared.Place.{Place}
-use Rattle.board.specs.declared.Spot.{Spot}
+use Rattle.board.specs.Place.{inside}
+use Rattle.board.specs.Spots.{mostPins}
 use Rattle.tree.specs.Weight.{pairOf, comesBefore}
+use Rattle.tree.specs.Boxes.{common, boxesShare}
 use Rattle.tree.specs.declared.Run.{Run}
 use Rattle.tree.specs.declared.Offer.{Offer}
-use Rattle.tree.specs.declared.Next.{Next}
-use Rattle.tree.specs.declared.Taken.{Taken}
-use Rattle.board.specs.Spots.{present, placeOf, placeAt}
-use Rattle.tree.specs.Growth.{run}
-use Rattle.tree.specs.Trees.{entries}
 
--- What a pin keeps that does not wait.
+-- The lowest number of a pin that is there, among k numbers from i on; the number after these where there is none.
+unfoldable pub firstFrom : List Bool → ℕ → ℕ → ℕ
+firstFrom there i zero = i
+firstFrom there i (suc k) = choose (getD there i false) i (firstFrom there (suc i) k)
+
+-- The lowest number of a pin that is there; the number after the last where there is none.
+abbrev pub firstPin : List Bool → ℕ
+firstPin there = firstFrom there 0 mostPins
+
+-- What a pin is offered that does not wait.
 abbrev pub noOffer : Offer
-noOffer = record { waits = false; near = 0; pair = record { weight = record { distance = pos 0; rise = pos 0; right = pos 0 }; low = 0; high = 0 } }
+noOffer = record { waits = false; near = 0; far = 0; pair = record { weight = record { distance = pos 0; rise = pos 0; right = pos 0 }; low = 0; high = 0 } }
 
--- The offer of a reached pin `near` at `from` to a pin that waits.
-unfoldable pub offerOf : ℕ → Place → ℕ → Place → Offer
-offerOf near from pin to = record { waits = true; near = near; pair = pairOf near from pin to }
+-- The offer of a reached pin to one that waits, where pins stand as `at` says.
+unfoldable pub offerOf : (ℕ → Place) → ℕ → ℕ → Offer
+offerOf at near far = record { waits = true; near = near; far = far; pair = pairOf near (at near) far (at far) }
 
--- What a pin keeps at first: the offer of the first pin, if it is there and another.
-unfoldable pub firstOffer : ℕ → Place → ℕ → Spot → Offer
-firstOffer first from pin s =
-    choose (both (present s) (not (eqb pin first))) (offerOf first from pin (placeOf s)) noOffer
+-- The earlier of two offers; the first where neither comes before.
+unfoldable pub earlierOffer : Offer → Offer → Offer
+earlierOffer o p = choose (p .waits) (choose (o .waits) (choose (comesBefore (p .pair) (o .pair)) p o) p) o
 
--- The earlier of two offers; the first where they are equal.
-unfoldable pub betterOffer : Offer → Offer → Offer
-betterOffer o p = choose (comesBefore (p .pair) (o .pair)) p o
+-- What pin k is offered once the pin `latest` is reached: if it waits, the earlier of the offers of the pin that it keeps and of that one.
+unfoldable pub offerAt : (ℕ → Place) → List Bool → List ℕ → ℕ → ℕ → Offer
+offerAt at waits near latest k =
+    choose (getD waits k false) (earlierOffer (offerOf at (getD near k 0) k) (offerOf at latest k)) noOffer
 
--- What a pin keeps when another pin is reached: nothing if it is that pin, else the earlier of its offer and that pin's.
-unfoldable pub nextOffer : ℕ → Place → ℕ → Spot → Offer → Offer
-nextOffer near from pin s o =
-    choose (o .waits)
-    (choose (eqb pin near) noOffer (betterOffer o (offerOf near from pin (placeOf s))))
-    o
+-- The earliest of the offers to the pins below i.
+unfoldable pub earliestBelow : (ℕ → Offer) → ℕ → Offer
+earliestBelow offers zero = noOffer
+earliestBelow offers (suc i) = earlierOffer (earliestBelow offers i) (offers i)
 
--- What the pins keep at first, from pin number i on.
-unfoldable pub firstOffers : ℕ → Place → ℕ → List Spot → List Offer
-firstOffers first from i [] = []
-firstOffers first from i (s ∷ feed) = firstOffer first from i s ∷ firstOffers first from (suc i) feed
+-- The earliest of all offers.
+unfoldable pub nextOffer : (ℕ → Place) → List Bool → List ℕ → ℕ → Offer
+nextOffer at waits near latest = earliestBelow (offerAt at waits near latest) mostPins
 
--- What the pins keep when one more is reached, from pin number i on.
-unfoldable pub nextOffers : ℕ → Place → ℕ → List Spot → List Offer → List Offer
-nextOffers near from i [] offers = []
-nextOffers near from i (s ∷ feed) [] = []
-nextOffers near from i (s ∷ feed) (o ∷ offers) = nextOffer near from i s o ∷ nextOffers near from (suc i) feed offers
+-- The pin that pin k keeps: the near pin of its offer, if it waits.
+unfoldable pub nearAt : (ℕ → Place) → List Bool → List ℕ → ℕ → ℕ → ℕ
+nearAt at waits near latest k = choose (getD waits k false) (offerAt at waits near latest k .near) (getD near k 0)
 
--- The earlier of the pin that is reached next so far and a pin with what it keeps.
-unfoldable pub earlierNext : Next → ℕ → Offer → Next
-earlierNext n pin o =
-    choose (o .waits)
-    (choose (n .offer .waits)
-    (choose (comesBefore (o .pair) (n .offer .pair)) (record { pin = pin; offer = o }) n)
-    (record { pin = pin; offer = o }))
-    n
+-- The pins that are kept.
+unfoldable pub nextNears : (ℕ → Place) → List Bool → List ℕ → ℕ → List ℕ
+nextNears at waits near latest = valuesFrom (nearAt at waits near latest) 0 mostPins
 
--- The earliest of such a pin and those from pin number i on.
-unfoldable pub nextFrom : Next → ℕ → List Offer → Next
-nextFrom n i [] = n
-nextFrom n i (o ∷ offers) = nextFrom (earlierNext n i o) (suc i) offers
+-- A pin number whose place is on the board.
+pub record Standing (at : ℕ → Place) (pin : ℕ) : Type 0 where
+  pub low : pin < mostPins
+  pub on : inside (at pin) ≡ true
 
--- The pin that is reached next, by the earliest of all offers; its offer does not wait where no pin does.
-unfoldable pub nextOf : List Offer → Next
-nextOf offers = nextFrom (record { pin = 0; offer = noOffer }) 0 offers
+-- What a turn asks: each pin that waits, the pin that it keeps, and the latest pin are such pins.
+pub record Ready (at : ℕ → Place) (waits : List Bool) (near : List ℕ) (latest : ℕ) : Type 0 where
+  pub long : length near ≡ mostPins
+  pub last : Standing at latest
+  pub waiting : (k : ℕ) → k < mostPins → getD waits k false ≡ true → Standing at k
+  pub kept : (k : ℕ) → k < mostPins → getD waits k false ≡ true → Standing at (getD near k 0)
 
--- The runs that are taken offer by offer, in so many turns at most.
-unfoldable pub takenRuns : List Spot → ℕ → List Offer → List Run
-takenRuns feed zero offers = []
-takenRuns feed (suc turns) offers =
-    let n : Next = nextOf offers in
-    choose (n .offer .waits)
-    (run (n .offer .near) (n .pin) ∷ takenRuns feed turns (nextOffers (n .pin) (placeAt feed (n .pin)) 0 feed offers))
-    []
+-- Both ends of a run are pin numbers.
+pub record LowEnds (r : Run) : Type 0 where
+  pub near : r .near < mostPins
+  pub far : r .far < mostPins
 
--- The lowest number of a pin that is there, from pin number i on; the number after the last where there is none.
-unfoldable pub firstFrom : ℕ → List Spot → ℕ
-firstFrom i [] = i
-firstFrom i (s ∷ feed) = choose (present s) i (firstFrom (suc i) feed)
-
--- Some runs in their entries, and how many they are.
-unfoldable pub takenOf : List Run → Taken
-takenOf runs = record { count = length runs; runs = entries runs }
+-- Two runs without a common pin have boxes that share a point, where pins stand as `at` says.
+unfoldable pub clashAt : (ℕ → Place) → Run → Run → Bool
+clashAt at r s = both (not (common r s)) (boxesShare (at (r .near)) (at (r .far)) (at (s .near)) (at (s .far)))

@@ -3,19 +3,21 @@ mod weights;
 
 use board::PINS;
 use board::Place;
-use board::Spot;
+use board::spots::place_in;
 use refusal::Verdict;
 ghost use mathlib.Core.Path.{_≡_};
 ghost use mathlib.Core.Bool.{true, not};
 ghost use mathlib.Core.List.{[]};
-ghost use Prim.Native.Nat.{_≤_};
+ghost use Prim.Native.Nat.{ℕ, _<_, _≤_};
 ghost use lib.ListN.{take, drop};
-ghost use Rattle.basics.specs.Tests.{both};
-ghost use Rattle.board.specs.Place.{inside};
-ghost use Rattle.board.specs.Spots.{placeOf, placeAt, allWithin};
-ghost use Rattle.tree.specs.Boxes.{belowBoth, under, overlap, boxesShare, isEnd, common, clashAny, boxesMeet};
+ghost use Rattle.basics.specs.Tests.{anyOf, noTwo};
+ghost use Rattle.refusal.specs.declared.Verdict.the-variants.{Accepted};
+ghost use Rattle.board.specs.Spots.{mostPins, spotsFrom, allWithin, placeIn};
+ghost use Rattle.tree.specs.Growth.{runsOf};
+ghost use Rattle.tree.specs.Boxes.{under, overlap, boxesShare, common};
 ghost use Rattle.tree.specs.Trees.{mostRuns, treeWith, treeOf};
-ghost use Rattle.tree.specs.Offers.{noOffer, offerOf, firstOffer, betterOffer, nextOffer, firstOffers, nextOffers, earlierNext, nextOf, takenRuns, firstFrom, takenOf};
+ghost use Rattle.tree.specs.Offers.{firstPin, noOffer, offerOf, earlierOffer, nextOffer, nextNears, Standing, Ready, LowEnds, clashAt};
+ghost use Rattle.tree.specs.Reached.{runAt};
 
 // The weight of a pair of pins: the distance, minus the difference in y, minus the larger x.
 pub struct Weight {
@@ -32,7 +34,7 @@ pub struct Pair {
 }
 
 // A tree of PINS pins has one run fewer.
-pub const RUNS: usize = 31;
+pub const RUNS: usize = PINS - 1;
 
 // A run: the pin that was reached before it, and the pin that it reaches.
 pub struct Run {
@@ -47,33 +49,21 @@ pub struct Tree {
     pub runs: [Run; RUNS],
 }
 
-// What a pin keeps while the tree grows: whether it waits to be reached, the pin that would reach it, and their pair.
+// An offer while the tree grows: whether its far pin waits to be reached, the reached pin that would reach it, and their pair.
 pub struct Offer {
     pub waits: bool,
     pub near: usize,
+    pub far: usize,
     pub pair: Pair,
 }
 
-// The pin that is reached next, with its offer.
-pub struct Next {
-    pub pin: usize,
-    pub offer: Offer,
-}
-
-// Some runs in their entries, and how many they are.
-pub struct Taken {
-    pub count: usize,
-    pub runs: [Run; RUNS],
-}
-
 // The lowest number of a pin that is there, or the number after the last.
-fn first_pin(feed: [Spot; PINS]) -> usize
-    ensures { λ r. ⌜ r ≡ firstFrom 0 feed ⌝ }
+fn first_pin(there: &[bool; PINS]) -> usize
+    ensures { λ r. ⌜ r ≡ firstPin (now (there .entry)) ⌝ }
 {
     let mut pin = 0;
     while pin < PINS {
-        let spot = feed[pin];
-        if board::is_there(spot) {
+        if there[pin] {
             return pin;
         }
         pin += 1;
@@ -81,7 +71,7 @@ fn first_pin(feed: [Spot; PINS]) -> usize
     PINS
 }
 
-// What a pin keeps that does not wait.
+// What a pin is offered that does not wait.
 fn no_offer() -> Offer
     ensures { λ r. ⌜ r ≡ noOffer ⌝ }
 {
@@ -98,176 +88,122 @@ fn no_offer() -> Offer
     Offer {
         waits: false,
         near: 0,
+        far: 0,
         pair,
     }
 }
 
-// The offer of a reached pin to a pin that waits.
-fn offer_of(near: usize, from: Place, pin: usize, to: Place) -> Offer
-    requires { ⌜ (inside from ≡ true) × (inside to ≡ true) ⌝ }
-    ensures { λ r. ⌜ r ≡ offerOf near from pin to ⌝ }
+// The offer of a reached pin to one that waits.
+fn offer_of(xs: &[i32; PINS], ys: &[i32; PINS], near: usize, far: usize) -> Offer
+    requires { ⌜ Standing (placeIn (now xs) (now ys)) near × Standing (placeIn (now xs) (now ys)) far ⌝ }
+    ensures { λ r. ⌜ r ≡ offerOf (placeIn (now (xs .entry)) (now (ys .entry))) near far ⌝ }
 {
-    let pair = weights::pair_of(near, from, pin, to);
+    let from = place_in(xs, ys, near);
+    let to = place_in(xs, ys, far);
+    let pair = weights::pair_of(near, from, far, to);
     Offer {
         waits: true,
         near,
+        far,
         pair,
     }
 }
 
-// What a pin keeps when the first pin is reached.
-fn first_offer(first: usize, from: Place, pin: usize, spot: Spot) -> Offer
-    requires { ⌜ (inside from ≡ true) × (inside (placeOf spot) ≡ true) ⌝ }
-    ensures { λ r. ⌜ r ≡ firstOffer first from pin spot ⌝ }
-{
-    if !board::is_there(spot) {
-        return no_offer();
-    }
-    if pin == first {
-        return no_offer();
-    }
-    offer_of(first, from, pin, board::place_of(spot))
-}
-
 // The earlier of two offers.
-fn better_offer(kept: Offer, new: Offer) -> Offer
-    ensures { λ r. ⌜ r ≡ betterOffer kept new ⌝ }
+fn earlier_offer(first: Offer, second: Offer) -> Offer
+    ensures { λ r. ⌜ r ≡ earlierOffer first second ⌝ }
 {
-    let ours = new.pair;
-    let theirs = kept.pair;
-    if weights::before(ours, theirs) {
-        new
-    } else {
-        kept
+    if !second.waits {
+        return first;
     }
+    if !first.waits {
+        return second;
+    }
+    let old = first.pair;
+    let new = second.pair;
+    if weights::before(new, old) {
+        return second;
+    }
+    first
 }
 
-// What a pin keeps when one more pin is reached.
-fn next_offer(near: usize, from: Place, pin: usize, spot: Spot, kept: Offer) -> Offer
-    requires { ⌜ (inside from ≡ true) × (inside (placeOf spot) ≡ true) ⌝ }
-    ensures { λ r. ⌜ r ≡ nextOffer near from pin spot kept ⌝ }
+// The earliest offer to a pin that waits, once the pin `latest` is reached; each such pin keeps the near pin of its own earliest offer.
+// Two weights are worked out for each waiting pin and turn, n * (n - 1) for n pins: under their square, and none is kept.
+fn next_offer(
+    xs: &[i32; PINS],
+    ys: &[i32; PINS],
+    waits: &[bool; PINS],
+    near: &mut [usize; PINS],
+    latest: usize,
+) -> Offer
+    requires { ⌜ Ready (placeIn (now xs) (now ys)) (now waits) (now near) latest ⌝ }
+    ensures { λ r. ⌜ r ≡ nextOffer (placeIn (now (xs .entry)) (now (ys .entry))) (now (waits .entry)) (now (near .entry)) latest ⌝ }
+    ensures { λ _. ⌜ now (near .exit) ≡ nextNears (placeIn (now (xs .entry)) (now (ys .entry))) (now (waits .entry)) (now (near .entry)) latest ⌝ }
 {
-    if !kept.waits {
-        return kept;
-    }
-    if pin == near {
-        return no_offer();
-    }
-    let new = offer_of(near, from, pin, board::place_of(spot));
-    better_offer(kept, new)
-}
-
-// What the pins keep when the first pin is reached.
-fn first_offers(feed: [Spot; PINS], first: usize) -> [Offer; PINS]
-    requires { ⌜ allWithin feed ≡ true ⌝ }
-    ensures { λ r. ⌜ r ≡ firstOffers first (placeAt feed first) 0 feed ⌝ }
-{
-    let from = board::place_at(feed, first);
-    let none = no_offer();
-    let mut offers = [none; PINS];
-    let mut pin = 0;
-    while pin < PINS {
-        let spot = feed[pin];
-        offers[pin] = first_offer(first, from, pin, spot);
-        pin += 1;
-    }
-    offers
-}
-
-// What the pins keep when one more pin is reached: one weight for each pin that waits.
-fn next_offers(feed: [Spot; PINS], kept: [Offer; PINS], near: usize) -> [Offer; PINS]
-    requires { ⌜ allWithin feed ≡ true ⌝ }
-    ensures { λ r. ⌜ r ≡ nextOffers near (placeAt feed near) 0 feed kept ⌝ }
-{
-    let from = board::place_at(feed, near);
-    let mut offers = kept;
-    let mut pin = 0;
-    while pin < PINS {
-        let spot = feed[pin];
-        let offer = offers[pin];
-        offers[pin] = next_offer(near, from, pin, spot, offer);
-        pin += 1;
-    }
-    offers
-}
-
-// The earlier of the pin that is reached next so far and a pin with what it keeps.
-fn earlier_next(next: Next, pin: usize, offer: Offer) -> Next
-    ensures { λ r. ⌜ r ≡ earlierNext next pin offer ⌝ }
-{
-    if !offer.waits {
-        return next;
-    }
-    let kept = next.offer;
-    if !kept.waits {
-        return Next { pin, offer };
-    }
-    let first = offer.pair;
-    let second = kept.pair;
-    if weights::before(first, second) {
-        return Next { pin, offer };
+    let mut next = no_offer();
+    let mut count = 0;
+    while count < PINS {
+        let pin = count;
+        count += 1;
+        if waits[pin] {
+            let kept = offer_of(xs, ys, near[pin], pin);
+            let new = offer_of(xs, ys, latest, pin);
+            let offer = earlier_offer(kept, new);
+            near[pin] = offer.near;
+            next = earlier_offer(next, offer);
+        }
     }
     next
 }
 
-// The pin with the earliest offer; one that does not wait where no pin does.
-fn earliest_offer(offers: [Offer; PINS]) -> Next
-    ensures { λ r. ⌜ r ≡ nextOf offers ⌝ }
+// The runs that are taken when growing from the first pin, always the earliest offer.
+fn grow(xs: &[i32; PINS], ys: &[i32; PINS], there: &[bool; PINS], first: usize) -> Tree
+    requires { ⌜ (allWithin (spotsFrom (now xs) (now ys) (now there)) ≡ true) × (first ≡ firstPin (now there)) × (first < mostPins) ⌝ }
+    ensures { λ r. ⌜ r ≡ treeWith Accepted (runsOf (spotsFrom (now (xs .entry)) (now (ys .entry)) (now (there .entry)))) ⌝ }
 {
-    let none = no_offer();
-    let mut next = Next {
-        pin: 0,
-        offer: none,
-    };
-    let mut pin = 0;
-    while pin < PINS {
-        let offer = offers[pin];
-        next = earlier_next(next, pin, offer);
-        pin += 1;
-    }
-    next
-}
-
-// The runs that are taken from these offers on, always the earliest offer.
-fn take_runs(feed: [Spot; PINS], opening: [Offer; PINS]) -> Taken
-    requires { ⌜ allWithin feed ≡ true ⌝ }
-    ensures { λ r. ⌜ r ≡ takenOf (takenRuns feed mostRuns opening) ⌝ }
-{
-    let mut offers = opening;
+    let mut waits = *there;
+    waits[first] = false;
+    let mut near = [first; PINS];
+    let mut latest = first;
     let mut runs = [Run { near: 0, far: 0 }; RUNS];
     let mut count = 0;
     while count < RUNS {
-        let next = earliest_offer(offers);
-        let offer = next.offer;
-        if !offer.waits {
-            return Taken { count, runs };
+        let next = next_offer(xs, ys, &waits, &mut near, latest);
+        if !next.waits {
+            return Tree {
+                verdict: Verdict::Accepted,
+                count,
+                runs,
+            };
         }
-        let far = next.pin;
+        let far = next.far;
         runs[count] = Run {
-            near: offer.near,
+            near: next.near,
             far,
         };
-        let after = next_offers(feed, offers, far);
-        offers = after;
+        waits[far] = false;
+        latest = far;
         count += 1;
     }
-    Taken { count, runs }
-}
-
-// Whether a number is less than both of two.
-fn below_both(a: i32, c: i32, d: i32) -> bool
-    ensures { λ r. ⌜ r ≡ belowBoth a c d ⌝ }
-{
-    a < c && a < d
+    Tree {
+        verdict: Verdict::Accepted,
+        count,
+        runs,
+    }
 }
 
 // Whether both of two numbers are less than both of two others.
 fn is_under(a: i32, b: i32, c: i32, d: i32) -> bool
     ensures { λ r. ⌜ r ≡ under a b c d ⌝ }
 {
-    let first = below_both(a, c, d);
-    let second = below_both(b, c, d);
-    if first { second } else { false }
+    if a < c {
+        if a < d {
+            if b < c {
+                return b < d;
+            }
+        }
+    }
+    false
 }
 
 // Whether the stretch from a to b and the stretch from c to d share a number.
@@ -288,49 +224,53 @@ fn boxes_share(a: Place, b: Place, c: Place, d: Place) -> bool
     if x { y } else { false }
 }
 
-// Whether a pin is an end of a run.
-fn is_end(pin: usize, run: Run) -> bool
-    ensures { λ r. ⌜ r ≡ isEnd pin run ⌝ }
-{
-    if pin == run.near {
-        return true;
-    }
-    pin == run.far
-}
-
 // Whether two runs have a common pin.
 fn have_common(a: Run, b: Run) -> bool
     ensures { λ r. ⌜ r ≡ common a b ⌝ }
 {
-    if is_end(a.near, b) {
+    if a.near == b.near {
         return true;
     }
-    is_end(a.far, b)
+    if a.near == b.far {
+        return true;
+    }
+    if a.far == b.near {
+        return true;
+    }
+    a.far == b.far
 }
 
-// Whether a run from p to q and a run from s to t, without a common pin, have boxes that share a point.
-fn do_clash(a: Run, p: Place, q: Place, b: Run, s: Place, t: Place) -> bool
-    ensures { λ r. ⌜ r ≡ both (not (common a b)) (boxesShare p q s t) ⌝ }
+// Whether two runs without a common pin have boxes that share a point.
+fn do_clash(xs: &[i32; PINS], ys: &[i32; PINS], a: Run, b: Run) -> bool
+    requires { ⌜ LowEnds a × LowEnds b ⌝ }
+    ensures { λ r. ⌜ r ≡ clashAt (placeIn (now (xs .entry)) (now (ys .entry))) a b ⌝ }
 {
     if have_common(a, b) {
         return false;
     }
+    let p = place_in(xs, ys, a.near);
+    let q = place_in(xs, ys, a.far);
+    let s = place_in(xs, ys, b.near);
+    let t = place_in(xs, ys, b.far);
     boxes_share(p, q, s, t)
 }
 
 // Whether a run clashes with one of the runs from number `start` on.
-fn clashes_any(feed: [Spot; PINS], runs: [Run; RUNS], count: usize, run: Run, start: usize) -> bool
-    requires { ⌜ count ≤ mostRuns ⌝ }
-    ensures { λ r. ⌜ r ≡ clashAny feed run (drop start (take count runs)) ⌝ }
+fn clashes_any(
+    xs: &[i32; PINS],
+    ys: &[i32; PINS],
+    runs: [Run; RUNS],
+    count: usize,
+    run: Run,
+    start: usize,
+) -> bool
+    requires { ⌜ (count ≤ mostRuns) × ((i : ℕ) → i < count → LowEnds (runAt runs i)) × LowEnds run ⌝ }
+    ensures { λ r. ⌜ r ≡ anyOf (clashAt (placeIn (now (xs .entry)) (now (ys .entry))) run) (drop start (take count runs)) ⌝ }
 {
-    let p = board::place_at(feed, run.near);
-    let q = board::place_at(feed, run.far);
     let mut at = start;
     while at < count {
         let other = runs[at];
-        let s = board::place_at(feed, other.near);
-        let t = board::place_at(feed, other.far);
-        if do_clash(run, p, q, other, s, t) {
+        if do_clash(xs, ys, run, other) {
             return true;
         }
         at += 1;
@@ -339,14 +279,14 @@ fn clashes_any(feed: [Spot; PINS], runs: [Run; RUNS], count: usize, run: Run, st
 }
 
 // Whether the boxes of two of the runs, without a common pin, share a point.
-fn do_boxes_meet(feed: [Spot; PINS], runs: [Run; RUNS], count: usize) -> bool
-    requires { ⌜ count ≤ mostRuns ⌝ }
-    ensures { λ r. ⌜ r ≡ boxesMeet feed (take count runs) ⌝ }
+fn do_boxes_meet(xs: &[i32; PINS], ys: &[i32; PINS], runs: [Run; RUNS], count: usize) -> bool
+    requires { ⌜ (count ≤ mostRuns) × ((i : ℕ) → i < count → LowEnds (runAt runs i)) ⌝ }
+    ensures { λ r. ⌜ r ≡ not (noTwo (clashAt (placeIn (now (xs .entry)) (now (ys .entry)))) (take count runs)) ⌝ }
 {
     let mut at = 0;
     while at < count {
         let run = runs[at];
-        if clashes_any(feed, runs, count, run, at + 1) {
+        if clashes_any(xs, ys, runs, count, run, at + 1) {
             return true;
         }
         at += 1;
@@ -367,24 +307,18 @@ fn refused(verdict: Verdict) -> Tree
 }
 
 // The runs of these pins, or 17 or 18.
-pub fn tree_of(feed: [Spot; PINS]) -> Tree
-    requires { ⌜ allWithin feed ≡ true ⌝ }
-    ensures { λ r. ⌜ r ≡ treeOf feed ⌝ }
+pub fn tree_of(xs: &[i32; PINS], ys: &[i32; PINS], there: &[bool; PINS]) -> Tree
+    requires { ⌜ allWithin (spotsFrom (now xs) (now ys) (now there)) ≡ true ⌝ }
+    ensures { λ r. ⌜ r ≡ treeOf (spotsFrom (now (xs .entry)) (now (ys .entry)) (now (there .entry))) ⌝ }
 {
-    let first = first_pin(feed);
+    let first = first_pin(there);
     if first == PINS {
         return refused(Verdict::NoPins);
     }
-    let offers = first_offers(feed, first);
-    let taken = take_runs(feed, offers);
-    let count = taken.count;
-    let runs = taken.runs;
-    if do_boxes_meet(feed, runs, count) {
+    let tree = grow(xs, ys, there, first);
+    let runs = tree.runs;
+    if do_boxes_meet(xs, ys, runs, tree.count) {
         return refused(Verdict::BoxesMeet);
     }
-    Tree {
-        verdict: Verdict::Accepted,
-        count,
-        runs,
-    }
+    tree
 }

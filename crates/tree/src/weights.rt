@@ -4,8 +4,18 @@ use crate::Weight;
 use board::Place;
 ghost use mathlib.Core.Path.{_≡_};
 ghost use mathlib.Core.Bool.{true};
-ghost use Rattle.board.specs.Place.{inside, larger};
+ghost use lib.IntN.{pos};
+ghost use Rattle.board.specs.Place.{onBoard, inside, difference, larger};
 ghost use Rattle.tree.specs.Weight.{weightOf, pairOf, byPart, byNumber, comesBefore};
+
+// How far two numbers of the board are apart.
+fn apart(a: i32, b: i32) -> i32
+    requires { ⌜ (onBoard a ≡ true) × (onBoard b ≡ true) ⌝ }
+    ensures { λ r. ⌜ r ≡ pos (difference a b) ⌝ }
+{
+    let d = a - b;
+    if d < 0 { -d } else { d }
+}
 
 // The larger of two numbers.
 fn larger_of(a: i32, b: i32) -> i32
@@ -19,12 +29,12 @@ pub fn weight_of(a: Place, b: Place) -> Weight
     requires { ⌜ (inside a ≡ true) × (inside b ≡ true) ⌝ }
     ensures { λ r. ⌜ r ≡ weightOf a b ⌝ }
 {
-    let dx = board::apart(a.x, b.x);
-    let dy = board::apart(a.y, b.y);
+    let dx = apart(a.x, b.x);
+    let dy = apart(a.y, b.y);
     let right = larger_of(a.x, b.x);
     Weight {
-        distance: (dx + dy) as i32,
-        rise: -(dy as i32),
+        distance: dx + dy,
+        rise: -dy,
         right: -right,
     }
 }

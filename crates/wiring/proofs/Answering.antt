@@ -3,7 +3,7 @@
 use mathlib.Core.Path.{_≡_, refl, sym, ap, ap₂, _∙_}
 use mathlib.Core.Bool.{Bool, true, false, not}
 use mathlib.Core.List.{List, [], _∷_, _++_}
-use Prim.Native.Nat.{ℕ, zero, suc, _-_, _/_, _%_, _≤_, _<_}
+use Prim.Native.Nat.{ℕ, zero, suc, _/_, _%_, _≤_, _<_}
 use native.Mathlib.Omega.{arith}
 use lib.IntN.{ℤ, pos}
 use lib.Dec.{ltb}
@@ -11,38 +11,37 @@ use lib.ListN.{length, getD, take, List·getD-eq-default}
 use borrow.Author.Tests.{ltb-true, ltb-false, lt-ltb, le-ltb, not-true, not-false}
 use Rattle.basics.specs.Tests.{both, choose}
 use Rattle.basics.specs.Lists.{valuesFrom}
-use Rattle.refusal.specs.Refusals.{accepted, turn}
+use Rattle.refusal.specs.Refusals.{accepted}
+use Rattle.refusal.specs.Rows.{firstOf}
 use Rattle.refusal.specs.declared.Verdict.the-variants.{Accepted, RoomTooSmall}
-use Rattle.basics.proofs.Tests.{opposite, choose-no}
+use Rattle.basics.proofs.Tests.{opposite, choose-yes, choose-no}
 use Rattle.basics.proofs.Lists.{padded-at, padded-first, values-long, value-at, values-shift, values-same}
 use Rattle.board.specs.declared.Place.{Place}
 use Rattle.board.specs.declared.Spot.{Spot}
 use Rattle.board.specs.Place.{onBoard, inside}
 use Rattle.tree.specs.declared.Run.{Run}
 use Rattle.tree.specs.declared.Tree.{Tree}
-use Rattle.board.specs.Spots.{mostPins, placeAt, allWithin, allApart}
+use Rattle.board.specs.Spots.{mostPins, placeAt, placeIn, allWithin, allApart}
 use Rattle.tree.specs.Growth.{run, pinsOf, runsOf}
 use Rattle.tree.specs.Boxes.{boxesMeet}
 use Rattle.tree.specs.Trees.{mostRuns, entries, treeWith, none, treeOf}
-use Rattle.tree.specs.Reached.{runAt, reachedPin, reachedNear, reachedPlace, reachedFrom}
+use Rattle.tree.specs.Reached.{runAt, reachedPin, reachedNear, reachedPlace}
 use Rattle.board.proofs.Rules.{inside-at}
 use Rattle.tree.proofs.Answer.{Answer, no-pins, boxes-meet, the-runs, answer, runs-few}
-use Rattle.tree.proofs.Result.{take-entries as entries-take}
 use Rattle.copper.specs.declared.Shape.{Shape}
 use Rattle.copper.specs.declared.Leg.{Leg}
 use Rattle.copper.specs.Shapes.{shapeOf, legsOf}
 use Rattle.least.proofs.Tallies.{leastOf}
 use Rattle.least.specs.declared.Least.{Least}
-use Rattle.least.specs.Asking.{base, pinPlace, markOf, leastOfTree, Grown, nearPin}
-use Rattle.least.specs.declared.Reached.{Reached}
+use Rattle.least.specs.Asking.{base, markOf, leastOfTree, Grown, nearPin}
 use Rattle.least.proofs.Whole.{tree-cost}
 use Rattle.least.proofs.Alike.{Alike, found-alike}
 use Rattle.wiring.specs.declared.RunEntry.{RunEntry}
 use Rattle.wiring.specs.declared.Strip.{Strip}
 use Rattle.wiring.specs.Choices.{nearEnd, farEnd, bestChoice, legsOfChoice, lengthOfChoice, weighedOf}
-use Rattle.wiring.specs.Answer.{runEntry, noRun, shapedRuns, runEntries, legEntries, turnedAway, answerWith, wiringVerdict, wiringWith, wiringFavouring}
-use Rattle.wiring.specs.Reaching.{xsOf, ysOf, reachedOf, nearsOf, upperIn, shapedIn, entriesIn, legsOfEntry, legsOfEntries, strip, shapesBy}
-use Rattle.wiring.proofs.Laying.{grown}
+use Rattle.wiring.specs.Answer.{runEntry, noRun, shapedRuns, runEntries, legEntries, turnedAway, answerWith, wiringRows, wiringWith, wiringFavouring}
+use Rattle.wiring.specs.Reaching.{xsOf, ysOf, reachedAs, nearsOf, Numbered, upperIn, shapedRun, shapedIn, entriesIn, legsOfEntry, legsOfEntries, strip, shapesBy}
+use Rattle.wiring.proofs.Laying.{grown, near-low, far-low, near-told}
 use Rattle.wiring.proofs.Best.{length-found, shapes-found}
 use Rattle.wiring.proofs.Weighed.{weighed-told}
 
@@ -53,8 +52,8 @@ pub tree-refuses : (favoured : Bool) (feed : List Spot) (room : ℕ) (t : Tree) 
 tree-refuses favoured feed room t e n = go (answer feed)
   where
     go : Answer feed → turnedAway (t .verdict) ≡ wiringFavouring favoured feed room
-    go (no-pins p q) = unfold wiringFavouring wiringWith wiringVerdict treeWith turn accepted choose in rw (e, q, p)
-    go (boxes-meet f left p b q) = unfold wiringFavouring wiringWith wiringVerdict treeWith turn accepted choose in rw (e, q, p, b)
+    go (no-pins p q) = unfold wiringFavouring wiringWith treeWith firstOf accepted choose in rw (e, q, p)
+    go (boxes-meet f left p b q) = unfold wiringFavouring wiringWith treeWith firstOf accepted choose in rw (e, q, p, b)
     go (the-runs f left p b q) = absurd (opposite {t = accepted (t .verdict)} (unfold treeWith accepted in rw (e, q)) n)
 
 -- ---- how it is accepted
@@ -89,6 +88,12 @@ unfolding reachedPin
 pin-entries runs zero = ap (λ (r : Run). r .near) (entries-at runs 0)
 pin-entries runs (suc r) = ap (λ (q : Run). q .far) (entries-at runs r)
 
+-- So they tell the same numbers of pins.
+as-entries : (runs : List Run) (k pin : ℕ) → reachedAs (entries runs) k pin ≡ reachedAs runs k pin
+unfolding reachedAs
+as-entries runs zero pin = refl
+as-entries runs (suc k) pin = rw (entries-at runs k, as-entries runs k pin)
+
 -- The middle of the board is on it.
 middle-inside : inside (record { x = pos 0; y = pos 0 }) ≡ true
 unfolding inside onBoard both
@@ -121,7 +126,7 @@ entries-shaped feed favoured mask runs =
     ∙ shaped-values feed (upperIn favoured mask) runs)
   where
     same : (j : ℕ) → shapedIn feed favoured mask (entries runs) j ≡ bentAs feed (upperIn favoured mask) runs j
-    same j = unfold shapedIn in rw (entries-at runs j)
+    same j = unfold shapedIn shapedRun in rw (entries-at runs j)
 
 -- There are as many as runs.
 shaped-long : (feed : List Spot) (upper : ℕ → Bool) (runs : List Run) → length (shapedRuns runs (shapesBy feed upper runs)) ≡ length runs
@@ -159,41 +164,51 @@ module _ (feed : List Spot) (full : length feed ≡ mostPins) (ok : allWithin fe
   abbrev ys : List ℤ
   ys = ysOf feed (entries runs)
 
-  -- The tree as it is reached.
-  abbrev reached : Reached
-  reached = record { xs = xs; ys = ys; near = nearsOf (entries runs) n; count = n; favoured = favoured }
+  abbrev nears : List ℕ
+  nears = nearsOf (entries runs) n
 
   -- Pins that are reached stand at the same places by the entries ..
   place-same : (i : ℕ) → reachedPlace feed (entries runs) i ≡ reachedPlace feed runs i
   place-same i = ap (placeAt feed) (pin-entries runs i)
 
   -- .. and by the lists of x and y ..
-  place-is : (i : ℕ) → i < mostPins → pinPlace reached i ≡ reachedPlace feed runs i
+  place-is : (i : ℕ) → i < mostPins → placeIn xs ys i ≡ reachedPlace feed runs i
   unfolding xsOf ysOf
   place-is i l =
       ap₂ (λ (a b : ℤ). record { x = a; y = b }) (value-at (λ j. reachedPlace feed (entries runs) j .x) mostPins i (pos 0) l ∙ ap (λ (p : Place). p .x) (place-same i))
       (value-at (λ j. reachedPlace feed (entries runs) j .y) mostPins i (pos 0) l ∙ ap (λ (p : Place). p .y) (place-same i))
 
   -- .. and near pins are reached as the same numbers.
-  near-is : (r : ℕ) → r < mostRuns → nearPin reached r ≡ reachedNear runs r
-  unfolding nearsOf reachedNear
+  near-is : (r : ℕ) → r < n → nearPin nears r ≡ reachedNear runs r
+  unfolding nearsOf
   near-is r l =
-      value-at (λ q. reachedFrom 0 (take n (entries runs)) (runAt (entries runs) q .near)) mostRuns r 0 l
-      ∙ ap₂ (λ (a : List Run) (b : ℕ). reachedFrom 0 a b) (entries-take runs) (ap (λ (q : Run). q .near) (entries-at runs r))
+      let number : ℕ → ℕ = λ q. reachedAs (entries runs) q (runAt (entries runs) q .near) in
+      padded-at mostRuns 0 (valuesFrom number 0 n) r ∙ value-at number n r 0 l
+      ∙ as-entries runs r (runAt (entries runs) r .near) ∙ ap (λ (q : Run). reachedAs runs r (q .near)) (entries-at runs r)
+      ∙ near-told feed full ok (w .first) (w .left) (w .pins) r l
+
+  -- The ends of its runs are pins from 0 to 31.
+  pub runs-numbered : Numbered (entries runs) n
+  runs-numbered =
+      record {
+        few = few;
+        near = λ r l. rw (entries-at runs r) (near-low feed full ok (w .first) (w .left) (w .pins) r l);
+        far = λ r l. rw (entries-at runs r) (far-low feed full ok (w .first) (w .left) (w .pins) r l);
+      }
 
   abbrev before : (r : ℕ) → r < n → reachedNear runs r ≤ r
   before = grown feed full ok (w .first) (w .left) (w .pins)
 
   -- The tree can be asked.
-  pub tree-grown : Grown reached
+  pub tree-grown : Grown xs ys nears n
   tree-grown =
       record {
         few = few;
-        near-first = λ r l. rw (near-is r (omega (arith, few))) (before r l);
+        near-first = λ r l. rw (near-is r l) (before r l);
         on-board = λ i. go i (ltb i mostPins) refl;
       }
     where
-      go : (i : ℕ) (b : Bool) → ltb i mostPins ≡ b → inside (pinPlace reached i) ≡ true
+      go : (i : ℕ) (b : Bool) → ltb i mostPins ≡ b → inside (placeIn xs ys i) ≡ true
       go i true e = rw (place-is i (ltb-true i mostPins e)) (inside-at feed ok (reachedPin runs i))
       go i false e =
           let l : mostPins ≤ i = ltb-false i mostPins e in
@@ -208,21 +223,21 @@ module _ (feed : List Spot) (full : length feed ≡ mostPins) (ok : allWithin fe
           long-y i l = unfold ysOf in omega (arith, values-long (λ j. reachedPlace feed (entries runs) j .y) 0 mostPins)
 
   -- The tree by its lists is told as the tree by its runs.
-  alike : Alike (pinPlace reached) (reachedPlace feed runs) (nearPin reached) (reachedNear runs) n
+  alike : Alike (placeIn xs ys) (reachedPlace feed runs) (nearPin nears) (reachedNear runs) n
   alike =
       record {
-        nears = λ r l. near-is r (omega (arith, few));
-        near-ends = λ r l. ap (pinPlace reached) (near-is r (omega (arith, few))) ∙ place-is (reachedNear runs r) (omega (arith, few, before r l));
+        nears = near-is;
+        near-ends = λ r l. ap (placeIn xs ys) (near-is r l) ∙ place-is (reachedNear runs r) (omega (arith, few, before r l));
         far-ends = λ r l. place-is (suc r) (omega (arith, few));
       }
 
-  module _ (f : Least) (ef : f ≡ leastOfTree (pinPlace reached) (nearPin reached) favoured n) where
+  module _ (f : Least) (ef : f ≡ leastOfTree (placeIn xs ys) (nearPin nears) favoured n) where
     abbrev choice : List Shape
     choice = bestChoice favoured feed runs
 
     -- What is found for the one is found for the other:
     found-is : f ≡ leastOfTree (reachedPlace feed runs) (reachedNear runs) favoured n
-    found-is = ef ∙ found-alike (pinPlace reached) (reachedPlace feed runs) (nearPin reached) (reachedNear runs) n alike favoured
+    found-is = ef ∙ found-alike (placeIn xs ys) (reachedPlace feed runs) (nearPin nears) (reachedNear runs) n alike favoured
 
     -- the cost is the least of all choices of shapes,
     cost-is : f .cost ≡ leastOf (reachedPlace feed runs) (reachedNear runs) base (markOf favoured) n
@@ -274,15 +289,15 @@ module _ (feed : List Spot) (full : length feed ≡ mostPins) (ok : allWithin fe
       some = rw (w .pins)
 
       -- so that the room alone decides.
-      verdict-is : (room : ℕ) → wiringVerdict feed choice room ≡ turn (ltb room (S .count)) RoomTooSmall Accepted
-      unfolding wiringVerdict turn choose
+      verdict-is : (room : ℕ) → firstOf (wiringRows feed choice room) ≡ choose (ltb room (S .count)) RoomTooSmall Accepted
+      unfolding firstOf choose
       verdict-is room = rw (some, w .clear, many-is)
 
       -- Too little room.
       pub room-refused : (room : ℕ) → room < S .count → turnedAway RoomTooSmall ≡ wiringFavouring favoured feed room
       unfolding wiringFavouring wiringWith
       room-refused room l =
-          let v : wiringVerdict feed choice room ≡ RoomTooSmall = verdict-is room ∙ (unfold turn choose in rw (lt-ltb room (S .count) l)) in
+          let v : firstOf (wiringRows feed choice room) ≡ RoomTooSmall = verdict-is room ∙ choose-yes RoomTooSmall Accepted (lt-ltb room (S .count) l) in
           rw v (sym (choose-no (answerWith feed choice) (turnedAway RoomTooSmall) (unfold accepted in refl)))
 
       -- The answer.
@@ -293,7 +308,7 @@ module _ (feed : List Spot) (full : length feed ≡ mostPins) (ok : allWithin fe
           } ≡ wiringFavouring favoured feed room
       unfolding wiringFavouring wiringWith
       answer-is room l =
-          let v : wiringVerdict feed choice room ≡ Accepted = verdict-is room ∙ (unfold turn choose in rw (le-ltb room (S .count) l)) in
+          let v : firstOf (wiringRows feed choice room) ≡ Accepted = verdict-is room ∙ choose-no RoomTooSmall Accepted (le-ltb room (S .count) l) in
           rw v (unfold accepted choose answerWith in rw (length-is, weighed-is, entries-is, many-is, legs-is, count-is))
 
 -- ---- the same of the tree as the code has it
@@ -312,39 +327,40 @@ module _ (feed : List Spot) (full : length feed ≡ mostPins) (ok : allWithin fe
     pub count-few : t .count ≤ mostRuns
     count-few = omega (arith, few feed full ok free favoured t w, w .count)
 
-    module _ (T : Reached) (eT : T ≡ reachedOf feed (t .runs) (t .count) favoured) where
-      -- and the tree can be asked.
-      pub wire-grown : Grown T
-      unfolding reachedOf
-      wire-grown = rw (eT, w .count, w .runs) (tree-grown feed full ok free favoured t w)
+    -- between pins from 0 to 31,
+    pub wire-numbered : Numbered (t .runs) (t .count)
+    wire-numbered = rw (w .count, w .runs) (runs-numbered feed full ok free favoured t w)
 
-      module _ (f : Least) (ef : f ≡ leastOfTree (pinPlace T) (nearPin T) (T .favoured) (T .count))
-          (E : List RunEntry) (eE : E ≡ entriesIn feed favoured (f .cost % base) (t .runs) (t .count))
-          (S : Strip) (eS : S ≡ strip (legsOfEntries feed (take (t .count) E))) where
-        abbrev told : Reached
-        told = reached feed full ok free favoured t w
+    -- and the tree can be asked.
+    pub wire-grown : Grown (xsOf feed (t .runs)) (ysOf feed (t .runs)) (nearsOf (t .runs) (t .count)) (t .count)
+    wire-grown = rw (w .count, w .runs) (tree-grown feed full ok free favoured t w)
 
-        -- What is found, by the tree of the definition.
-        found-as : f ≡ leastOfTree (pinPlace told) (nearPin told) favoured (length (runsOf feed))
-        unfolding reachedOf
-        found-as = rw (eT, w .count, w .runs) at ef
+    module _ (f : Least) (ef : f ≡ leastOfTree (placeIn (xsOf feed (t .runs)) (ysOf feed (t .runs))) (nearPin (nearsOf (t .runs) (t .count))) favoured (t .count))
+        (E : List RunEntry) (eE : E ≡ entriesIn feed favoured (f .cost % base) (t .runs) (t .count))
+        (S : Strip) (eS : S ≡ strip (legsOfEntries feed (take (t .count) E))) where
+      abbrev told-runs : List Run
+      told-runs = entries (runsOf feed)
 
-        -- The run entries, by the tree of the definition,
-        entries-as : E ≡ entriesIn feed favoured (f .cost % base) (entries (runsOf feed)) (length (runsOf feed))
-        entries-as = rw (w .count, w .runs) at eE
+      -- What is found, by the tree of the definition.
+      found-as : f ≡ leastOfTree (placeIn (xsOf feed told-runs) (ysOf feed told-runs)) (nearPin (nearsOf told-runs (length (runsOf feed)))) favoured (length (runsOf feed))
+      found-as = rw (w .count, w .runs) at ef
 
-        -- and the legs.
-        strip-as : S ≡ strip (legsOfEntries feed (take (length (runsOf feed)) E))
-        strip-as = rw (w .count) at eS
+      -- The run entries, by the tree of the definition,
+      entries-as : E ≡ entriesIn feed favoured (f .cost % base) told-runs (length (runsOf feed))
+      entries-as = rw (w .count, w .runs) at eE
 
-        -- Too little room is refused ..
-        pub wire-room : room < S .count → turnedAway RoomTooSmall ≡ wiringFavouring favoured feed room
-        wire-room l = room-refused feed full ok free favoured t w f found-as E entries-as S strip-as room l
+      -- and the legs.
+      strip-as : S ≡ strip (legsOfEntries feed (take (length (runsOf feed)) E))
+      strip-as = rw (w .count) at eS
 
-        -- .. and otherwise this is the answer.
-        pub wire-answer : S .count ≤ room
-            → record {
-              wiring = record { verdict = Accepted; length = f .cost / base; runs = t .count; entries = E; legs = S .count; weighed = f .weighed };
-              list = S .list;
-            } ≡ wiringFavouring favoured feed room
-        wire-answer l = rw (w .count) (answer-is feed full ok free favoured t w f found-as E entries-as S strip-as room l)
+      -- Too little room is refused ..
+      pub wire-room : room < S .count → turnedAway RoomTooSmall ≡ wiringFavouring favoured feed room
+      wire-room l = room-refused feed full ok free favoured t w f found-as E entries-as S strip-as room l
+
+      -- .. and otherwise this is the answer.
+      pub wire-answer : S .count ≤ room
+          → record {
+            wiring = record { verdict = Accepted; length = f .cost / base; runs = t .count; entries = E; legs = S .count; weighed = f .weighed };
+            list = S .list;
+          } ≡ wiringFavouring favoured feed room
+      wire-answer l = rw (w .count) (answer-is feed full ok free favoured t w f found-as E entries-as S strip-as room l)

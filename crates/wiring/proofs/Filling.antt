@@ -2,42 +2,47 @@
 use mathlib.Core.Path.{_≡_, refl, sym, ap, ap₂, _∙_}
 use mathlib.Core.Bool.{Bool, true, false, not}
 use mathlib.Core.List.{List, [], _∷_, _++_, append-assoc, append-nil}
-use Prim.Native.Nat.{ℕ, zero, suc, _+_, _-_, _/_, _%_, _≤_, _<_}
+use Prim.Native.Nat.{ℕ, suc, _+_, _/_, _%_, _≤_, _<_}
 use native.Mathlib.Numerals.{add-one}
 use native.Mathlib.Omega.{arith}
 use lib.Dec.{eqb}
-use lib.ListN.{length, getD, set, take, drop, replicate, length-append}
-use lib.Seq.{append-snoc}
-use borrow.Author.Tests.{eq-eqb, ne-eqb}
+use lib.ListN.{length, getD, set, take, replicate, length-append, length-set}
+use lib.Seq.{append-snoc, getD-set-same, getD-set-other}
+use borrow.Author.Tests.{eqb-true, eqb-false}
 use Rattle.basics.specs.Tests.{choose}
-use Rattle.basics.specs.Lists.{valuesFrom}
-use Rattle.basics.proofs.Lists.{front-of, none-left, first-more, padded-more, values-long, value-more}
+use Rattle.basics.specs.Lists.{padded, valuesFrom}
+use Rattle.basics.proofs.Lists.{blank-at, first-more, padded-more, values-long, value-more}
 use Rattle.board.specs.declared.Place.{Place}
 use Rattle.board.specs.declared.Spot.{Spot}
 use Rattle.tree.specs.declared.Run.{Run}
-use Rattle.board.specs.Spots.{placeAt}
+use Rattle.board.specs.Spots.{mostPins, placeAt}
 use Rattle.least.specs.Asking.{markAt}
-use Rattle.tree.specs.Growth.{run}
 use Rattle.tree.specs.Trees.{mostRuns}
-use Rattle.tree.specs.Reached.{runAt, reachedPin, reachedFrom}
+use Rattle.tree.specs.Reached.{runAt, reachedPin, reachedPlace}
 use Rattle.copper.specs.declared.Shape.{Shape}
 use Rattle.copper.specs.declared.Shape.the-variants.{Straight, Lower, Upper}
 use Rattle.copper.specs.declared.Leg.{Leg}
 use Rattle.copper.specs.Shapes.{firstLeg, secondLeg, legCount, legsOf}
 use Rattle.wiring.specs.declared.RunEntry.{RunEntry}
 use Rattle.wiring.specs.Answer.{noRun, mostLegs, noLeg, runEntries, legEntries}
-use Rattle.wiring.specs.Reaching.{upperIn, shapedIn, entriesIn, legsOfEntry, legsOfEntries, strip}
+use Rattle.wiring.specs.Reaching.{reachedAs, nearsOf, Numbered, upperIn, shapedRun, shapedIn, entriesIn, legsOfEntry, legsOfEntries, strip}
 
 -- ---- entries before blanks
--- An entry put after the last takes the place of a blank, among run entries ..
-pub entry-more : (l : List RunEntry) (x : RunEntry) → length l < mostRuns → set (runEntries l) (length l) x ≡ runEntries (l ++ (x ∷ []))
-unfolding runEntries
-entry-more l x h = padded-more mostRuns noRun l x h
-
--- .. and among legs.
+-- A leg put after the last takes the place of a blank.
 leg-more : (l : List Leg) (x : Leg) → length l < mostLegs → set (legEntries l) (length l) x ≡ legEntries (l ++ (x ∷ []))
 unfolding legEntries
 leg-more l x h = padded-more mostLegs noLeg l x h
+
+-- Values stored one after the other over blanks: one more.
+pub values-next : {A : Type 0} (n : ℕ) (d : A) (f : ℕ → A) (o : List A) (i : ℕ) (x : A) → i < n → o ≡ padded n d (valuesFrom f 0 i) → x ≡ f i
+    → set o i x ≡ padded n d (valuesFrom f 0 (i + 1))
+values-next n d f o i x h e g =
+    let l : List _ = valuesFrom f 0 i in
+    let m : length l ≡ i = values-long f 0 i in
+    ap₂ (λ (a : List _) (y : _). set a i y) e g
+    ∙ ap (λ (k : ℕ). set (padded n d l) k (f i)) (sym m)
+    ∙ padded-more n d l (f i) (let z : length l < n = omega arith in z)
+    ∙ ap (padded n d) (sym (value-more f i))
 
 -- The run entries that a mask gives, one after the other.
 module _ (feed : List Spot) (favoured : Bool) (mask : ℕ) (runs : List Run) where
@@ -47,16 +52,11 @@ module _ (feed : List Spot) (favoured : Bool) (mask : ℕ) (runs : List Run) whe
   entries-none e = ap (replicate mostRuns) e
 
   -- one more,
-  pub entries-turn : (entries : List RunEntry) (i : ℕ) (x : RunEntry) → i < mostRuns → entries ≡ runEntries (valuesFrom (shapedIn feed favoured mask runs) 0 i)
-      → x ≡ shapedIn feed favoured mask runs i → set entries i x ≡ runEntries (valuesFrom (shapedIn feed favoured mask runs) 0 (i + 1))
-  entries-turn entries i x h e g =
-      let f : ℕ → RunEntry = shapedIn feed favoured mask runs in
-      let l : List RunEntry = valuesFrom f 0 i in
-      let n : length l ≡ i = values-long f 0 i in
-      ap₂ (λ (a : List RunEntry) (y : RunEntry). set a i y) e g
-      ∙ ap (λ (k : ℕ). set (runEntries l) k (f i)) (sym n)
-      ∙ entry-more l (f i) (let z : length l < mostRuns = omega arith in z)
-      ∙ ap runEntries (sym (value-more f i))
+  pub entries-turn : (entries : List RunEntry) (i : ℕ) (upper : Bool) (x : RunEntry) → i < mostRuns
+      → entries ≡ runEntries (valuesFrom (shapedIn feed favoured mask runs) 0 i) → upper ≡ upperIn favoured mask i → x ≡ shapedRun feed (runAt runs i) upper
+      → set entries i x ≡ runEntries (valuesFrom (shapedIn feed favoured mask runs) 0 (i + 1))
+  unfolding runEntries shapedIn
+  entries-turn entries i upper x h e u g = values-next mostRuns noRun (shapedIn feed favoured mask runs) entries i x h e (rw u at g)
 
   -- and all.
   pub entries-all : (entries : List RunEntry) (i count : ℕ) → count ≤ i → i ≤ count → entries ≡ runEntries (valuesFrom (shapedIn feed favoured mask runs) 0 i)
@@ -64,19 +64,76 @@ module _ (feed : List Spot) (favoured : Bool) (mask : ℕ) (runs : List Run) whe
   unfolding entriesIn
   entries-all entries i count h k g = let e : i ≡ count = omega arith in rw (← e) g
 
+-- ---- the pins as they are reached
+-- The near pin of the first run is reached first,
+pub first-place : (feed : List Spot) (runs : List Run) {p : Place} → p ≡ placeAt feed (runAt runs 0 .near) → p ≡ reachedPlace feed runs 0
+unfolding reachedPin
+first-place feed runs e = e
+
+-- and run r reaches its far pin as number r + 1.
+pub next-place : (feed : List Spot) (runs : List Run) (r : ℕ) {p : Place} → p ≡ placeAt feed (runAt runs r .far) → p ≡ reachedPlace feed runs (r + 1)
+unfolding reachedPin
+next-place feed runs r e = rw (add-one r) e
+
+-- An entry for each pin: the number as which it is reached by the first k runs.
+pub record Told (runs : List Run) (order : List ℕ) (k : ℕ) : Type 0 where
+  pub long : length order ≡ mostPins
+  pub is : (pin : ℕ) → pin < mostPins → getD order pin 0 ≡ reachedAs runs k pin
+
+-- So far in one pass over the runs: the numbers of the near pins of the first k, and of all pins.
+pub record Numbering (runs : List Run) (count : ℕ) (order nears : List ℕ) (k : ℕ) : Type 0 where
+  pub in-range : Numbered runs count
+  pub to : k ≤ count
+  pub told : Told runs order k
+  pub are : nears ≡ padded mostRuns 0 (valuesFrom (λ r. reachedAs runs r (runAt runs r .near)) 0 k)
+
+module _ (runs : List Run) (count : ℕ) where
+  -- No pin is reached yet.
+  pub numbering-none : Numbered runs count → Numbering runs count (replicate mostPins 0) (replicate mostRuns 0) 0
+  unfolding reachedAs valuesFrom
+  numbering-none n = record { in-range = n; to = omega arith; told = record { long = refl; is = λ pin h. blank-at {A = ℕ} mostPins pin 0 }; are = refl }
+
+  module _ (order nears : List ℕ) (k : ℕ) (s : Numbering runs count order nears k) (h : k < count) where
+    -- The far pin of the next run has its entry.
+    far-entry : runAt runs k .far < length order
+    far-entry = omega (arith, s .told .long, s .in-range .far k h)
+
+    -- Its far pin is reached as the next number.
+    told-turn : Told runs (set order (runAt runs k .far) (k + 1)) (k + 1)
+    told-turn =
+        record {
+          long = length-set order (runAt runs k .far) (k + 1) ∙ s .told .long;
+          is = λ pin l. rw (add-one k) (go pin l (eqb (runAt runs k .far) pin) refl);
+        }
+      where
+        f : ℕ
+        f = runAt runs k .far
+
+        go : (pin : ℕ) → pin < mostPins → (b : Bool) → eqb f pin ≡ b → getD (set order f (suc k)) pin 0 ≡ reachedAs runs (suc k) pin
+        go pin l true q =
+            unfold reachedAs choose in
+            rw (q, sym (eqb-true f pin q)) (getD-set-same order f (suc k) 0 far-entry)
+        go pin l false q =
+            unfold reachedAs choose in
+            rw q (getD-set-other order f pin (suc k) 0 (λ e. eqb-false f pin q (sym e)) ∙ s .told .is pin l)
+
+    -- One run more.
+    pub numbering-turn : Numbering runs count (set order (runAt runs k .far) (k + 1)) (set nears k (getD order (runAt runs k .near) 0)) (k + 1)
+    numbering-turn =
+        record {
+          in-range = s .in-range;
+          to = omega arith;
+          told = told-turn;
+          are = values-next mostRuns 0 (λ r. reachedAs runs r (runAt runs r .near)) nears k _ (omega (arith, s .in-range .few)) (s .are)
+              (s .told .is (runAt runs k .near) (s .in-range .near k h));
+        }
+
+  -- All runs.
+  pub numbering-all : (order nears : List ℕ) (k : ℕ) → Numbering runs count order nears k → count ≤ k → nears ≡ nearsOf runs count
+  unfolding nearsOf
+  numbering-all order nears k s h = let e : k ≡ count = omega (arith, s .to) in rw (← e) (s .are)
+
 -- ---- the small functions
--- The pin that is reached as number 0 is the near pin of the first run.
-pub reached-first : (runs : List Run) (i : ℕ) → i ≡ 0 → runAt runs 0 .near ≡ reachedPin runs i
-unfolding reachedPin
-reached-first runs zero e = refl
-reached-first runs (suc r) e = absurd (omega arith)
-
--- Any other is the far pin of the run before it in number.
-pub reached-later : (runs : List Run) (i : ℕ) → (i ≡ 0 → ⊥) → runAt runs (i - 1) .far ≡ reachedPin runs i
-unfolding reachedPin
-reached-later runs zero n = absurd (n refl)
-reached-later runs (suc r) n = ap (λ (k : ℕ). runAt runs k .far) (let z : suc r - 1 ≡ r = omega arith in z)
-
 -- A run that is marked has the other shape ..
 pub upper-marked : (favoured : Bool) (mask r : ℕ) → eqb (mask / markAt r % 2) 1 ≡ true → not favoured ≡ upperIn favoured mask r
 unfolding upperIn
@@ -86,23 +143,6 @@ upper-marked favoured mask r e = rw e
 pub upper-unmarked : (favoured : Bool) (mask r : ℕ) → eqb (mask / markAt r % 2) 1 ≡ false → favoured ≡ upperIn favoured mask r
 unfolding upperIn
 upper-unmarked favoured mask r e = rw e
-
--- The search for the run that reaches a pin, from run i on.
-module _ (runs : List Run) (count pin i : ℕ) (long : length runs ≡ mostRuns) (few : count ≤ mostRuns) where
-  -- It is found at run i,
-  pub search-hit : i < count → runAt runs i .far ≡ pin → i + 1 ≡ reachedFrom i (drop i (take count runs)) pin
-  unfolding reachedFrom choose
-  search-hit h e = rw (front-of (run 0 0) runs count i (omega arith) h, eq-eqb (runAt runs i .far) pin e) (add-one i)
-
-  -- or among those after it,
-  pub search-miss : i < count → (runAt runs i .far ≡ pin → ⊥) → reachedFrom i (drop i (take count runs)) pin ≡ reachedFrom (i + 1) (drop (i + 1) (take count runs)) pin
-  unfolding reachedFrom choose
-  search-miss h e = rw (front-of (run 0 0) runs count i (omega arith) h, ne-eqb (runAt runs i .far) pin e, add-one)
-
-  -- or nowhere.
-  pub search-end : count ≤ i → 0 ≡ reachedFrom i (drop i (take count runs)) pin
-  unfolding reachedFrom
-  search-end h = rw (none-left runs count i h)
 
 -- A straight run puts one leg after those that are there.
 one-more : (old : List Leg) (shape : Shape) (near far : Place) (n : ℕ) → n ≡ legCount shape → (n ≡ 2 → ⊥) → length old < mostLegs

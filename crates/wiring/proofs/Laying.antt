@@ -1,15 +1,17 @@
 -- The runs of a feed, by when their pins are reached, are laid as the length asks. From pins that stand on the board, no two of them too near,
 -- and a search that found no boxes that meet.
 use mathlib.Core.Path.{_≡_, refl, sym, ap, _∙_}
-use mathlib.Core.Bool.{true, false}
+use mathlib.Core.Bool.{Bool, true, false}
 use mathlib.Core.List.{List, _∷_}
 use mathlib.Core.Logic.{_⊎_, inl, inr}
-use Prim.Native.Nat.{ℕ, suc, _+_, _≤_, _<_}
+use Prim.Native.Nat.{ℕ, zero, suc, _+_, _≤_, _<_}
 use native.Mathlib.Omega.{arith}
 use lib.IntN.{ℤ}
+use lib.Dec.{eqb}
 use lib.ListN.{length, getD}
-use borrow.Author.Tests.{eq-eqb, eqb-true, lt-ltb}
-use Rattle.basics.proofs.Tests.{opposite, both-of, both-left, both-right}
+use borrow.Author.Tests.{eq-eqb, eqb-true, eqb-false, lt-ltb}
+use Rattle.basics.specs.Tests.{choose}
+use Rattle.basics.proofs.Tests.{opposite, both-of, both-left, both-right, choose-yes, choose-no}
 use Rattle.board.specs.declared.Place.{Place}
 use Rattle.board.specs.declared.Spot.{Spot}
 use Rattle.board.specs.declared.Spot.the-variants.{Absent, At}
@@ -21,13 +23,14 @@ use Rattle.board.specs.Spots.{mostPins, present, placeOf, spotAt, placeAt, spot
 use Rattle.board.proofs.Rules.{apart-pair}
 use Rattle.tree.specs.Growth.{pinsOf, runsOf}
 use Rattle.tree.specs.Boxes.{boxesMeet}
-use Rattle.tree.specs.Reached.{runAt, reachedNear, reachedPlace}
+use Rattle.tree.specs.Reached.{runAt, reachedPin, reachedNear, reachedPlace}
 use Rattle.tree.proofs.Membership.{Among, pins-there}
 use Rattle.tree.proofs.Listing.{Rooted, pins-low, runs-rooted}
-use Rattle.tree.proofs.Positions.{near-before, near-pin, far-pin}
+use Rattle.tree.proofs.Positions.{near-before, near-pin, far-pin, pin-there, reached-once}
 use Rattle.tree.proofs.Numbering.{stands}
 use Rattle.least.proofs.Laid.{Spaced}
 use Rattle.least.proofs.Planted.{planted}
+use Rattle.wiring.specs.Reaching.{reachedAs}
 
 -- Two numbers that are the same differ by less than the least gap.
 same-closer : (a b : ℤ) → sameNumber a b ≡ true → closer a b ≡ true
@@ -89,6 +92,51 @@ module _ (feed : List Spot) (full : length feed ≡ mostPins) (ok : allWithin fe
   -- Near pins are reached first.
   pub grown : (r : ℕ) → r < n → near r ≤ r
   grown = near-before f left runs root
+
+  -- The pins that are reached are numbered from 0 to 31,
+  low : (i : ℕ) → 0 < n → i < suc n → reachedPin runs i < mostPins
+  low i l h = pins-low feed full ok f left e (reachedPin runs i) (pin-there f left runs root i l h)
+
+  -- and so are near pins
+  pub near-low : (r : ℕ) → r < n → runAt runs r .near < mostPins
+  near-low r l = rw (sym (near-pin f left runs root r l)) (low (near r) (omega arith) (omega (arith, grown r l)))
+
+  -- and far pins.
+  pub far-low : (r : ℕ) → r < n → runAt runs r .far < mostPins
+  far-low r l = rw (sym (far-pin f left runs root r)) (low (suc r) (omega arith) (omega arith))
+
+  module _ (r : ℕ) (l : r < n) where
+    abbrev pin : ℕ
+    pin = runAt runs r .near
+
+    -- A run before run r that reaches its near pin reaches it as its number.
+    hit : (k : ℕ) → k < r → runAt runs k .far ≡ pin → suc k ≡ near r
+    hit k h q =
+        reached-once f left runs root (suc k) (near r) (omega arith) (omega (arith, grown r l))
+        (far-pin f left runs root k ∙ q ∙ sym (near-pin f left runs root r l))
+
+    -- The first k runs tell that number once they reach the pin, and 0 before.
+    told-by : (k : ℕ) → k ≤ r → (near r ≤ k → reachedAs runs k pin ≡ near r) × (k < near r → reachedAs runs k pin ≡ 0)
+    unfolding reachedAs
+    told-by zero h = (λ m. omega arith, λ m. refl)
+    told-by (suc k) h = go (eqb (runAt runs k .far) pin) refl (told-by k (omega arith))
+      where
+        past : (runAt runs k .far ≡ pin → ⊥) → near r ≡ suc k → ⊥
+        past q s = q (sym (far-pin f left runs root k) ∙ ap (reachedPin runs) (sym s) ∙ near-pin f left runs root r l)
+
+        go : (b : Bool) → eqb (runAt runs k .far) pin ≡ b → (near r ≤ k → reachedAs runs k pin ≡ near r) × (k < near r → reachedAs runs k pin ≡ 0)
+            → (near r ≤ suc k → choose b (suc k) (reachedAs runs k pin) ≡ near r) × (suc k < near r → choose b (suc k) (reachedAs runs k pin) ≡ 0)
+        go true q before =
+            let s : suc k ≡ near r = hit k (omega arith) (eqb-true (runAt runs k .far) pin q) in
+            (λ m. choose-yes (suc k) (reachedAs runs k pin) refl ∙ s, λ m. absurd (omega arith))
+        go false q before =
+            let ne : near r ≡ suc k → ⊥ = past (eqb-false (runAt runs k .far) pin q) in
+            let none = choose-no (suc k) (reachedAs runs k pin) refl in
+            (λ m. none ∙ before .0 (omega (arith, ne)), λ m. none ∙ before .1 (omega arith))
+
+    -- So the runs before run r tell the number as which its near pin is reached.
+    pub near-told : reachedAs runs r pin ≡ near r
+    near-told = told-by r (omega arith) .0 (grown r l)
 
   module _ (free : allApart feed ≡ true) where
     -- The pins that are listed are there.

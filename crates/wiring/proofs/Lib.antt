@@ -8,3 +8,5 @@ pub mod Filling
 pub mod Answering
 pub mod Refusing
 pub mod Shortest
+pub mod Lines
+pub mod Demand

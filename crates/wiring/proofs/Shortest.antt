@@ -12,6 +12,7 @@ use borrow.Author.Tests.{ltb-true, ltb-false}
 use Rattle.basics.specs.Tests.{choose}
 use Rattle.basics.proofs.Lists.{padded-first}
 use Rattle.refusal.specs.Refusals.{accepted}
+use Rattle.refusal.specs.Rows.{firstOf}
 use Rattle.refusal.specs.declared.Verdict.{Verdict}
 use Rattle.board.specs.declared.Spot.{Spot}
 use Rattle.tree.specs.declared.Run.{Run}
@@ -24,18 +25,11 @@ use Rattle.copper.specs.declared.Leg.{Leg}
 use Rattle.copper.specs.Length.{stepsOfAll, different, lengthOf}
 use Rattle.wiring.specs.declared.Laid.{Laid}
 use Rattle.wiring.specs.Choices.{choicesOf, legsOfChoice, lengthOfChoice, shortest, shortestOf, bestChoice}
-use Rattle.wiring.specs.Answer.{mostLegs, noLeg, legEntries, turnedAway, answerWith, wiringVerdict, wiringWith, wiringFavouring}
+use Rattle.wiring.specs.Answer.{mostLegs, noLeg, legEntries, turnedAway, answerWith, wiringRows, wiringWith, wiringFavouring}
 use Rattle.wiring.specs.Reaching.{shapesBy}
+use Rattle.wiring.specs.Demand.{First}
 use Rattle.wiring.proofs.Ordered.{told-choice}
 use Rattle.wiring.proofs.Weighed.{weighed-most}
-
--- One of some choices that is no longer than any, and shorter than those before it.
-pub record First (long : List Shape → ℕ) (choices : List (List Shape)) (best : List Shape) : Type 0 where
-  pub before : List (List Shape)
-  pub after : List (List Shape)
-  pub listed : choices ≡ before ++ (best ∷ after)
-  pub longer : (c : List Shape) → Among c before → long best < long c
-  pub as-long : (c : List Shape) → Among c after → long best ≤ long c
 
 module _ (feed : List Spot) (runs : List Run) where
   abbrev long : List Shape → ℕ
@@ -128,7 +122,7 @@ pub length-of-legs : (favoured : Bool) (feed : List Spot) (room : ℕ)
 unfolding wiringFavouring wiringWith
 length-of-legs favoured feed room =
     let shapes = bestChoice favoured feed (runsOf feed) in
-    let v = wiringVerdict feed shapes room in
+    let v = firstOf (wiringRows feed shapes room) in
     either-way (λ (l : Laid). l .wiring .length ≡ lengthOf (take (l .wiring .legs) (l .list))) (accepted v)
     (answerWith feed shapes) (turnedAway v) (of-answer shapes) (of-none v)
   where
@@ -145,7 +139,7 @@ pub weighed-few : (favoured : Bool) (feed : List Spot) (room : ℕ) → length f
 unfolding wiringFavouring wiringWith
 weighed-few favoured feed room full ok =
     let shapes = bestChoice favoured feed (runsOf feed) in
-    let v = wiringVerdict feed shapes room in
+    let v = firstOf (wiringRows feed shapes room) in
     either-way (λ (l : Laid). l .wiring .weighed ≤ 64 * length (pinsOf feed)) (accepted v)
     (answerWith feed shapes) (turnedAway v) (of-answer shapes) (of-none v)
   where

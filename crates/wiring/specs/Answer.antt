@@ -1,19 +1,20 @@
 -- The wiring of a feed: its refusals and its answer, with the legs.
 use mathlib.Core.Bool.{Bool, false}
-use mathlib.Core.List.{List, [], _∷_}
-use Prim.Native.Nat.{ℕ}
+use mathlib.Core.List.{List, [], _∷_, _++_}
+use Prim.Native.Nat.{ℕ, _*_}
 use lib.Dec.{ltb}
 use lib.ListN.{length}
 use Rattle.basics.specs.Tests.{choose}
 use Rattle.basics.specs.Lists.{padded}
-use Rattle.refusal.specs.Refusals.{accepted, turn}
+use Rattle.refusal.specs.Refusals.{accepted}
+use Rattle.refusal.specs.Rows.{Row, given, firstOf}
 use Rattle.refusal.specs.declared.Verdict.{Verdict}
 use Rattle.refusal.specs.declared.Verdict.the-variants.{Accepted, RoomTooSmall}
 use Rattle.board.specs.Place.{middle}
 use Rattle.board.specs.declared.Spot.{Spot}
 use Rattle.tree.specs.declared.Run.{Run}
 use Rattle.tree.specs.Growth.{pinsOf, runsOf}
-use Rattle.tree.specs.Trees.{mostRuns, treeVerdict}
+use Rattle.tree.specs.Trees.{mostRuns, treeRows}
 use Rattle.copper.specs.declared.Shape.{Shape}
 use Rattle.copper.specs.declared.Shape.the-variants.{Straight}
 use Rattle.copper.specs.declared.Leg.{Leg}
@@ -31,7 +32,7 @@ noRun = runEntry 0 0 Straight
 
 -- The most legs that a board has: 31 runs of two legs each.
 abbrev pub mostLegs : ℕ
-mostLegs = 62
+mostLegs = 2 * mostRuns
 
 -- A leg that is not filled.
 abbrev pub noLeg : Leg
@@ -70,15 +71,14 @@ answerWith feed shapes =
     laidWith Accepted (lengthOfChoice feed runs shapes) (shapedRuns runs shapes) (weighedOf feed runs (pinsOf feed)) (legsOfChoice feed runs shapes)
 
 -- Wiring: 17 and 18, which are the tree's, then 19: lent room smaller than needed.
-unfoldable pub wiringVerdict : List Spot → List Shape → ℕ → Verdict
-wiringVerdict feed shapes room =
-    treeVerdict feed
-    (turn (ltb room (length (legsOfChoice feed (runsOf feed) shapes))) RoomTooSmall Accepted)
+abbrev pub wiringRows : List Spot → List Shape → ℕ → List Row
+wiringRows feed shapes room = treeRows feed ++ (given (ltb room (length (legsOfChoice feed (runsOf feed) shapes))) RoomTooSmall ∷ [])
 
 -- The wiring of a feed whose runs take these shapes, with room for so many legs.
 unfoldable pub wiringWith : List Spot → List Shape → ℕ → Laid
 wiringWith feed shapes room =
-    choose (accepted (wiringVerdict feed shapes room)) (answerWith feed shapes) (turnedAway (wiringVerdict feed shapes room))
+    let verdict : Verdict = firstOf (wiringRows feed shapes room) in
+    choose (accepted verdict) (answerWith feed shapes) (turnedAway verdict)
 
 -- The wiring of a feed where one shape is favoured, false for lower and true for upper.
 unfoldable pub wiringFavouring : Bool → List Spot → ℕ → Laid
@@ -87,3 +87,7 @@ wiringFavouring favoured feed room = wiringWith feed (bestChoice favoured feed (
 -- The wiring of a feed, lower before upper.
 unfoldable pub wiringOf : List Spot → ℕ → Laid
 wiringOf = wiringFavouring false
+
+-- Its rows.
+abbrev pub feedRows : List Spot → ℕ → List Row
+feedRows feed room = wiringRows feed (bestChoice false feed (runsOf feed)) room

@@ -1,4 +1,5 @@
 -- What the words of wiring mean.
 pub mod Choices
 pub mod Answer
+pub mod Demand
 pub mod Reaching

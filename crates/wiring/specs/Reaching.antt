@@ -1,20 +1,20 @@
 -- How the best shapes are found: the pins as they are reached, and the shapes that a mask holds. No entry point's promise rests on these.
 use mathlib.Core.Bool.{Bool}
 use mathlib.Core.List.{List, [], _∷_, _++_}
-use Prim.Native.Nat.{ℕ, suc, _/_, _%_}
+use Prim.Native.Nat.{ℕ, zero, suc, _/_, _%_, _≤_, _<_}
 use lib.IntN.{ℤ}
 use lib.Dec.{eqb}
-use lib.ListN.{length, take}
-use Rattle.basics.specs.Lists.{valuesFrom}
+use lib.ListN.{length}
+use Rattle.basics.specs.Tests.{choose}
+use Rattle.basics.specs.Lists.{padded, valuesFrom}
 use Rattle.board.specs.declared.Spot.{Spot}
 use Rattle.tree.specs.declared.Run.{Run}
 use Rattle.board.specs.Spots.{mostPins, placeAt}
-use Rattle.tree.specs.Reached.{runAt, reachedPlace, reachedFrom}
+use Rattle.tree.specs.Reached.{runAt, reachedPlace}
 use Rattle.tree.specs.Trees.{mostRuns}
 use Rattle.copper.specs.declared.Shape.{Shape}
 use Rattle.copper.specs.declared.Leg.{Leg}
 use Rattle.copper.specs.Shapes.{shapeOf, legsOf}
-use Rattle.least.specs.declared.Reached.{Reached}
 use Rattle.least.specs.Asking.{differs, markAt}
 use Rattle.wiring.specs.declared.RunEntry.{RunEntry}
 use Rattle.wiring.specs.declared.Strip.{Strip}
@@ -29,23 +29,32 @@ xsOf feed runs = valuesFrom (λ i. reachedPlace feed runs i .x) 0 mostPins
 unfoldable pub ysOf : List Spot → List Run → List ℤ
 ysOf feed runs = valuesFrom (λ i. reachedPlace feed runs i .y) 0 mostPins
 
--- The numbers as which the near pins of the runs are reached; only the first runs are looked at.
-unfoldable pub nearsOf : List Run → ℕ → List ℕ
-nearsOf runs count = valuesFrom (λ r. reachedFrom 0 (take count runs) (runAt runs r .near)) 0 mostRuns
+-- The number as which a pin is reached by the first k runs: that of the last of them that reaches it; 0 where none does.
+unfoldable pub reachedAs : List Run → ℕ → ℕ → ℕ
+reachedAs runs zero pin = 0
+reachedAs runs (suc k) pin = choose (eqb (runAt runs k .far) pin) (suc k) (reachedAs runs k pin)
 
--- The tree as it is reached, with the shape that is favoured.
-unfoldable pub reachedOf : List Spot → List Run → ℕ → Bool → Reached
-reachedOf feed runs count favoured =
-    record { xs = xsOf feed runs; ys = ysOf feed runs; near = nearsOf runs count; count = count; favoured = favoured }
+-- The numbers as which the near pins of the first runs are reached, each by the runs before its own; 0 after these.
+unfoldable pub nearsOf : List Run → ℕ → List ℕ
+nearsOf runs count = padded mostRuns 0 (valuesFrom (λ r. reachedAs runs r (runAt runs r .near)) 0 count)
+
+-- At most 31 runs between pins from 0 to 31.
+pub record Numbered (runs : List Run) (count : ℕ) : Type 0 where
+  pub few : count ≤ mostRuns
+  pub near : (r : ℕ) → r < count → runAt runs r .near < mostPins
+  pub far : (r : ℕ) → r < count → runAt runs r .far < mostPins
 
 -- The shape of run r in a mask is the other than the favoured where its mark is there.
 unfoldable pub upperIn : Bool → ℕ → ℕ → Bool
 upperIn favoured mask r = differs (eqb (mask / markAt r % 2) 1) favoured
 
+-- A run with its shape, where `upper` says how it bends if it does.
+unfoldable pub shapedRun : List Spot → Run → Bool → RunEntry
+shapedRun feed r upper = runEntry (r .near) (r .far) (shapeOf upper (nearEnd feed r) (farEnd feed r))
+
 -- A run with the shape that a mask gives it.
 unfoldable pub shapedIn : List Spot → Bool → ℕ → List Run → ℕ → RunEntry
-shapedIn feed favoured mask runs r =
-    runEntry (runAt runs r .near) (runAt runs r .far) (shapeOf (upperIn favoured mask r) (nearEnd feed (runAt runs r)) (farEnd feed (runAt runs r)))
+shapedIn feed favoured mask runs r = shapedRun feed (runAt runs r) (upperIn favoured mask r)
 
 -- The run entries that a mask gives.
 unfoldable pub entriesIn : List Spot → Bool → ℕ → List Run → ℕ → List RunEntry

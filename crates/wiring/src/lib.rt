@@ -1,25 +1,24 @@
 // Wiring: the best shapes of the runs, the answer with its legs, and the choices weighed.
 use board::PINS;
-use board::Place;
-use board::Spot;
+use board::spots;
 use copper::Leg;
 use copper::Shape;
-use least::Reached;
+use least::Least;
 use refusal::Verdict;
 use tree::RUNS;
 use tree::Run;
 ghost use mathlib.Core.Path.{_≡_};
 ghost use mathlib.Core.Bool.{true, false};
-ghost use Prim.Native.Nat.{_+_, _≤_, _<_};
+ghost use Prim.Native.Nat.{_≤_, _<_};
 ghost use lib.ListN.{take};
-ghost use Rattle.board.specs.Spots.{mostPins, allWithin, allApart};
+ghost use Rattle.board.specs.Spots.{placeIn, spotsFrom, allWithin, allApart};
 ghost use Rattle.tree.specs.Trees.{mostRuns};
-ghost use Rattle.tree.specs.Reached.{reachedPin, reachedPlace, reachedFrom};
+ghost use Rattle.least.specs.Asking.{nearPin, leastOfTree, Grown};
 ghost use Rattle.wiring.specs.Answer.{noRun, noLeg, turnedAway, wiringFavouring, wiringOf};
-ghost use Rattle.wiring.specs.Reaching.{reachedOf, nearsOf, upperIn, shapedIn, entriesIn, legsOfEntries, strip};
+ghost use Rattle.wiring.specs.Reaching.{xsOf, ysOf, nearsOf, Numbered, upperIn, shapedRun, entriesIn, legsOfEntries, strip};
 
 // The most legs that a board has: 31 runs of two legs each.
-pub const LEGS: usize = 62;
+pub const LEGS: usize = 2 * RUNS;
 
 // A run entry of the answer: near, far, shape.
 pub struct RunEntry {
@@ -72,83 +71,57 @@ fn no_leg() -> Leg
     }
 }
 
-// The pin that is reached as number `i`.
-fn reached_pin(runs: [Run; RUNS], i: usize) -> usize
-    requires { ⌜ i < mostPins ⌝ }
-    ensures { λ r. ⌜ r ≡ reachedPin runs i ⌝ }
+// The numbers as which the near pins of the runs are reached: each by the runs before its own.
+fn nears_of(runs: [Run; RUNS], count: usize) -> [usize; RUNS]
+    requires { ⌜ Numbered runs count ⌝ }
+    ensures { λ r. ⌜ r ≡ nearsOf runs count ⌝ }
 {
-    if i == 0 {
-        let run = runs[0];
-        return run.near;
-    }
-    let run = runs[i - 1];
-    run.far
-}
-
-// Where it stands.
-fn reached_place(feed: [Spot; PINS], runs: [Run; RUNS], i: usize) -> Place
-    requires { ⌜ i < mostPins ⌝ }
-    ensures { λ r. ⌜ r ≡ reachedPlace feed runs i ⌝ }
-{
-    let pin = reached_pin(runs, i);
-    board::place_at(feed, pin)
-}
-
-// The number as which a pin is reached by the first runs; 0 where none of them reaches it.
-fn reached_as(runs: [Run; RUNS], count: usize, pin: usize) -> usize
-    requires { ⌜ count ≤ mostRuns ⌝ }
-    ensures { λ r. ⌜ r ≡ reachedFrom 0 (take count runs) pin ⌝ }
-{
+    let mut order = [0usize; PINS];
+    let mut nears = [0usize; RUNS];
     let mut at = 0;
     while at < count {
         let run = runs[at];
-        if run.far == pin {
-            return at + 1;
-        }
+        let near = run.near;
+        let far = run.far;
+        nears[at] = order[near];
         at += 1;
-    }
-    0
-}
-
-// The numbers as which the near pins of the runs are reached.
-fn nears_of(runs: [Run; RUNS], count: usize) -> [usize; RUNS]
-    requires { ⌜ count ≤ mostRuns ⌝ }
-    ensures { λ r. ⌜ r ≡ nearsOf runs count ⌝ }
-{
-    let mut nears = [0; RUNS];
-    let mut at = 0;
-    while at < RUNS {
-        let run = runs[at];
-        nears[at] = reached_as(runs, count, run.near);
-        at += 1;
+        order[far] = at;
     }
     nears
 }
 
-// The tree as it is reached, with the shape that is favoured.
-fn reached_of(feed: [Spot; PINS], runs: [Run; RUNS], count: usize, favoured: bool) -> Reached
-    requires { ⌜ count ≤ mostRuns ⌝ }
-    ensures { λ r. ⌜ r ≡ reachedOf feed runs count favoured ⌝ }
+// What the best shapes of the runs cost, and the choices weighed: least costs are asked of the pins in the order in which they are reached.
+fn best_cost(
+    xs: &[i32; PINS],
+    ys: &[i32; PINS],
+    there: &[bool; PINS],
+    runs: [Run; RUNS],
+    count: usize,
+    favoured: bool,
+) -> Least
+    requires { ⌜ (Numbered runs count) × (Grown (xsOf (spotsFrom (now xs) (now ys) (now there)) runs) (ysOf (spotsFrom (now xs) (now ys) (now there)) runs) (nearsOf runs count) count) ⌝ }
+    ensures { λ r. ⌜ r ≡ leastOfTree (placeIn (xsOf (spotsFrom (now (xs .entry)) (now (ys .entry)) (now (there .entry))) runs) (ysOf (spotsFrom (now (xs .entry)) (now (ys .entry)) (now (there .entry))) runs)) (nearPin (nearsOf runs count)) favoured count ⌝ }
 {
-    let mut xs = [0; PINS];
-    let mut ys = [0; PINS];
-    let mut i = 0;
-    while i < PINS {
-        let place = reached_place(feed, runs, i);
+    let mut across = [0i32; PINS];
+    let mut up = [0i32; PINS];
+    let first = runs[0];
+    let start = spots::place_at(xs, ys, there, first.near);
+    let x = start.x;
+    let y = start.y;
+    across[0] = x;
+    up[0] = y;
+    let mut at = 0;
+    while at < RUNS {
+        let run = runs[at];
+        let place = spots::place_at(xs, ys, there, run.far);
         let x = place.x;
         let y = place.y;
-        xs[i] = x;
-        ys[i] = y;
-        i += 1;
+        at += 1;
+        across[at] = x;
+        up[at] = y;
     }
-    let near = nears_of(runs, count);
-    Reached {
-        xs,
-        ys,
-        near,
-        count,
-        favoured,
-    }
+    let nears = nears_of(runs, count);
+    least::least_cost(&across, &up, &nears, count, favoured)
 }
 
 // How a mask bends a run if it does.
@@ -160,21 +133,18 @@ fn upper_in(favoured: bool, mask: u64, run: usize) -> bool
     if marked { !favoured } else { favoured }
 }
 
-// A run with the shape that a mask gives it.
-fn shaped_in(
-    feed: [Spot; PINS],
-    favoured: bool,
-    mask: u64,
-    runs: [Run; RUNS],
-    at: usize,
+// A run with its shape, where `upper` says how it bends if it does.
+fn shaped(
+    xs: &[i32; PINS],
+    ys: &[i32; PINS],
+    there: &[bool; PINS],
+    run: Run,
+    upper: bool,
 ) -> RunEntry
-    requires { ⌜ at < mostRuns ⌝ }
-    ensures { λ r. ⌜ r ≡ shapedIn feed favoured mask runs at ⌝ }
+    ensures { λ r. ⌜ r ≡ shapedRun (spotsFrom (now (xs .entry)) (now (ys .entry)) (now (there .entry))) run upper ⌝ }
 {
-    let run = runs[at];
-    let near = board::place_at(feed, run.near);
-    let far = board::place_at(feed, run.far);
-    let upper = upper_in(favoured, mask, at);
+    let near = spots::place_at(xs, ys, there, run.near);
+    let far = spots::place_at(xs, ys, there, run.far);
     let shape = copper::shape_of(upper, near, far);
     RunEntry {
         near: run.near,
@@ -185,29 +155,39 @@ fn shaped_in(
 
 // The run entries that a mask gives.
 fn entries_in(
-    feed: [Spot; PINS],
+    xs: &[i32; PINS],
+    ys: &[i32; PINS],
+    there: &[bool; PINS],
     favoured: bool,
     mask: u64,
     runs: [Run; RUNS],
     count: usize,
 ) -> [RunEntry; RUNS]
     requires { ⌜ count ≤ mostRuns ⌝ }
-    ensures { λ r. ⌜ r ≡ entriesIn feed favoured mask runs count ⌝ }
+    ensures { λ r. ⌜ r ≡ entriesIn (spotsFrom (now (xs .entry)) (now (ys .entry)) (now (there .entry))) favoured mask runs count ⌝ }
 {
     let blank = no_run();
     let mut entries = [blank; RUNS];
     let mut at = 0;
     while at < count {
-        entries[at] = shaped_in(feed, favoured, mask, runs, at);
+        let run = runs[at];
+        let upper = upper_in(favoured, mask, at);
+        entries[at] = shaped(xs, ys, there, run, upper);
         at += 1;
     }
     entries
 }
 
 // The legs of the first run entries, with their number.
-fn legs_of(feed: [Spot; PINS], entries: [RunEntry; RUNS], count: usize) -> Strip
+fn legs_of(
+    xs: &[i32; PINS],
+    ys: &[i32; PINS],
+    there: &[bool; PINS],
+    entries: [RunEntry; RUNS],
+    count: usize,
+) -> Strip
     requires { ⌜ count ≤ mostRuns ⌝ }
-    ensures { λ r. ⌜ r ≡ strip (legsOfEntries feed (take count entries)) ⌝ }
+    ensures { λ r. ⌜ r ≡ strip (legsOfEntries (spotsFrom (now (xs .entry)) (now (ys .entry)) (now (there .entry))) (take count entries)) ⌝ }
 {
     let none = no_leg();
     let mut legs = [none; LEGS];
@@ -216,8 +196,8 @@ fn legs_of(feed: [Spot; PINS], entries: [RunEntry; RUNS], count: usize) -> Strip
     while at < count {
         let entry = entries[at];
         let shape = entry.shape;
-        let near = board::place_at(feed, entry.near);
-        let far = board::place_at(feed, entry.far);
+        let near = spots::place_at(xs, ys, there, entry.near);
+        let far = spots::place_at(xs, ys, there, entry.far);
         let more = copper::leg_count(shape);
         legs[filled] = copper::first_leg(shape, near, far);
         if more == 2 {
@@ -252,22 +232,27 @@ pub fn refused(verdict: Verdict) -> Laid
 }
 
 // The wiring of a feed, where one shape is favoured: false for lower, true for upper.
-fn wire_favouring(feed: [Spot; PINS], room: usize, favoured: bool) -> Laid
-    requires { ⌜ (allWithin feed ≡ true) × (allApart feed ≡ true) ⌝ }
-    ensures { λ r. ⌜ r ≡ wiringFavouring favoured feed room ⌝ }
+fn wire_favouring(
+    xs: &[i32; PINS],
+    ys: &[i32; PINS],
+    there: &[bool; PINS],
+    room: usize,
+    favoured: bool,
+) -> Laid
+    requires { ⌜ (allWithin (spotsFrom (now xs) (now ys) (now there)) ≡ true) × (allApart (spotsFrom (now xs) (now ys) (now there)) ≡ true) ⌝ }
+    ensures { λ r. ⌜ r ≡ wiringFavouring favoured (spotsFrom (now (xs .entry)) (now (ys .entry)) (now (there .entry))) room ⌝ }
 {
-    let tree = tree::tree_of(feed);
+    let tree = tree::tree_of(xs, ys, there);
     let verdict = tree.verdict;
     if !refusal::is_accepted(verdict) {
         return refused(verdict);
     }
     let count = tree.count;
     let runs = tree.runs;
-    let reached = reached_of(feed, runs, count, favoured);
-    let found = least::least_cost(reached);
+    let found = best_cost(xs, ys, there, runs, count, favoured);
     let mask = found.cost % least::BASE;
-    let entries = entries_in(feed, favoured, mask, runs, count);
-    let strip = legs_of(feed, entries, count);
+    let entries = entries_in(xs, ys, there, favoured, mask, runs, count);
+    let strip = legs_of(xs, ys, there, entries, count);
     if room < strip.count {
         return refused(Verdict::RoomTooSmall);
     }
@@ -284,9 +269,9 @@ fn wire_favouring(feed: [Spot; PINS], room: usize, favoured: bool) -> Laid
 }
 
 // The wiring of a feed whose pins stand on the board, no two of them too near, with room for so many legs.
-pub fn wire_feed(feed: [Spot; PINS], room: usize) -> Laid
-    requires { ⌜ (allWithin feed ≡ true) × (allApart feed ≡ true) ⌝ }
-    ensures { λ r. ⌜ r ≡ wiringOf feed room ⌝ }
+pub fn wire_feed(xs: &[i32; PINS], ys: &[i32; PINS], there: &[bool; PINS], room: usize) -> Laid
+    requires { ⌜ (allWithin (spotsFrom (now xs) (now ys) (now there)) ≡ true) × (allApart (spotsFrom (now xs) (now ys) (now there)) ≡ true) ⌝ }
+    ensures { λ r. ⌜ r ≡ wiringOf (spotsFrom (now (xs .entry)) (now (ys .entry)) (now (there .entry))) room ⌝ }
 {
-    wire_favouring(feed, room, false)
+    wire_favouring(xs, ys, there, room, false)
 }

@@ -6,22 +6,26 @@ use Prim.Native.Nat.{ℕ}
 use lib.IntN.{ℤ, pos}
 use lib.ListN.{replicate}
 use Rattle.basics.specs.Tests.{both, either, choose, anyOf, eachOf, noTwo}
-use Rattle.basics.specs.Lists.{padded}
-use Rattle.refusal.specs.Refusals.{accepted, turn}
+use Rattle.basics.specs.Lists.{padded, numbered}
+use Rattle.refusal.specs.Refusals.{accepted}
+use Rattle.refusal.specs.Rows.{firstOf}
 use Rattle.refusal.specs.declared.Verdict.{Verdict}
 use Rattle.refusal.specs.declared.Verdict.the-variants.{Accepted, PlaceTaken, DeskBroken}
 use Rattle.board.specs.Place.{place, onBoard, inside, difference, closer, tooNear, sameNumber, samePlace}
+use Rattle.board.specs.declared.Place.{Place}
 use Rattle.drawing.specs.declared.Pin.{Pin}
+use Rattle.drawing.specs.declared.Edit.the-variants.{Placed}
+use Rattle.drawing.specs.declared.stated.Making.the-variants.{Placing, Moving}
 use Rattle.board.specs.Spots.{mostPins, spotsTooNear, crowded, within, tooNearOther}
 use Rattle.drawing.specs.Pins.{absent, there, holding, isThere, sameHeld, samePin, samePins, lawful, spotOf, spotsOf}
-use Rattle.drawing.specs.Edits.{movedPin, made, unmade, standsAt, fits, placeable, movable, makeable, takeable, heldBy, placed}
-use Rattle.pinmap.specs.Map.{readFrom, wrongLength, readMap}
+use Rattle.drawing.specs.Edits.{movedPin, pinMade, pinUnmade, made, unmade, standsAt, foundAs, allFound, proper, makeable, takeable, heldBy}
+use Rattle.pinmap.specs.Map.{recordsIn, withPinsOf, rowsFrom, wrongLength, readMap}
 use Rattle.journal.specs.declared.Record.{Record}
 use Rattle.journal.specs.Journal.{mostSeats, recorded, own, kept, filled, inTurn}
 use Rattle.seats.specs.declared.Seat.{Seat}
 use Rattle.desk.specs.declared.Desk.{Desk}
-use Rattle.desk.specs.Calls.{opening, placing, moving, undoing}
-use Rattle.desk.specs.Refusals.{sameJob, turnedOpening, turnedPlacing, turnedMoving, turnedUndoing, verdictOf}
+use Rattle.seats.specs.Seats.{sameJob}
+use Rattle.rows.specs.Calls.{Call, opening, making, undoing}
 use Rattle.desk.specs.Desk.{closedSeat, jobOf, soundOpen, soundClosed, soundSeat, soundTo, sound, edited, effect, answerOf, step, emptyDesk}
 use Rattle.history.specs.History.{answers}
 
@@ -33,12 +37,20 @@ pinAt a b = there (holding (place a b))
 abbrev pub drawn : List Pin → List Pin
 drawn l = padded mostPins absent l
 
+-- Placing a pin at a place,
+abbrev pub placing : ℕ → ℕ → Place → Call
+placing s p at = making s (Placing p (holding at))
+
+-- and moving one.
+abbrev pub moving : ℕ → ℕ → Place → Call
+moving s p to = making s (Moving p to)
+
 -- Pin 0 is placed at (1,1), and a move to (1,1) is 9.
 pub own-place-refused : answers emptyDesk (opening 0 7 [] ∷ placing 0 0 (place (pos 1) (pos 1)) ∷ moving 0 0 (place (pos 1) (pos 1)) ∷ [])
     ≡ Accepted ∷ Accepted ∷ PlaceTaken ∷ []
-unfolding answers both either choose accepted turn onBoard inside difference closer tooNear sameNumber samePlace isThere sameHeld samePin samePins spotsTooNear
-    tooNearOther crowded within spotOf spotsOf lawful movedPin made unmade standsAt fits placeable movable makeable takeable heldBy readFrom wrongLength readMap
-    own kept filled inTurn sameJob turnedOpening turnedPlacing turnedMoving verdictOf jobOf soundOpen soundClosed soundSeat soundTo sound edited effect answerOf
+unfolding answers both either choose accepted firstOf onBoard inside difference closer tooNear sameNumber samePlace isThere sameHeld samePin samePins spotsTooNear
+    tooNearOther crowded within spotOf spotsOf lawful movedPin pinMade pinUnmade made unmade standsAt foundAs allFound proper makeable takeable numbered heldBy recordsIn withPinsOf rowsFrom wrongLength readMap
+    own kept filled inTurn sameJob jobOf soundOpen soundClosed soundSeat soundTo sound edited effect answerOf
     step emptyDesk anyOf eachOf noTwo
 own-place-refused = refl
 
@@ -56,11 +68,11 @@ here = pinAt (pos 1) (pos 1)
 
 -- The record of its placing as pin 0, which stands,
 abbrev pub stands : Record
-stands = recorded 0 (placed 0 (place (pos 1) (pos 1)))
+stands = recorded 0 (Placed 0 (holding (place (pos 1) (pos 1))))
 
 -- and that of a placing of pin 1 at (2,2), which is taken back.
 abbrev pub takenBack : Record
-takenBack = recorded 0 (placed 1 (place (pos 2) (pos 2)))
+takenBack = recorded 0 (Placed 1 (holding (place (pos 2) (pos 2))))
 
 -- The desk with these two records, open at seat 0 for job 7.
 abbrev pub whole : Desk
@@ -73,13 +85,13 @@ abbrev pub broken : List Desk
 broken =
     deskOf (opened 0 (here ∷ []) 1 ∷ []) (stands ∷ takenBack ∷ []) 2
     ∷ deskOf (opened 7 (here ∷ []) 1 ∷ opened 7 [] 0 ∷ []) (stands ∷ takenBack ∷ []) 2
-    ∷ deskOf (opened 7 (here ∷ []) 1 ∷ []) (stands ∷ takenBack ∷ recorded 1 (placed 0 (place (pos 1) (pos 1))) ∷ []) 3
+    ∷ deskOf (opened 7 (here ∷ []) 1 ∷ []) (stands ∷ takenBack ∷ recorded 1 (Placed 0 (holding (place (pos 1) (pos 1)))) ∷ []) 3
     ∷ deskOf (opened 7 (here ∷ pinAt (pos 20001) (pos 0) ∷ []) 0 ∷ []) [] 0
     ∷ deskOf (opened 7 (here ∷ here ∷ []) 0 ∷ []) [] 0
-    ∷ deskOf (opened 7 (here ∷ []) 1 ∷ []) (recorded 0 (placed 0 (place (pos 5) (pos 5))) ∷ takenBack ∷ []) 2
-    ∷ deskOf (opened 7 (here ∷ []) 1 ∷ []) (stands ∷ recorded 0 (placed 1 (place (pos 1) (pos 1))) ∷ []) 2
+    ∷ deskOf (opened 7 (here ∷ []) 1 ∷ []) (recorded 0 (Placed 0 (holding (place (pos 5) (pos 5)))) ∷ takenBack ∷ []) 2
+    ∷ deskOf (opened 7 (here ∷ []) 1 ∷ []) (stands ∷ recorded 0 (Placed 1 (holding (place (pos 1) (pos 1)))) ∷ []) 2
     ∷ deskOf (opened 7 (here ∷ []) 1 ∷ []) (stands ∷ takenBack ∷ []) 257
-    ∷ deskOf (opened 7 (here ∷ []) 1 ∷ []) (stands ∷ takenBack ∷ recorded 8 (placed 0 (place (pos 1) (pos 1))) ∷ []) 3
+    ∷ deskOf (opened 7 (here ∷ []) 1 ∷ []) (stands ∷ takenBack ∷ recorded 8 (Placed 0 (holding (place (pos 1) (pos 1)))) ∷ []) 3
     ∷ deskOf (opened 7 (here ∷ []) 3 ∷ []) (stands ∷ takenBack ∷ []) 2
     ∷ []
 
@@ -89,7 +101,7 @@ undo d = answerOf d (undoing 0)
 
 -- Undo is accepted on the sound desk, and 28 on every broken one.
 pub broken-refused : (undo whole ≡ Accepted) × (map undo broken ≡ replicate 10 DeskBroken)
-unfolding both either choose turn onBoard inside difference closer tooNear sameNumber samePlace isThere sameHeld samePin samePins spotsTooNear tooNearOther
-    crowded within spotOf spotsOf lawful movedPin made unmade standsAt fits placeable movable makeable takeable own kept filled inTurn sameJob turnedUndoing
-    verdictOf jobOf soundOpen soundClosed soundSeat soundTo sound answerOf anyOf eachOf noTwo
+unfolding both either choose firstOf onBoard inside difference closer tooNear sameNumber samePlace isThere sameHeld samePin samePins spotsTooNear tooNearOther
+    crowded within spotOf spotsOf lawful movedPin pinMade pinUnmade made unmade standsAt foundAs allFound proper makeable takeable numbered own kept filled inTurn sameJob
+    jobOf soundOpen soundClosed soundSeat soundTo sound answerOf anyOf eachOf noTwo
 broken-refused = (refl, refl)

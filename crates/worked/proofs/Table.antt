@@ -5,8 +5,10 @@ use mathlib.Core.List.{List, [], _∷_, _++_, map}
 use Prim.Native.Nat.{ℕ}
 use lib.IntN.{pos, negsuc}
 use lib.ListN.{replicate}
+use Rattle.basics.specs.Lists.{numbered}
 use Rattle.basics.specs.Tests.{both, either, choose, anyOf, eachOf, noTwo}
-use Rattle.refusal.specs.Refusals.{accepted, turn}
+use Rattle.refusal.specs.Refusals.{accepted}
+use Rattle.refusal.specs.Rows.{firstOf}
 use Rattle.refusal.specs.declared.Verdict.{Verdict}
 use Rattle.refusal.specs.declared.Verdict.the-variants.{Accepted, NothingStands, NothingTakenBack}
 use Rattle.board.specs.declared.Place.{Place}
@@ -16,17 +18,17 @@ use Rattle.board.specs.Place.{place, onBoard, inside, difference, closer, tooNe
 use Rattle.drawing.specs.declared.Pin.{Pin}
 use Rattle.board.specs.Spots.{spotsTooNear, crowded, within, tooNearOther}
 use Rattle.drawing.specs.Pins.{isThere, sameHeld, samePin, samePins, lawful, spotOf, spotsOf}
-use Rattle.drawing.specs.Edits.{movedPin, made, unmade, standsAt, fits, placeable, movable, makeable, takeable, heldBy}
+use Rattle.drawing.specs.Edits.{movedPin, pinMade, pinUnmade, made, unmade, standsAt, foundAs, allFound, proper, makeable, takeable, heldBy}
 use Rattle.pinmap.specs.Record.{recordBytes, pinBytes}
-use Rattle.pinmap.specs.Map.{readFrom, wrongLength, readMap, mapFrom, mapOf, written}
+use Rattle.pinmap.specs.Map.{recordsIn, withPinsOf, rowsFrom, wrongLength, readMap, mapFrom, mapOf, written}
 use Rattle.journal.specs.Journal.{own, kept, filled, inTurn}
-use Rattle.desk.specs.Calls.{Call, opening, placing, moving, undoing, redoing}
-use Rattle.desk.specs.Refusals.{sameJob, turnedOpening, turnedClosing, turnedPlacing, turnedMoving, turnedRemoving, turnedUndoing, turnedRedoing, turnedWriting, verdictOf}
+use Rattle.rows.specs.Calls.{Call, opening, undoing, redoing}
+use Rattle.seats.specs.Seats.{sameJob}
 use Rattle.desk.specs.Desk.{seatOf, jobOf, soundOpen, soundClosed, soundSeat, soundTo, sound, edited, effect, answerOf, step, emptyDesk, writtenOf, bufferOf}
 use Rattle.wiring.specs.declared.Wiring.{Wiring}
 use Rattle.bare.proofs.Worked as bare
 use Rattle.history.specs.History.{after, answers}
-use Rattle.worked.proofs.Cases.{pinAt, drawn}
+use Rattle.worked.proofs.Cases.{pinAt, drawn, placing, moving}
 
 -- A case: boards with their answers; calls from the empty desk with what they are answered and the pins that they leave at seats 0 and 1;
 -- or calls, a buffer lent for writing seat 0 then, how many bytes are written, and what the buffer holds afterwards.
@@ -75,9 +77,9 @@ table =
 
 -- W1 TO W8 AND D1 TO D3 HOLD.
 pub worked : AllHold table
-unfolding Holds AllHold after answers both either choose accepted turn onBoard inside difference closer tooNear sameNumber samePlace isThere sameHeld samePin
-    samePins spotsTooNear tooNearOther crowded within spotOf spotsOf lawful movedPin made unmade standsAt fits placeable movable makeable takeable heldBy
-    readFrom wrongLength readMap own kept filled inTurn sameJob turnedOpening turnedClosing turnedPlacing turnedMoving turnedRemoving turnedUndoing
-    turnedRedoing verdictOf jobOf soundOpen soundClosed soundSeat soundTo sound edited effect answerOf step emptyDesk mapFrom mapOf recordBytes pinBytes
-    firstByte secondByte thirdByte fourthByte turnedWriting written writtenOf bufferOf anyOf eachOf noTwo
+unfolding Holds AllHold after answers both either choose accepted firstOf onBoard inside difference closer tooNear sameNumber samePlace isThere sameHeld samePin
+    samePins spotsTooNear tooNearOther crowded within spotOf spotsOf lawful movedPin pinMade pinUnmade made unmade standsAt foundAs allFound proper makeable takeable numbered heldBy
+    recordsIn withPinsOf rowsFrom wrongLength readMap own kept filled inTurn sameJob
+    jobOf soundOpen soundClosed soundSeat soundTo sound edited effect answerOf step emptyDesk mapFrom mapOf recordBytes pinBytes
+    firstByte secondByte thirdByte fourthByte written writtenOf bufferOf anyOf eachOf noTwo
 worked = (bare.worked, ((refl, refl, refl), ((refl, refl, refl), ((refl, refl, refl), ((refl, refl, refl), tt)))))

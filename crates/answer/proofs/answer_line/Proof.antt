@@ -1,24 +1,22 @@
 -- `answer::answer_line` meets its contract: whatever a line says, by the call that it asks for. Assumes nothing.
 use mathlib.Core.Path.{refl}
-use Prim.Native.Nat.{ℕ}
 use native.Mathlib.Omega.{arith}
-use lib.IntN.{ℤ, pos}
-use lib.ListN.{length-replicate}
 use borrow.Author.Needs.{needs}
-use Rattle.desk.specs.Calls.{closing, placing, moving, removing, undoing, redoing}
-use Rattle.text.specs.Numbers.{mostPairs, mostNumbers}
+use Rattle.drawing.specs.declared.stated.Making.the-variants.{Placing, Moving, Removing}
+use Rattle.drawing.specs.Pins.{holding}
+use Rattle.rows.specs.Calls.{closing, making, undoing, redoing}
+use Rattle.script.proofs.Rooms.{write-room}
 use Rattle.printed.specs.Answers.{mostLineBytes, notACallLine}
 use Rattle.shown.proofs.Lines.{held}
 use Rattle.answer.specs.Answered.{followed, printed}
-use Rattle.answer.proofs.Counts.{open-count, write-room, bare-counts}
 use Rattle.answer.proofs.Telling.{called}
-use Rattle.answer.proofs.Answering.{answers, map-lent, across-lent, up-lent}
+use Rattle.answer.proofs.Answering.{answers}
 use Rattle.answer.proofs.answer_line.Statement.{statement}
 use Rattle.answer.proofs.answer_line.Tie as tie
 
 -- The call, seen from where its line was read.
 abbrev begun : tie.After-read-line → tie.Start
-begun r = r .before .before .before .before .before
+begun r = r .before .before
 
 read-line-requires : tie.Need-read-line-requires
 read-line-requires c κs = search needs
@@ -36,10 +34,7 @@ enum-known-said : tie.Need-enum-known-said
 enum-known-said c = search needs
 
 open-requires : tie.Need-open-requires
-open-requires c κs =
-    let o = c .before .before .before in
-    let r = o .before .before in
-    omega (arith, open-count (begun r .args .line .now) (r .read-line .ensures .0) (o .said .given .1))
+open-requires c κs = search needs
 
 enum-known-said-2 : tie.Need-enum-known-said-2
 enum-known-said-2 c = search needs
@@ -102,7 +97,7 @@ write-requires : tie.Need-write-requires
 write-requires c κs =
     let o = c .before .before in
     let r = o .before .before in
-    omega (arith, write-room (begun r .args .line .now) (r .read-line .ensures .0) (o .said8 .given .1))
+    omega (arith, write-room (begun r .args .line .now) (r .read-line .ensures) (o .said8 .given .1))
 
 enum-known-said-9 : tie.Need-enum-known-said-9
 enum-known-said-9 c = search needs
@@ -114,10 +109,7 @@ enum-known-said-10 : tie.Need-enum-known-said-10
 enum-known-said-10 c = search needs
 
 wire-bare-requires : tie.Need-wire-bare-requires
-wire-bare-requires c κs =
-    let o = c .before .before .before .before in
-    let r = o .before .before in
-    omega (arith, bare-counts (begun r .args .line .now) (r .read-line .ensures .0) (o .said10 .given .1))
+wire-bare-requires c κs = search needs
 
 enum-known-said-11 : tie.Need-enum-known-said-11
 enum-known-said-11 c = search needs
@@ -130,7 +122,7 @@ unfolding followed printed
 returns c =
     let r = c .before .before in
     let s = begun r in
-    answers (s .args .desk) (s .args .number) (s .args .line .now) (s .args .out .now) (r .read-line .ensures .0) (c .enum-told .given .1)
+    answers (s .args .desk) (s .args .number) (s .args .line .now) (s .args .out .now) (r .read-line .ensures) (c .enum-told .given .1)
     (refl, ((refl, omega arith), refl))
 
 returns-2 : tie.Need-returns-2
@@ -139,18 +131,17 @@ returns-2 c =
     let o = c .before .before in
     let r = o .before .before in
     let s = begun r in
-    answers (s .args .desk) (s .args .number) (s .args .line .now) (s .args .out .now) (r .read-line .ensures .0) (o .enum-told2 .given .1)
+    answers (s .args .desk) (s .args .number) (s .args .line .now) (s .args .out .now) (r .read-line .ensures) (o .enum-told2 .given .1)
     (refl, held (s .args .out .now) mostLineBytes {p = notACallLine (s .args .number)} (omega arith) refl (c .print-not-a-call .ensures))
 
 returns-3 : tie.Need-returns-3
 unfolding followed printed
 returns-3 c =
-    let o = c .before .before .before .before in
+    let o = c .before .before .before in
     let r = o .before .before in
     let s = begun r in
-    let m = map-lent (s .args .line .now) (r .read-line .ensures .0) _ (o .said .given .1) (r .read-line .ensures .1 .0) (length-replicate {A = ℕ} mostPairs 0) in
-    answers (s .args .desk) (s .args .number) (s .args .line .now) (s .args .out .now) (r .read-line .ensures .0) (o .said .given .1)
-    (rw m at (c .open .ensures))
+    answers (s .args .desk) (s .args .number) (s .args .line .now) (s .args .out .now) (r .read-line .ensures) (o .said .given .1)
+    (c .open .ensures)
 
 returns-4 : tie.Need-returns-4
 unfolding followed printed
@@ -158,7 +149,7 @@ returns-4 c =
     let o = c .before .before .before .before in
     let r = o .before .before in
     let s = begun r in
-    answers (s .args .desk) (s .args .number) (s .args .line .now) (s .args .out .now) (r .read-line .ensures .0) (o .said2 .given .1)
+    answers (s .args .desk) (s .args .number) (s .args .line .now) (s .args .out .now) (r .read-line .ensures) (o .said2 .given .1)
     (called (s .args .desk) (s .args .out .now) (closing (o .said2 .given .0 .0)) (c .before .before .close .ensures) (c .told .ensures))
 
 returns-5 : tie.Need-returns-5
@@ -168,8 +159,8 @@ returns-5 c =
     let r = o .before .before in
     let s = begun r in
     let g = o .said3 .given .0 in
-    answers (s .args .desk) (s .args .number) (s .args .line .now) (s .args .out .now) (r .read-line .ensures .0) (o .said3 .given .1)
-    (called (s .args .desk) (s .args .out .now) (placing (g .0) (g .1 .0) (g .1 .1 .0)) (c .before .before .place .ensures) (c .told2 .ensures))
+    answers (s .args .desk) (s .args .number) (s .args .line .now) (s .args .out .now) (r .read-line .ensures) (o .said3 .given .1)
+    (called (s .args .desk) (s .args .out .now) (making (g .0) (Placing (g .1 .0) (holding (g .1 .1 .0)))) (c .before .before .place .ensures) (c .told2 .ensures))
 
 returns-6 : tie.Need-returns-6
 unfolding followed printed
@@ -178,8 +169,8 @@ returns-6 c =
     let r = o .before .before in
     let s = begun r in
     let g = o .said4 .given .0 in
-    answers (s .args .desk) (s .args .number) (s .args .line .now) (s .args .out .now) (r .read-line .ensures .0) (o .said4 .given .1)
-    (called (s .args .desk) (s .args .out .now) (moving (g .0) (g .1 .0) (g .1 .1 .0)) (c .before .before .shift .ensures) (c .told3 .ensures))
+    answers (s .args .desk) (s .args .number) (s .args .line .now) (s .args .out .now) (r .read-line .ensures) (o .said4 .given .1)
+    (called (s .args .desk) (s .args .out .now) (making (g .0) (Moving (g .1 .0) (g .1 .1 .0))) (c .before .before .shift .ensures) (c .told3 .ensures))
 
 returns-7 : tie.Need-returns-7
 unfolding followed printed
@@ -188,8 +179,8 @@ returns-7 c =
     let r = o .before .before in
     let s = begun r in
     let g = o .said5 .given .0 in
-    answers (s .args .desk) (s .args .number) (s .args .line .now) (s .args .out .now) (r .read-line .ensures .0) (o .said5 .given .1)
-    (called (s .args .desk) (s .args .out .now) (removing (g .0) (g .1 .0)) (c .before .before .remove .ensures) (c .told4 .ensures))
+    answers (s .args .desk) (s .args .number) (s .args .line .now) (s .args .out .now) (r .read-line .ensures) (o .said5 .given .1)
+    (called (s .args .desk) (s .args .out .now) (making (g .0) (Removing (g .1 .0))) (c .before .before .remove .ensures) (c .told4 .ensures))
 
 returns-8 : tie.Need-returns-8
 unfolding followed printed
@@ -197,7 +188,7 @@ returns-8 c =
     let o = c .before .before .before .before in
     let r = o .before .before in
     let s = begun r in
-    answers (s .args .desk) (s .args .number) (s .args .line .now) (s .args .out .now) (r .read-line .ensures .0) (o .said6 .given .1)
+    answers (s .args .desk) (s .args .number) (s .args .line .now) (s .args .out .now) (r .read-line .ensures) (o .said6 .given .1)
     (called (s .args .desk) (s .args .out .now) (undoing (o .said6 .given .0 .0)) (c .before .before .undo .ensures) (c .told5 .ensures))
 
 returns-9 : tie.Need-returns-9
@@ -206,7 +197,7 @@ returns-9 c =
     let o = c .before .before .before .before in
     let r = o .before .before in
     let s = begun r in
-    answers (s .args .desk) (s .args .number) (s .args .line .now) (s .args .out .now) (r .read-line .ensures .0) (o .said7 .given .1)
+    answers (s .args .desk) (s .args .number) (s .args .line .now) (s .args .out .now) (r .read-line .ensures) (o .said7 .given .1)
     (called (s .args .desk) (s .args .out .now) (redoing (o .said7 .given .0 .0)) (c .before .before .redo .ensures) (c .told6 .ensures))
 
 returns-10 : tie.Need-returns-10
@@ -215,8 +206,8 @@ returns-10 c =
     let o = c .before .before .before in
     let r = o .before .before in
     let s = begun r in
-    answers (s .args .desk) (s .args .number) (s .args .line .now) (s .args .out .now) (r .read-line .ensures .0) (o .said8 .given .1)
-    (c .write .ensures)
+    answers (s .args .desk) (s .args .number) (s .args .line .now) (s .args .out .now) (r .read-line .ensures) (o .said8 .given .1)
+    (refl, c .write .ensures)
 
 returns-11 : tie.Need-returns-11
 unfolding followed printed
@@ -224,20 +215,17 @@ returns-11 c =
     let o = c .before .before .before in
     let r = o .before .before in
     let s = begun r in
-    answers (s .args .desk) (s .args .number) (s .args .line .now) (s .args .out .now) (r .read-line .ensures .0) (o .said9 .given .1)
-    (c .wire .ensures)
+    answers (s .args .desk) (s .args .number) (s .args .line .now) (s .args .out .now) (r .read-line .ensures) (o .said9 .given .1)
+    (refl, c .wire .ensures)
 
 returns-12 : tie.Need-returns-12
 unfolding followed printed
 returns-12 c =
-    let o = c .before .before .before .before .before in
+    let o = c .before .before .before in
     let r = o .before .before in
     let s = begun r in
-    let l = r .read-line .ensures .1 .1 in
-    let x = across-lent (s .args .line .now) (r .read-line .ensures .0) _ (o .said10 .given .1) (l .0) (length-replicate {A = ℤ} mostNumbers (pos 0)) in
-    let y = up-lent (s .args .line .now) (r .read-line .ensures .0) _ (o .said10 .given .1) (l .1) (length-replicate {A = ℤ} mostNumbers (pos 0)) in
-    answers (s .args .desk) (s .args .number) (s .args .line .now) (s .args .out .now) (r .read-line .ensures .0) (o .said10 .given .1)
-    (refl, rw y at (rw x at (c .wire-bare .ensures)))
+    answers (s .args .desk) (s .args .number) (s .args .line .now) (s .args .out .now) (r .read-line .ensures) (o .said10 .given .1)
+    (refl, c .wire-bare .ensures)
 
 returns-13 : tie.Need-returns-13
 unfolding followed printed
@@ -245,7 +233,7 @@ returns-13 c =
     let o = c .before .before .before in
     let r = o .before .before in
     let s = begun r in
-    answers (s .args .desk) (s .args .number) (s .args .line .now) (s .args .out .now) (r .read-line .ensures .0) (o .said11 .given .1)
+    answers (s .args .desk) (s .args .number) (s .args .line .now) (s .args .out .now) (r .read-line .ensures) (o .said11 .given .1)
     (refl, c .show-pins .ensures)
 
 pub answer-line-spec : {M : Type 1} → statement M

@@ -1,18 +1,27 @@
 -- `answer::open` meets its contract. Assumes nothing.
-use mathlib.Core.Path.{sym}
-use native.Mathlib.Omega.{arith}
-use lib.ListN.{take}
-use lib.Seq.{length-take-le}
-use Rattle.desk.specs.Calls.{opening}
+use Rattle.rows.specs.Calls.{opening}
+use Rattle.text.specs.Numbers.{mostPairs}
+use Rattle.script.specs.Said.{mapGiven}
+use Rattle.answer.proofs.Answering.{stored-within, stored-count, stored-first}
 use Rattle.answer.proofs.Telling.{called}
 use borrow.Author.Needs.{needs}
 use Rattle.answer.proofs.open.Statement.{statement}
 use Rattle.answer.proofs.open.Tie as tie
 
+given-map-requires : tie.Need-given-map-requires
+given-map-requires c κs = search needs
+
+array-share-prefix-map : tie.Need-array-share-prefix-map
+array-share-prefix-map c =
+    let g = c .given-map .ensures in
+    let s = c .before .before .before .args in
+    stored-within mostPairs 0 (mapGiven (s .line .now)) (g .1) (g .0 .1)
+
 slice-aggregate-open : tie.Need-slice-aggregate-open
 slice-aggregate-open c =
-    let s = c .before .before in
-    sym (length-take-le (s .args .bytes) (s .args .map .now) (omega (arith, s .pre, s .good)))
+    let g = c .before .given-map .ensures in
+    let s = c .before .before .before .before .args in
+    stored-count mostPairs 0 (mapGiven (s .line .now)) (g .1) (g .0 .1)
 
 open-requires : tie.Need-open-requires
 open-requires c κs = search needs
@@ -22,9 +31,12 @@ told-requires c κs = search needs
 
 returns : tie.Need-returns
 returns c =
-    let o = c .before .before in
-    let s = o .before .before .before in
-    called (s .args .desk) (s .args .out .now) (opening (s .args .seat) (s .args .job) (take (s .args .bytes) (s .args .map .now))) (o .open .ensures) (c .told .ensures)
+    let g = c .before .before .before .before .given-map .ensures in
+    let s = c .before .before .before .before .before .before .before .args in
+    let map = stored-first mostPairs 0 (mapGiven (s .line .now)) (g .1) (g .0 .1) (g .0 .0) in
+    called (s .desk) (s .out .now) (opening (s .seat) (s .job) (mapGiven (s .line .now))) (rw map at (c .before .before .open .ensures)) (c .told .ensures)
 
 pub open-spec : {M : Type 1} → statement M
-open-spec = tie.close (tie.spec slice-aggregate-open open-requires told-requires returns)
+open-spec =
+    tie.close
+    (tie.spec given-map-requires array-share-prefix-map slice-aggregate-open open-requires told-requires returns)

@@ -51,16 +51,12 @@ taken-back-count-requires c κs =
     let a = f .before .before .before .args in
     few-used (a .desk) (a .seat) (f .find .ensures) (t .turned-naming .ensures) (sym (p .before .is-accepted .ensures) ∙ not-false _ (p .if2 .left))
 
-spots-of-requires : tie.Need-spots-of-requires
-spots-of-requires c κs = search needs
-
 print-drawn-requires : tie.Need-print-drawn-requires
 print-drawn-requires c κs = search needs
 
 returns-3 : tie.Need-returns-3
 returns-3 c =
-    let w = c .before .before in
-    let n = w .before .before in
+    let n = c .before .before .before in
     let p = n .before .before in
     let i = p .before .before in
     let t = i .before .before in
@@ -68,7 +64,7 @@ returns-3 c =
     let a = f .before .before .before .args in
     pins-drawn (a .desk) (a .seat) (f .find .ensures) (t .turned-naming .ensures) (a .out .now)
     (sym (i .before .is-not-open .ensures) ∙ i .if1 .left) (sym (p .before .is-accepted .ensures) ∙ not-false _ (p .if2 .left))
-    (n .taken-back-count .ensures) (w .spots-of .ensures) (c .print-drawn .ensures)
+    (n .taken-back-count .ensures) (c .print-drawn .ensures)
 
 pub show-pins-spec : {M : Type 1} → statement M
 show-pins-spec =
@@ -83,6 +79,5 @@ show-pins-spec =
     print-verdict-requires
     returns-2
     taken-back-count-requires
-    spots-of-requires
     print-drawn-requires
     returns-3)

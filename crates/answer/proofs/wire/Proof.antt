@@ -12,7 +12,7 @@ print-laid-requires c κs = search needs
 
 returns : tie.Need-returns
 returns c =
-    let w = c .before .before .before .before in
+    let w = c .before .before .before in
     let s = w .before in
     wire-done (s .args .desk) (s .args .out .now) (s .args .seat) (s .args .room) (w .wire .ensures) (c .print-laid .ensures)
 

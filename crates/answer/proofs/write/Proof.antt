@@ -26,7 +26,7 @@ returns c =
     let h = c .before .write-into .ensures in
     let b = c .before .before .before .before in
     let s = b .before in
-    (h .0, rw (lent-first (s .args .room) (b .lent-bytes .ensures) (s .pre)) at (h .1))
+    rw (lent-first (s .args .room) (b .lent-bytes .ensures) (s .pre)) at h
 
 pub write-spec : {M : Type 1} → statement M
 write-spec =

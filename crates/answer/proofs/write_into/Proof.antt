@@ -20,7 +20,7 @@ same-length c = search needs
 returns : tie.Need-returns
 returns c =
     let a = c .before .before .before in
-    let w = a .before .before .before .before .before in
+    let w = a .before .before .before .before in
     let s = w .before .before .before in
     write-done (s .args .desk) (s .args .out .now) (s .args .seat) (s .args .buffer .now) (w .write .ensures .0) (w .write .ensures .1)
     (sym (a .before .is-accepted .ensures) ∙ a .if1 .taken) (c .print-written .ensures)
@@ -34,7 +34,7 @@ same-length-2 c = search needs
 returns-2 : tie.Need-returns-2
 returns-2 c =
     let a = c .before .before in
-    let w = a .before .before .before .before .before in
+    let w = a .before .before .before .before in
     let s = w .before .before .before in
     write-refused (s .args .desk) (s .args .out .now) (s .args .seat) (s .args .buffer .now) (w .write .ensures .0)
     (sym (a .before .is-accepted .ensures) ∙ a .if1 .left) (c .print-verdict .ensures)

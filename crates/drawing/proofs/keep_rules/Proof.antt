@@ -7,11 +7,12 @@ use lib.ListN.{length}
 use Rattle.basics.proofs.Tests.{both-no, both-yes}
 use Rattle.board.specs.Spots.{mostPins, allWithin, allApart}
 use Rattle.drawing.specs.Pins.{lawful}
+use Rattle.drawing.proofs.Told.{told-lists}
 use Rattle.drawing.proofs.keep_rules.Statement.{statement}
 use Rattle.drawing.proofs.keep_rules.Tie as tie
 
-spots-of-requires : tie.Need-spots-of-requires
-spots-of-requires c κs = search needs
+lists-of-requires : tie.Need-lists-of-requires
+lists-of-requires c κs = search needs
 
 are-within-requires : tie.Need-are-within-requires
 are-within-requires c κs = search needs
@@ -19,9 +20,11 @@ are-within-requires c κs = search needs
 returns : tie.Need-returns
 unfolding lawful
 returns c =
-    let d = c .before .before in
-    let h : length (d .before .args .pins) ≡ mostPins = omega arith in
-    let w = ap allWithin (sym (d .spots-of .ensures)) ∙ sym (c .before .are-within .ensures) ∙ not-true _ (c .if1 .taken) in
+    let d = c .before in
+    let m = d .before .before .before .before .before .before .before in
+    let h : length (m .before .args .pins) ≡ mostPins = omega arith in
+    let e = told-lists (m .before .args .pins) h (m .lists-of .ensures) .spots in
+    let w = ap allWithin e ∙ sym (d .are-within .ensures) ∙ not-true _ (c .if1 .taken) in
     sym (both-yes _ (eq-eqb _ _ h) ∙ both-no _ w)
 
 are-apart-requires : tie.Need-are-apart-requires
@@ -30,11 +33,14 @@ are-apart-requires c κs = search needs
 returns-2 : tie.Need-returns-2
 unfolding lawful
 returns-2 c =
-    let d = c .before .before .before in
-    let h : length (d .before .args .pins) ≡ mostPins = omega arith in
-    let w = ap allWithin (sym (d .spots-of .ensures)) ∙ sym (c .before .before .are-within .ensures) ∙ not-false _ (c .before .if1 .left) in
-    c .are-apart .ensures ∙ ap allApart (d .spots-of .ensures) ∙ sym (both-yes _ (eq-eqb _ _ h) ∙ both-yes _ w)
+    let i = c .before .before .before .before in
+    let d = i .before in
+    let m = d .before .before .before .before .before .before .before in
+    let h : length (m .before .args .pins) ≡ mostPins = omega arith in
+    let e = told-lists (m .before .args .pins) h (m .lists-of .ensures) .spots in
+    let w = ap allWithin e ∙ sym (d .are-within .ensures) ∙ not-false _ (i .if1 .left) in
+    c .are-apart .ensures ∙ ap allApart (sym e) ∙ sym (both-yes _ (eq-eqb _ _ h) ∙ both-yes _ w)
 
 pub keep-rules-spec : {M : Type 1} → statement M
 keep-rules-spec =
-    tie.close (tie.spec spots-of-requires are-within-requires returns are-apart-requires returns-2)
+    tie.close (tie.spec lists-of-requires are-within-requires returns are-apart-requires returns-2)

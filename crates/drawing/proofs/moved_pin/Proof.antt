@@ -1,6 +1,6 @@
 -- `drawing::moved_pin` meets its contract, by the pin's two cases. Assumes nothing.
-use borrow.Author.Needs.{needs}
 use Rattle.drawing.specs.Edits.{movedPin}
+use borrow.Author.Needs.{needs}
 use Rattle.drawing.proofs.moved_pin.Statement.{statement}
 use Rattle.drawing.proofs.moved_pin.Tie as tie
 
@@ -13,6 +13,9 @@ absent-pin-requires c κs = search needs
 enum-known-s : tie.Need-enum-known-s
 enum-known-s c = search needs
 
+held-at-requires : tie.Need-held-at-requires
+held-at-requires c κs = search needs
+
 pin-with-requires : tie.Need-pin-with-requires
 pin-with-requires c κs = search needs
 
@@ -22,9 +25,16 @@ returns c = rw (c .before .enum-told .given .1) (c .absent-pin .ensures)
 
 returns-2 : tie.Need-returns-2
 unfolding movedPin
-returns-2 c = rw (c .before .before .s .given .1) (c .pin-with .ensures)
+returns-2 c = rw (c .before .before .before .s .given .1) (rw (c .before .held-at .ensures) at (c .pin-with .ensures))
 
 pub moved-pin-spec : {M : Type 1} → statement M
 moved-pin-spec =
     tie.close
-    (tie.spec enum-told absent-pin-requires enum-known-s pin-with-requires returns returns-2)
+    (tie.spec
+    enum-told
+    absent-pin-requires
+    enum-known-s
+    held-at-requires
+    pin-with-requires
+    returns
+    returns-2)

@@ -4,31 +4,31 @@ use borrow.Author.Needs.{needs}
 use Rattle.least.proofs.ends_of.Statement.{statement}
 use Rattle.least.proofs.ends_of.Tie as tie
 
-mul-pin-place : tie.Need-mul-pin-place
-mul-pin-place c = search needs
+mul-place-in : tie.Need-mul-place-in
+mul-place-in c = search needs
 
-element-copy-out-pin-place : tie.Need-element-copy-out-pin-place
-element-copy-out-pin-place c = search needs
+element-copy-out-place-in : tie.Need-element-copy-out-place-in
+element-copy-out-place-in c = search needs
 
-pin-place-requires : tie.Need-pin-place-requires
-pin-place-requires c κs = search needs
+place-in-requires : tie.Need-place-in-requires
+place-in-requires c κs = search needs
 
-add-pin-place : tie.Need-add-pin-place
-add-pin-place c = search needs
+add-place-in : tie.Need-add-place-in
+add-place-in c = search needs
 
-pin-place-requires-2 : tie.Need-pin-place-requires-2
-pin-place-requires-2 c κs = search needs
+place-in-requires-2 : tie.Need-place-in-requires-2
+place-in-requires-2 c κs = search needs
 
 returns : tie.Need-returns
-returns c = rw (c .before .pin-place .ensures, c .pin-place2 .ensures, add-one)
+returns c = rw (c .before .place-in .ensures, c .place-in2 .ensures, add-one)
 
 pub ends-of-spec : {M : Type 1} → statement M
 ends-of-spec =
     tie.close
     (tie.spec
-    mul-pin-place
-    element-copy-out-pin-place
-    pin-place-requires
-    add-pin-place
-    pin-place-requires-2
+    mul-place-in
+    element-copy-out-place-in
+    place-in-requires
+    add-place-in
+    place-in-requires-2
     returns)

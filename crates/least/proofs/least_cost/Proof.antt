@@ -5,7 +5,7 @@ use Rattle.least.proofs.least_cost.Statement.{statement}
 use Rattle.least.proofs.least_cost.Tie as tie
 
 pin-best-requires : tie.Need-pin-best-requires
-pin-best-requires c κs = askable _ (c .pre)
+pin-best-requires c κs = askable _ _ _ _ (c .pre)
 
 returns : tie.Need-returns
 unfolding leastOfTree askedPin

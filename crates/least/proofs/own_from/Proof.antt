@@ -8,10 +8,10 @@ use Rattle.least.proofs.own_from.Statement.{statement}
 use Rattle.least.proofs.own_from.Tie as tie
 
 abbrev Inv-loop : tie.InvT-loop
-Inv-loop pin run tree at₀ at = ownFrom (nearPin tree) (tree .count - at) pin at ≡ ownFrom (nearPin tree) (tree .count - run) pin run
+Inv-loop near count pin run at₀ at = ownFrom (nearPin near) (count - at) pin at ≡ ownFrom (nearPin near) (count - run) pin run
 
 abbrev μ-loop : tie.MeasureT-loop
-μ-loop pin run tree at₀ at = tree .count - at
+μ-loop near count pin run at₀ at = count - at
 
 loop-holds : tie.Need-loop-holds Inv-loop μ-loop
 loop-holds c = refl

@@ -1,4 +1,4 @@
--- `script::print_not_a_call` meets its contract. Assumes nothing.
+-- `printed::print_not_a_call` meets its contract. Assumes nothing.
 use mathlib.Core.List.{_++_}
 use native.Mathlib.Omega.{arith}
 use Rattle.text.proofs.Printing.{then-put, line}

@@ -1,4 +1,4 @@
--- `script::print_pin` meets its contract. Assumes nothing.
+-- `printed::print_pin` meets its contract. Assumes nothing.
 use native.Mathlib.Omega.{arith}
 use Rattle.text.proofs.Printing.{put-all3}
 use Rattle.text.specs.Text.{text}

@@ -1,4 +1,4 @@
--- `script::print_told` meets its contract. Assumes nothing.
+-- `printed::print_told` meets its contract. Assumes nothing.
 use native.Mathlib.Omega.{arith}
 use Rattle.printed.proofs.Telling.{told-zero, told-refused}
 use Rattle.text.proofs.Printing.{put-as, put-all3, line}

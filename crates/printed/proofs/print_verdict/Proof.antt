@@ -1,4 +1,4 @@
--- `script::print_verdict` meets its contract. Assumes nothing.
+-- `printed::print_verdict` meets its contract. Assumes nothing.
 use mathlib.Core.Path.{_∙_, ap}
 use Rattle.printed.specs.Answers.{toldLine}
 use lib.ListN.{length}

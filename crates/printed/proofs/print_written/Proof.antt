@@ -1,9 +1,9 @@
--- `script::print_written` meets its contract. Assumes nothing.
+-- `printed::print_written` meets its contract. Assumes nothing.
 use mathlib.Core.Path.{sym, _∙_, ap}
 use mathlib.Core.List.{_++_}
 use Prim.Native.Nat.{ℕ}
 use native.Mathlib.Omega.{arith}
-use Rattle.script.specs.Said.{mostRoom}
+use Rattle.text.specs.Text.{mostRoom}
 use Rattle.text.proofs.Printing.{put-as, put-all3, line, take-smaller}
 use Rattle.text.specs.Text.{text}
 use Rattle.text.specs.Digits.{field}

@@ -1,4 +1,4 @@
--- `script::put_carried` meets its contract. Assumes nothing.
+-- `printed::put_carried` meets its contract. Assumes nothing.
 use mathlib.Core.Path.{refl}
 use native.Mathlib.Omega.{arith}
 use Rattle.printed.specs.Answers.{carriedText}

@@ -1,4 +1,4 @@
--- `script::put_lent` meets its contract. Assumes nothing.
+-- `printed::put_lent` meets its contract. Assumes nothing.
 use mathlib.Core.Path.{ap}
 use native.Mathlib.Omega.{arith}
 use Rattle.printed.proofs.Telling.{lent-none, lent-some}

@@ -1,34 +1,39 @@
 -- `rows::turned_moving` meets its contract. Assumes nothing.
-use native.Mathlib.Omega.{arith}
-use borrow.Author.Needs.{needs}
-use mathlib.Core.Path.{_≡_, refl, ap, sym, _∙_}
+use mathlib.Core.Path.{_≡_, ap, sym, _∙_}
 use mathlib.Core.Bool.{not}
-use mathlib.Core.List.{[]}
-use Prim.Native.Nat.{_<_}
-use Rattle.refusal.specs.declared.Verdict.{Verdict}
+use mathlib.Core.List.{List, _++_}
+use borrow.Author.Needs.{needs}
 use Rattle.basics.proofs.Tests.{either-left, either-right}
-use Rattle.refusal.proofs.Rows.{firstOf, hit, miss}
-use Rattle.board.specs.Spots.{mostPins}
-use Rattle.rows.specs.Refusals.{turnedMoving}
-use Rattle.rows.specs.Found.{lookAtFound}
-use Rattle.rows.proofs.Rows.{refused, went, thereRows, there-stops, there-goes, there-number}
+use Rattle.refusal.specs.declared.Verdict.{Verdict}
+use Rattle.refusal.specs.Rows.{Row, firstOf}
+use Rattle.refusal.proofs.Rows.{hit, miss, no-row, stops, goes}
+use Rattle.drawing.specs.declared.Pin.{Pin}
+use Rattle.drawing.specs.declared.stated.Making.the-variants.{Removing}
+use Rattle.drawing.specs.Pins.{pinAt}
+use Rattle.drawing.specs.Edits.{standsAt}
+use Rattle.rows.specs.Refusals.{makingRows}
+use Rattle.rows.proofs.Rows.{making-apart, refused, went}
 use Rattle.rows.proofs.turned_moving.Statement.{statement}
 use Rattle.rows.proofs.turned_moving.Tie as tie
 
--- Past 28, 1, 2 and 6 the pin is at most 31,
-number : (c : tie.Else1) → c .before .before .before .args .pin < mostPins
-number c =
-    let t = c .before .before in
-    there-number (lookAtFound (t .before .args .found) [] 0) (t .before .args .pin) refl (t .turned-removing .ensures)
-    (went _ (c .before .is-accepted .ensures) (c .if1 .left))
+-- The row of 6 for these pins.
+abbrev six : tie.Start → List Row
+six c = makingRows (c .args .pins) (Removing (c .args .pin))
 
--- and what comes after them decides.
-goes : (c : tie.Else1) {x rest : Verdict} → x ≡ rest
-    → x ≡ firstOf (thereRows (lookAtFound (c .before .before .before .args .found) [] 0) (c .before .before .before .args .pin)) rest
-goes c =
+-- Past 6, what comes after it decides.
+after : (c : tie.Else1) (more : List Row) {x : Verdict} → x ≡ firstOf more → x ≡ firstOf (six (c .before .before .before) ++ more)
+after c more e =
     let t = c .before .before in
-    there-goes (lookAtFound (t .before .args .found) [] 0) (t .before .args .pin) refl (t .turned-removing .ensures)
-    (went _ (c .before .is-accepted .ensures) (c .if1 .left))
+    goes (six (t .before)) more (making-apart (t .before .args .pins) (Removing (t .before .args .pin))) (t .turned-removing .ensures)
+    (went _ (c .before .is-accepted .ensures) (c .if1 .left)) e
+
+-- Where the function began, seen from after `stands_at`.
+abbrev start : tie.After-stands-at → tie.Start
+start c = c .before .before .before .before .before .before .before
+
+-- Whether the pin stands at the place.
+stands : (c : tie.After-stands-at) → c .stands-at .result ≡ standsAt (pinAt (start c .args .pins) (start c .args .pin)) (start c .args .to)
+stands c = c .stands-at .ensures ∙ ap (λ (q : Pin). standsAt q (start c .args .to)) (c .before .pin-at .ensures)
 
 turned-removing-requires : tie.Need-turned-removing-requires
 turned-removing-requires c κs = search needs
@@ -37,56 +42,47 @@ is-accepted-requires : tie.Need-is-accepted-requires
 is-accepted-requires c κs = search needs
 
 returns : tie.Need-returns
-unfolding firstOf turnedMoving
 returns c =
     let t = c .before .before in
-    there-stops (lookAtFound (t .before .args .found) [] 0) (t .before .args .pin) _ refl (t .turned-removing .ensures)
-    (refused _ (c .before .is-accepted .ensures) (c .if1 .taken))
+    let a = t .before .args in
+    stops (six (t .before)) _ (making-apart (a .pins) (Removing (a .pin))) (t .turned-removing .ensures) (refused _ (c .before .is-accepted .ensures) (c .if1 .taken))
 
 is-inside-requires : tie.Need-is-inside-requires
 is-inside-requires c κs = search needs
 
 returns-2 : tie.Need-returns-2
-unfolding firstOf turnedMoving
-returns-2 c = goes (c .before .before) (hit _ _ (ap not (sym (c .before .is-inside .ensures)) ∙ c .if2 .taken))
+returns-2 c = after (c .before .before) _ (hit _ _ (ap not (sym (c .before .is-inside .ensures)) ∙ c .if2 .taken))
 
-mul-there : tie.Need-mul-there
-mul-there c = omega (arith, number (c .before .before .before .before))
-
-array-copy-out-there : tie.Need-array-copy-out-there
-array-copy-out-there c = omega (arith, number (c .before .before .before .before))
+pin-at-requires : tie.Need-pin-at-requires
+pin-at-requires c κs = search needs
 
 stands-at-requires : tie.Need-stands-at-requires
 stands-at-requires c κs = search needs
 
 returns-3 : tie.Need-returns-3
-unfolding firstOf turnedMoving
 returns-3 c =
-    let d = c .before .before .before .before .before in
-    goes (d .before .before)
-    (miss _ (ap not (sym (d .before .is-inside .ensures)) ∙ d .if2 .left) (hit _ _ (either-left _ (sym (c .before .stands-at .ensures) ∙ c .if3 .taken))))
+    let i = c .before .before .before in
+    after (i .before .before) _
+    (miss _ _ (ap not (sym (i .before .is-inside .ensures)) ∙ i .if2 .left) (hit _ _ (either-left _ (sym (stands (c .before)) ∙ c .if3 .taken))))
 
 is-crowded-requires : tie.Need-is-crowded-requires
-is-crowded-requires c κs = omega (arith, number (c .before .before .before .before .before .before .before))
+is-crowded-requires c κs = search needs
 
 returns-4 : tie.Need-returns-4
-unfolding firstOf turnedMoving
 returns-4 c =
-    let e = c .before .before in
-    let d = e .before .before .before .before .before in
-    goes (d .before .before)
-    (miss _ (ap not (sym (d .before .is-inside .ensures)) ∙ d .if2 .left)
-    (hit _ _ (either-right _ (sym (e .before .stands-at .ensures) ∙ e .if3 .left) ∙ sym (c .before .is-crowded .ensures) ∙ c .if4 .taken)))
+    let s = c .before .before in
+    let i = s .before .before .before in
+    after (i .before .before) _
+    (miss _ _ (ap not (sym (i .before .is-inside .ensures)) ∙ i .if2 .left)
+    (hit _ _ (either-right _ (sym (stands (s .before)) ∙ s .if3 .left) ∙ sym (c .before .is-crowded .ensures) ∙ c .if4 .taken)))
 
 returns-5 : tie.Need-returns-5
-unfolding firstOf turnedMoving
 returns-5 c =
-    let e = c .before .before in
-    let d = e .before .before .before .before .before in
-    goes (d .before .before)
-    (miss _ (ap not (sym (d .before .is-inside .ensures)) ∙ d .if2 .left)
-    (miss _ (either-right _ (sym (e .before .stands-at .ensures) ∙ e .if3 .left) ∙ sym (c .before .is-crowded .ensures) ∙ c .if4 .left)
-    (miss _ refl refl)))
+    let s = c .before .before in
+    let i = s .before .before .before in
+    after (i .before .before) _
+    (miss _ _ (ap not (sym (i .before .is-inside .ensures)) ∙ i .if2 .left)
+    (miss _ _ (either-right _ (sym (stands (s .before)) ∙ s .if3 .left) ∙ sym (c .before .is-crowded .ensures) ∙ c .if4 .left) no-row))
 
 pub turned-moving-spec : {M : Type 1} → statement M
 turned-moving-spec =
@@ -97,8 +93,7 @@ turned-moving-spec =
     returns
     is-inside-requires
     returns-2
-    mul-there
-    array-copy-out-there
+    pin-at-requires
     stands-at-requires
     returns-3
     is-crowded-requires

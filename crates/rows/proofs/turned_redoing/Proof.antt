@@ -1,21 +1,11 @@
 -- `rows::turned_redoing` meets its contract. Assumes nothing.
+use mathlib.Core.Path.{sym, _∙_}
 use borrow.Author.Needs.{needs}
 use borrow.Author.Tests.{eq-eqb, ne-eqb}
-use mathlib.Core.Path.{refl, sym, _∙_}
-use mathlib.Core.List.{[]}
-use lib.ListN.{take}
-use Rattle.refusal.proofs.Rows.{firstOf, NoneHolds, hit, miss}
-use Rattle.journal.specs.Journal.{own}
-use Rattle.seats.specs.Seats.{takenBackCount}
-use Rattle.rows.specs.Refusals.{Look, turnedRedoing}
-use Rattle.rows.specs.Found.{lookAtFound}
-use Rattle.rows.proofs.Rows.{refused, went, naming-stops, naming-passed, naming-goes}
+use Rattle.refusal.proofs.Rows.{hit, miss, no-row}
+use Rattle.rows.proofs.Rows.{refused, went, naming-stops, naming-goes, naming-passed}
 use Rattle.rows.proofs.turned_redoing.Statement.{statement}
 use Rattle.rows.proofs.turned_redoing.Tie as tie
-
--- What the row looks at.
-abbrev look : tie.Start → Look
-look c = lookAtFound (c .args .found) [] (takenBackCount (c .args .found .state) (own (c .args .found .seat) (take (c .args .used) (c .args .journal))))
 
 turned-naming-requires : tie.Need-turned-naming-requires
 turned-naming-requires c κs = search needs
@@ -24,36 +14,31 @@ is-accepted-requires : tie.Need-is-accepted-requires
 is-accepted-requires c κs = search needs
 
 returns : tie.Need-returns
-unfolding firstOf turnedRedoing
 returns c =
     let t = c .before .before in
-    naming-stops (look (t .before)) (t .turned-naming .ensures) _ (refused _ (c .before .is-accepted .ensures) (c .if1 .taken))
+    naming-stops (t .before .args .found) (t .turned-naming .ensures) _ (refused _ (c .before .is-accepted .ensures) (c .if1 .taken))
 
 taken-back-count-requires : tie.Need-taken-back-count-requires
-unfolding NoneHolds
 taken-back-count-requires c κs =
     let d = c .before in
     let t = d .before .before in
-    t .before .pre
-    (naming-passed (lookAtFound (t .before .args .found) [] 0) (t .turned-naming .ensures) (went _ (d .before .is-accepted .ensures) (d .if1 .left)) .0)
+    t .before .pre (naming-passed (t .before .args .found) (t .turned-naming .ensures) (went _ (d .before .is-accepted .ensures) (d .if1 .left)) .unbroken)
 
 returns-2 : tie.Need-returns-2
-unfolding firstOf turnedRedoing
 returns-2 c =
     let o = c .before in
     let d = o .before .before in
     let t = d .before .before in
-    naming-goes (look (t .before)) (t .turned-naming .ensures) (went _ (d .before .is-accepted .ensures) (d .if1 .left))
+    naming-goes (t .before .args .found) (t .turned-naming .ensures) _ (went _ (d .before .is-accepted .ensures) (d .if1 .left))
     (hit _ _ (eq-eqb _ 0 (sym (o .taken-back-count .ensures) ∙ c .if2 .taken)))
 
 returns-3 : tie.Need-returns-3
-unfolding firstOf turnedRedoing
 returns-3 c =
     let o = c .before in
     let d = o .before .before in
     let t = d .before .before in
-    naming-goes (look (t .before)) (t .turned-naming .ensures) (went _ (d .before .is-accepted .ensures) (d .if1 .left))
-    (miss _ (ne-eqb _ 0 (λ z. c .if2 .left (o .taken-back-count .ensures ∙ z))) refl)
+    naming-goes (t .before .args .found) (t .turned-naming .ensures) _ (went _ (d .before .is-accepted .ensures) (d .if1 .left))
+    (miss _ _ (ne-eqb _ 0 (λ z. c .if2 .left (o .taken-back-count .ensures ∙ z))) no-row)
 
 pub turned-redoing-spec : {M : Type 1} → statement M
 turned-redoing-spec =

@@ -1,11 +1,7 @@
 -- `rows::turned_undoing` meets its contract. Assumes nothing.
 use borrow.Author.Needs.{needs}
-use mathlib.Core.Path.{refl}
-use mathlib.Core.List.{[]}
 use borrow.Author.Tests.{eq-eqb, ne-eqb}
-use Rattle.refusal.proofs.Rows.{firstOf, hit, miss}
-use Rattle.rows.specs.Refusals.{turnedUndoing}
-use Rattle.rows.specs.Found.{lookAtFound}
+use Rattle.refusal.proofs.Rows.{hit, miss, no-row}
 use Rattle.rows.proofs.Rows.{refused, went, naming-stops, naming-goes}
 use Rattle.rows.proofs.turned_undoing.Statement.{statement}
 use Rattle.rows.proofs.turned_undoing.Tie as tie
@@ -17,26 +13,22 @@ is-accepted-requires : tie.Need-is-accepted-requires
 is-accepted-requires c κs = search needs
 
 returns : tie.Need-returns
-unfolding firstOf turnedUndoing
 returns c =
     let t = c .before .before in
-    naming-stops (lookAtFound (t .before .args .found) [] 0) (t .turned-naming .ensures) _ (refused _ (c .before .is-accepted .ensures) (c .if1 .taken))
+    naming-stops (t .before .args .found) (t .turned-naming .ensures) _ (refused _ (c .before .is-accepted .ensures) (c .if1 .taken))
 
 returns-2 : tie.Need-returns-2
-unfolding firstOf turnedUndoing
 returns-2 c =
     let d = c .before .before .before in
     let t = d .before .before in
-    naming-goes (lookAtFound (t .before .args .found) [] 0) (t .turned-naming .ensures) (went _ (d .before .is-accepted .ensures) (d .if1 .left))
-    (hit _ _ (eq-eqb _ _ (c .if2 .taken)))
+    naming-goes (t .before .args .found) (t .turned-naming .ensures) _ (went _ (d .before .is-accepted .ensures) (d .if1 .left)) (hit _ _ (eq-eqb _ _ (c .if2 .taken)))
 
 returns-3 : tie.Need-returns-3
-unfolding firstOf turnedUndoing
 returns-3 c =
     let d = c .before .before .before in
     let t = d .before .before in
-    naming-goes (lookAtFound (t .before .args .found) [] 0) (t .turned-naming .ensures) (went _ (d .before .is-accepted .ensures) (d .if1 .left))
-    (miss _ (ne-eqb _ _ (c .if2 .left)) refl)
+    naming-goes (t .before .args .found) (t .turned-naming .ensures) _ (went _ (d .before .is-accepted .ensures) (d .if1 .left))
+    (miss _ _ (ne-eqb _ _ (c .if2 .left)) no-row)
 
 pub turned-undoing-spec : {M : Type 1} → statement M
 turned-undoing-spec =

@@ -3,6 +3,7 @@ use borrow.Author.Needs.{needs}
 use borrow.Author.Tests.{not-true, not-false}
 use mathlib.Core.Path.{sym, _∙_}
 use mathlib.Core.List.{List}
+use native.Mathlib.Omega.{arith}
 use lib.ListN.{take}
 use Rattle.drawing.specs.declared.Edit.{Edit}
 use Rattle.journal.specs.Journal.{own}
@@ -40,10 +41,13 @@ can-take-back-all-requires c κs =
     let k = c .before in
     let j = k .before .before .before in
     let s = j .before .before in
-    (s .pre .0, s .pre .1, k .before .before .if2 .left, sym (k .keep-rules .ensures) ∙ not-false _ (c .if3 .left))
+    (s .pre .0, s .pre .1, omega (arith, k .before .before .if2 .left), sym (k .keep-rules .ensures) ∙ not-false _ (c .if3 .left))
 
 can-redo-all-requires : tie.Need-can-redo-all-requires
-can-redo-all-requires c κs = search needs
+can-redo-all-requires c κs =
+    let k = c .before .before .before in
+    let s = k .before .before .before .before .before in
+    (s .pre .0, sym (k .keep-rules .ensures) ∙ not-false _ (c .before .before .if3 .left))
 
 returns-4 : tie.Need-returns-4
 returns-4 c =

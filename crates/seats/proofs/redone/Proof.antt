@@ -25,10 +25,7 @@ edit-of-requires : tie.Need-edit-of-requires
 edit-of-requires c κs = search needs
 
 make-requires : tie.Need-make-requires
-make-requires c κs =
-    let o = c .before .before in
-    let s = o .before in
-    rw (redo-finds (s .args .s) (edits s) (o .taken-back-count .ensures) (s .pre .1) (c .before .edit-of .ensures)) (s .pre .2)
+make-requires c κs = search needs
 
 add-t10 : tie.Need-add-t10
 add-t10 c =

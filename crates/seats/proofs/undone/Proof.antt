@@ -19,10 +19,7 @@ edit-of-requires : tie.Need-edit-of-requires
 edit-of-requires c κs = search needs
 
 take-back-requires : tie.Need-take-back-requires
-take-back-requires c κs =
-    let o = c .before .before in
-    let s = o .before in
-    rw (undo-finds (s .args .s) (edits s) (o .taken-back-count .ensures) (s .pre .1) (s .pre .2) (c .before .edit-of .ensures)) (s .pre .3)
+take-back-requires c κs = search needs
 
 sub-t10 : tie.Need-sub-t10
 sub-t10 c = search needs

@@ -12,22 +12,22 @@ use Rattle.shown.proofs.pins_there.Statement.{statement}
 use Rattle.shown.proofs.pins_there.Tie as tie
 
 abbrev Inv-loop : tie.InvT-loop
-Inv-loop feed count₀ pin₀ count pin = ((pin ≤ mostPins) × (count ≤ pin)) × (count + pinsThere (drop pin feed) ≡ pinsThere feed)
+Inv-loop pins count₀ number₀ count number = ((number ≤ mostPins) × (count ≤ number)) × (count + pinsThere (drop number pins) ≡ pinsThere pins)
 
 abbrev μ-loop : tie.MeasureT-loop
-μ-loop feed count₀ pin₀ count pin = mostPins - pin
+μ-loop pins count₀ number₀ count number = mostPins - number
 
 loop-holds : tie.Need-loop-holds Inv-loop μ-loop
 loop-holds c = ((omega arith, omega arith), omega arith)
 
-mul-spot : tie.Need-mul-spot Inv-loop μ-loop
-mul-spot c = search needs
+mul-pin : tie.Need-mul-pin Inv-loop μ-loop
+mul-pin c = search needs
 
-array-copy-out-spot : tie.Need-array-copy-out-spot Inv-loop μ-loop
-array-copy-out-spot c = search needs
+array-copy-out-pin : tie.Need-array-copy-out-pin Inv-loop μ-loop
+array-copy-out-pin c = search needs
 
-add-pin : tie.Need-add-pin Inv-loop μ-loop
-add-pin c = search needs
+add-number : tie.Need-add-number Inv-loop μ-loop
+add-number c = search needs
 
 is-there-requires : tie.Need-is-there-requires Inv-loop μ-loop
 is-there-requires c κs = search needs
@@ -42,7 +42,7 @@ loop-again : tie.Need-loop-again Inv-loop μ-loop
 loop-again c =
     let l = c .before .before .before .before in
     let t = sym (c .before .is-there .ensures) ∙ c .if1 .taken in
-    ((omega arith, omega arith), omega (arith, l .loop .inv .1, count-there (l .before .args .t1) (l .loop .pin) (omega arith) t))
+    ((omega arith, omega arith), omega (arith, l .loop .inv .1, count-there (l .before .args .t1) (l .loop .number) (omega arith) t))
 
 loop-less-2 : tie.Need-loop-less-2 Inv-loop μ-loop
 loop-less-2 c = search needs
@@ -51,14 +51,14 @@ loop-again-2 : tie.Need-loop-again-2 Inv-loop μ-loop
 loop-again-2 c =
     let l = c .before .before .before .before in
     let t = sym (c .before .is-there .ensures) ∙ c .if1 .left in
-    ((omega arith, omega arith), omega (arith, l .loop .inv .1, count-absent (l .before .args .t1) (l .loop .pin) (omega arith) t))
+    ((omega arith, omega arith), omega (arith, l .loop .inv .1, count-absent (l .before .args .t1) (l .loop .number) (omega arith) t))
 
 returns : tie.Need-returns Inv-loop μ-loop
 unfolding howMany
 returns c =
     let s = c .before .before .args in
     let q = c .before .loop in
-    omega (arith, q .inv .1, ap pinsThere (drop-of-length-le (s .t1) {i = q .pin} (omega arith)))
+    omega (arith, q .inv .1, ap pinsThere (drop-of-length-le (s .t1) {i = q .number} (omega arith)))
 
 pub pins-there-spec : {M : Type 1} → statement M
 pins-there-spec =
@@ -67,9 +67,9 @@ pins-there-spec =
     Inv-loop
     μ-loop
     loop-holds
-    mul-spot
-    array-copy-out-spot
-    add-pin
+    mul-pin
+    array-copy-out-pin
+    add-number
     is-there-requires
     add-count
     loop-less

@@ -27,10 +27,10 @@ returns c =
     let a = c .before .before .print-drawing .ensures in
     let b = c .put-pins .ensures in
     let h =
-    line (s .out .now) (drawnText (s .job) (s .feed) (s .standing) (s .taken))
+    line (s .out .now) (drawnText (s .job) (s .pins) (s .standing) (s .taken))
     (then-put (s .out .now) 0
-    (drawingLine (s .job) (pinsThere (s .feed)) (s .standing) (s .taken))
-    (pinsText 0 (s .feed))
+    (drawingLine (s .job) (pinsThere (s .pins)) (s .standing) (s .taken))
+    (pinsText 0 (s .pins))
     (put-as (s .out .now) 0 (ap (λ (k : ℕ). drawingLine (s .job) k (s .standing) (s .taken)) n)
     (begun (s .out .now) (drawingLine (s .job) (c .before .before .before .before .pins-there .result) (s .standing) (s .taken)) (a .0 .0) (a .1)))
     (b .0 .0, b .1)) in

@@ -7,16 +7,19 @@ use Prim.Native.Nat.{_-_}
 use lib.ListN.{take, drop}
 use Rattle.basics.proofs.Lists.{front-of, none-left}
 use Rattle.basics.proofs.Anyone.{two-next, two-stop, two-end}
+use Rattle.basics.specs.Tests.{noTwo}
 use Rattle.tree.specs.Growth.{run}
-use Rattle.tree.specs.Boxes.{clash, boxesMeet}
+use Rattle.board.specs.Spots.{placeIn}
+use Rattle.tree.specs.Offers.{clashAt}
 use Rattle.tree.proofs.do_boxes_meet.Statement.{statement}
 use Rattle.tree.proofs.do_boxes_meet.Tie as tie
 
 abbrev Inv-loop : tie.InvT-loop
-Inv-loop feed count runs at₀ at = boxesMeet feed (drop at (take count runs)) ≡ boxesMeet feed (take count runs)
+Inv-loop xs ys count runs at₀ at =
+    not (noTwo (clashAt (placeIn xs ys)) (drop at (take count runs))) ≡ not (noTwo (clashAt (placeIn xs ys)) (take count runs))
 
 abbrev μ-loop : tie.MeasureT-loop
-μ-loop feed count runs at₀ at = count - at
+μ-loop xs ys count runs at₀ at = count - at
 
 loop-holds : tie.Need-loop-holds Inv-loop μ-loop
 loop-holds c = refl
@@ -31,14 +34,16 @@ add-clashes-any : tie.Need-add-clashes-any Inv-loop μ-loop
 add-clashes-any c = search needs
 
 clashes-any-requires : tie.Need-clashes-any-requires Inv-loop μ-loop
-clashes-any-requires c κs = search needs
+clashes-any-requires c κs =
+    let h = c .before .before in
+    (h .before .pre .0, h .before .pre .1, h .before .pre .1 (h .loop .at) (omega arith))
 
 returns : tie.Need-returns Inv-loop μ-loop
 returns c =
     let h = c .before .before .before .before in
     let a = h .before .args in
-    let f = front-of (run 0 0) (a .t2) (a .count) (h .loop .at) (omega arith) (omega arith) in
-    sym (ap not (two-stop f (clash (a .feed)) (c .before .clashes-any .ensures) (c .if1 .taken))) ∙ h .loop .inv
+    let f = front-of (run 0 0) (a .t3) (a .count) (h .loop .at) (omega arith) (omega arith) in
+    sym (ap not (two-stop f (clashAt (placeIn (a .xs .now) (a .ys .now))) (c .before .clashes-any .ensures) (c .if1 .taken))) ∙ h .loop .inv
 
 add-at : tie.Need-add-at Inv-loop μ-loop
 add-at c = search needs
@@ -50,14 +55,14 @@ loop-again : tie.Need-loop-again Inv-loop μ-loop
 loop-again c =
     let h = c .before .before .before .before in
     let a = h .before .args in
-    let f = front-of (run 0 0) (a .t2) (a .count) (h .loop .at) (omega arith) (omega arith) in
-    sym (ap not (two-next f (clash (a .feed)) (c .before .clashes-any .ensures) (c .if1 .left))) ∙ h .loop .inv
+    let f = front-of (run 0 0) (a .t3) (a .count) (h .loop .at) (omega arith) (omega arith) in
+    sym (ap not (two-next f (clashAt (placeIn (a .xs .now) (a .ys .now))) (c .before .clashes-any .ensures) (c .if1 .left))) ∙ h .loop .inv
 
 returns-2 : tie.Need-returns-2 Inv-loop μ-loop
 returns-2 c =
     let h = c .before in
     let a = h .before .args in
-    sym (ap not (two-end (none-left (a .t2) (a .count) (h .loop .at) (omega arith)) (clash (a .feed)))) ∙ h .loop .inv
+    sym (ap not (two-end (none-left (a .t3) (a .count) (h .loop .at) (omega arith)) (clashAt (placeIn (a .xs .now) (a .ys .now))))) ∙ h .loop .inv
 
 pub do-boxes-meet-spec : {M : Type 1} → statement M
 do-boxes-meet-spec =

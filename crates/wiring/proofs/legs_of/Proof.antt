@@ -4,6 +4,7 @@ use mathlib.Core.Path.{_≡_}
 use Prim.Native.Nat.{_≤_, _<_, _-_}
 use native.Mathlib.Omega.{arith}
 use lib.ListN.{length, getD}
+use Rattle.board.specs.Spots.{spotsFrom}
 use Rattle.tree.specs.Trees.{mostRuns}
 use Rattle.wiring.specs.Answer.{noRun}
 use Rattle.wiring.proofs.Filling.{leg-small, blanks, Put, put-none, put-one, put-two, put-all}
@@ -12,10 +13,10 @@ use Rattle.wiring.proofs.legs_of.Statement.{statement}
 use Rattle.wiring.proofs.legs_of.Tie as tie
 
 abbrev Inv-loop : tie.InvT-loop
-Inv-loop feed count entries legs₀ filled₀ at₀ legs filled at = (at ≤ count) × Put feed entries legs filled at
+Inv-loop xs ys there count entries legs₀ filled₀ at₀ legs filled at = (at ≤ count) × Put (spotsFrom xs ys there) entries legs filled at
 
 abbrev μ-loop : tie.MeasureT-loop
-μ-loop feed count entries legs₀ filled₀ at₀ legs filled at = count - at
+μ-loop xs ys there count entries legs₀ filled₀ at₀ legs filled at = count - at
 
 no-leg-requires : tie.Need-no-leg-requires Inv-loop μ-loop
 no-leg-requires c κs = search needs
@@ -62,7 +63,7 @@ array-set-from-legs-2 c = omega (arith, c .before .before .before .before .befor
 add-filled : tie.Need-add-filled Inv-loop μ-loop
 add-filled c =
     let s = c .before .before .before .before .before .before .before in
-    let shape = getD (s .before .before .args .t2) (s .loop .at) noRun .shape in
+    let shape = getD (s .before .before .args .t4) (s .loop .at) noRun .shape in
     record { fits = omega (arith, s .loop .inv .1 .few, leg-small shape (c .before .before .leg-count .ensures)) }
 
 add-at : tie.Need-add-at Inv-loop μ-loop
@@ -75,7 +76,7 @@ loop-again : tie.Need-loop-again Inv-loop μ-loop
 loop-again c =
     let p = c .before .before .before .before in
     let s = p .before .before .before in
-    let long : length (s .before .before .args .t2) ≡ mostRuns = omega arith in
+    let long : length (s .before .before .args .t4) ≡ mostRuns = omega (arith, s .before .before .good) in
     let within : s .loop .at < mostRuns = omega arith in
     let first = c .before .first-leg .ensures in
     let count = c .before .before .leg-count .ensures in

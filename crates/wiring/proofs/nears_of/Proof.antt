@@ -1,52 +1,54 @@
--- `wiring::nears_of` meets its contract: the list is filled from the front. Assumes nothing.
-use mathlib.Core.Path.{_≡_, refl}
+-- `wiring::nears_of` meets its contract, in one pass over the runs. Assumes nothing.
 use Prim.Native.Nat.{_-_}
-use Rattle.tree.specs.Trees.{mostRuns}
-use Rattle.basics.proofs.Lists.{overlaid, overlaid-none, values-turn, values-all}
-use Rattle.wiring.specs.Reaching.{nearsOf}
-use borrow.Author.Needs.{needs}
+use native.Mathlib.Omega.{arith}
+use Rattle.wiring.proofs.Filling.{Numbering, numbering-none, numbering-turn, numbering-all}
 use Rattle.wiring.proofs.nears_of.Statement.{statement}
 use Rattle.wiring.proofs.nears_of.Tie as tie
 
 abbrev Inv-loop : tie.InvT-loop
-Inv-loop count runs nears₀ at₀ nears at = nears ≡ overlaid (nearsOf runs count) nears₀ at
+Inv-loop count runs order₀ nears₀ at₀ order nears at = Numbering runs count order nears at
 
 abbrev μ-loop : tie.MeasureT-loop
-μ-loop count runs nears₀ at₀ nears at = mostRuns - at
+μ-loop count runs order₀ nears₀ at₀ order nears at = count - at
 
 loop-holds : tie.Need-loop-holds Inv-loop μ-loop
-loop-holds c = overlaid-none _ _
+loop-holds c = numbering-none _ _ (c .pre)
 
 mul-run : tie.Need-mul-run Inv-loop μ-loop
-mul-run c = search needs
+mul-run c = record { fits = omega (arith, c .loop-test .taken, c .before .loop .inv .in-range .few) }
 
 array-copy-out-run : tie.Need-array-copy-out-run Inv-loop μ-loop
-array-copy-out-run c = search needs
-
-reached-as-requires : tie.Need-reached-as-requires Inv-loop μ-loop
-reached-as-requires c κs = search needs
+array-copy-out-run c = omega (arith, c .loop-test .taken, c .before .loop .inv .in-range .few)
 
 mul-nears : tie.Need-mul-nears Inv-loop μ-loop
-mul-nears c = search needs
+mul-nears c = record { fits = omega (arith, c .before .before .loop .inv .in-range .near _ (c .before .loop-test .taken)) }
+
+array-read-nears : tie.Need-array-read-nears Inv-loop μ-loop
+array-read-nears c = c .before .before .loop .inv .in-range .near _ (c .before .loop-test .taken)
+
+mul-nears-2 : tie.Need-mul-nears-2 Inv-loop μ-loop
+mul-nears-2 c = record { fits = omega (arith, c .before .loop-test .taken, c .before .before .loop .inv .in-range .few) }
 
 array-write-nears : tie.Need-array-write-nears Inv-loop μ-loop
-array-write-nears c = search needs
+array-write-nears c = omega (arith, c .before .loop-test .taken, c .before .before .loop .inv .in-range .few)
 
 add-at : tie.Need-add-at Inv-loop μ-loop
-add-at c = search needs
+add-at c = record { fits = omega (arith, c .before .loop-test .taken, c .before .before .loop .inv .in-range .few) }
+
+mul-order : tie.Need-mul-order Inv-loop μ-loop
+mul-order c = record { fits = omega (arith, c .before .before .loop .inv .in-range .far _ (c .before .loop-test .taken)) }
+
+array-write-order : tie.Need-array-write-order Inv-loop μ-loop
+array-write-order c = c .before .before .loop .inv .in-range .far _ (c .before .loop-test .taken)
 
 loop-less : tie.Need-loop-less Inv-loop μ-loop
-loop-less c = search needs
+loop-less c = omega (arith, c .before .loop-test .taken)
 
 loop-again : tie.Need-loop-again Inv-loop μ-loop
-unfolding nearsOf
-loop-again c =
-    let s = c .before .before .before in
-    values-turn _ _ _ 0 _ _ (s .loop .inv) refl _ (c .before .before .loop-test .taken) (c .reached-as .ensures)
+loop-again c = numbering-turn _ _ _ _ _ (c .before .before .loop .inv) (c .before .loop-test .taken)
 
 returns : tie.Need-returns Inv-loop μ-loop
-unfolding nearsOf
-returns c = values-all _ _ _ 0 _ _ (c .before .loop .inv) refl (c .loop-test .left)
+returns c = numbering-all _ _ _ _ _ (c .before .loop .inv) (c .loop-test .left)
 
 pub nears-of-spec : {M : Type 1} → statement M
 nears-of-spec =
@@ -57,10 +59,13 @@ nears-of-spec =
     loop-holds
     mul-run
     array-copy-out-run
-    reached-as-requires
     mul-nears
+    array-read-nears
+    mul-nears-2
     array-write-nears
     add-at
+    mul-order
+    array-write-order
     loop-less
     loop-again
     returns)

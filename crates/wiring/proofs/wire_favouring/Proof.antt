@@ -1,8 +1,8 @@
 -- `wiring::wire_favouring` meets its contract: the tree refuses, the room is too small, or the shapes found are the answer. A need looks back by
 -- letters: o is the state at the start, s that after the first test, m, e and l those after the least cost, the entries and the legs. Assumes nothing.
 use mathlib.Core.Path.{_∙_}
-use native.Mathlib.Omega.{arith}
-use Rattle.wiring.proofs.Answering.{wire-refused, count-few, wire-grown, wire-room, wire-answer}
+use Rattle.board.proofs.Lent.{spots-many}
+use Rattle.wiring.proofs.Answering.{wire-refused, count-few, wire-numbered, wire-grown, wire-room, wire-answer}
 use borrow.Author.Needs.{needs}
 use Rattle.wiring.proofs.wire_favouring.Statement.{statement}
 use Rattle.wiring.proofs.wire_favouring.Tie as tie
@@ -21,36 +21,31 @@ returns c =
     let s = c .before in
     let o = s .before .before .before in
     c .refused .ensures
-    ∙ wire-refused _ (omega (arith, o .good)) (o .pre .0) (o .pre .1) (o .args .favoured) (o .args .room)
+    ∙ wire-refused _ (spots-many _ _ _) (o .pre .0) (o .pre .1) (o .args .favoured) (o .args .room)
     _ (s .before .before .tree-of .ensures) _ (s .before .is-accepted .ensures) (s .if1 .taken)
 
-reached-of-requires : tie.Need-reached-of-requires
-reached-of-requires c κs =
+best-cost-requires : tie.Need-best-cost-requires
+best-cost-requires c κs =
     let s = c .before in
     let o = s .before .before .before in
-    count-few _ (omega (arith, o .good)) (o .pre .0) (o .pre .1) (o .args .favoured) (o .args .room)
-    _ (s .before .before .tree-of .ensures) _ (s .before .is-accepted .ensures) (s .if1 .left)
-
-least-cost-requires : tie.Need-least-cost-requires
-least-cost-requires c κs =
-    let s = c .before .before in
-    let o = s .before .before .before in
-    wire-grown _ (omega (arith, o .good)) (o .pre .0) (o .pre .1) (o .args .favoured) (o .args .room)
-    _ (s .before .before .tree-of .ensures) _ (s .before .is-accepted .ensures) (s .if1 .left)
-    _ (c .reached-of .ensures)
+    let p = s .before .before .tree-of .ensures in
+    let q = s .before .is-accepted .ensures in (
+      wire-numbered _ (spots-many _ _ _) (o .pre .0) (o .pre .1) (o .args .favoured) (o .args .room) _ p _ q (s .if1 .left),
+      wire-grown _ (spots-many _ _ _) (o .pre .0) (o .pre .1) (o .args .favoured) (o .args .room) _ p _ q (s .if1 .left),
+    )
 
 entries-in-requires : tie.Need-entries-in-requires
 entries-in-requires c κs =
-    let s = c .before .before .before .before in
+    let s = c .before .before .before in
     let o = s .before .before .before in
-    count-few _ (omega (arith, o .good)) (o .pre .0) (o .pre .1) (o .args .favoured) (o .args .room)
+    count-few _ (spots-many _ _ _) (o .pre .0) (o .pre .1) (o .args .favoured) (o .args .room)
     _ (s .before .before .tree-of .ensures) _ (s .before .is-accepted .ensures) (s .if1 .left)
 
 legs-of-requires : tie.Need-legs-of-requires
 legs-of-requires c κs =
-    let s = c .before .before .before .before .before in
+    let s = c .before .before .before .before in
     let o = s .before .before .before in
-    count-few _ (omega (arith, o .good)) (o .pre .0) (o .pre .1) (o .args .favoured) (o .args .room)
+    count-few _ (spots-many _ _ _) (o .pre .0) (o .pre .1) (o .args .favoured) (o .args .room)
     _ (s .before .before .tree-of .ensures) _ (s .before .is-accepted .ensures) (s .if1 .left)
 
 refused-requires-2 : tie.Need-refused-requires-2
@@ -61,23 +56,23 @@ returns-2 c =
     let l = c .before .before .before in
     let e = l .before in
     let m = e .before .before in
-    let s = m .before .before .before in
+    let s = m .before .before in
     let o = s .before .before .before in
     c .refused2 .ensures
-    ∙ wire-room _ (omega (arith, o .good)) (o .pre .0) (o .pre .1) (o .args .favoured) (o .args .room)
+    ∙ wire-room _ (spots-many _ _ _) (o .pre .0) (o .pre .1) (o .args .favoured) (o .args .room)
     _ (s .before .before .tree-of .ensures) _ (s .before .is-accepted .ensures) (s .if1 .left)
-    _ (m .before .reached-of .ensures) _ (m .least-cost .ensures) _ (e .entries-in .ensures) _ (l .legs-of .ensures) (c .before .if2 .taken)
+    _ (m .best-cost .ensures) _ (e .entries-in .ensures) _ (l .legs-of .ensures) (c .before .if2 .taken)
 
 returns-3 : tie.Need-returns-3
 returns-3 c =
     let l = c .before .before .before .before in
     let e = l .before in
     let m = e .before .before in
-    let s = m .before .before .before in
+    let s = m .before .before in
     let o = s .before .before .before in
-    wire-answer _ (omega (arith, o .good)) (o .pre .0) (o .pre .1) (o .args .favoured) (o .args .room)
+    wire-answer _ (spots-many _ _ _) (o .pre .0) (o .pre .1) (o .args .favoured) (o .args .room)
     _ (s .before .before .tree-of .ensures) _ (s .before .is-accepted .ensures) (s .if1 .left)
-    _ (m .before .reached-of .ensures) _ (m .least-cost .ensures) _ (e .entries-in .ensures) _ (l .legs-of .ensures) (c .before .before .if2 .left)
+    _ (m .best-cost .ensures) _ (e .entries-in .ensures) _ (l .legs-of .ensures) (c .before .before .if2 .left)
 
 pub wire-favouring-spec : {M : Type 1} → statement M
 wire-favouring-spec =
@@ -87,8 +82,7 @@ wire-favouring-spec =
     is-accepted-requires
     refused-requires
     returns
-    reached-of-requires
-    least-cost-requires
+    best-cost-requires
     entries-in-requires
     legs-of-requires
     refused-requires-2

@@ -1,10 +1,10 @@
 -- `desk::Desk::close` meets its contract, by what is found. Assumes nothing.
 use mathlib.Core.Path.{sym, _∙_}
 use borrow.Author.Needs.{needs}
-use Rattle.desk.specs.Calls.{closing}
+use Rattle.rows.specs.Calls.{closing}
 use Rattle.desk.specs.Desk.{effect}
 use Rattle.desk.proofs.Sound.{used-within}
-use Rattle.desk.proofs.Found.{close-answer, close-there, sound-there, seat-there}
+use Rattle.desk.proofs.Found.{found-answer, found-sound, found-low}
 use Rattle.desk.proofs.Steps.{step-refused, step-accepted}
 use Rattle.desk.proofs.Desk.close.Statement.{statement}
 use Rattle.desk.proofs.Desk.close.Tie as tie
@@ -24,7 +24,7 @@ freed-requires c κs =
     let f = r .before in
     let a = f .before .args in
     let y = sym (c .before .is-accepted .ensures) ∙ c .if1 .taken in
-    used-within (a .self) (sound-there (a .self) (a .seat) (f .find .ensures) (close-there (a .self) (a .seat) (f .find .ensures) (r .turned-naming .ensures) y))
+    used-within (a .self) (found-sound (a .self) (closing (a .seat)) (f .find .ensures) (r .turned-naming .ensures) y)
 
 closed-seat-requires : tie.Need-closed-seat-requires
 closed-seat-requires c κs = search needs
@@ -36,7 +36,7 @@ with-seat-requires c κs =
     let f = r .before in
     let a = f .before .args in
     let y = sym (b .before .is-accepted .ensures) ∙ b .if1 .taken in
-    seat-there (a .self) (a .seat) (f .find .ensures) (close-there (a .self) (a .seat) (f .find .ensures) (r .turned-naming .ensures) y)
+    found-low (a .self) (closing (a .seat)) (f .find .ensures) (r .turned-naming .ensures) y
 
 refused-requires : tie.Need-refused-requires
 refused-requires c κs = search needs
@@ -49,7 +49,7 @@ returns c =
     let f = r .before in
     let a = f .before .args in
     let y = sym (b .before .is-accepted .ensures) ∙ b .if1 .taken in
-    step-accepted (a .self) (closing (a .seat)) (close-answer (a .self) (a .seat) (f .find .ensures) (r .turned-naming .ensures)) y
+    step-accepted (a .self) (closing (a .seat)) (found-answer (a .self) (closing (a .seat)) (f .find .ensures) (r .turned-naming .ensures)) y
     (c .with-seat .ensures ∙ rw (c .before .before .freed .ensures, c .before .closed-seat .ensures))
 
 returns-2 : tie.Need-returns-2
@@ -59,7 +59,7 @@ returns-2 c =
     let f = r .before in
     let a = f .before .args in
     let y = sym (b .before .is-accepted .ensures) ∙ b .if1 .left in
-    c .refused .ensures ∙ step-refused (a .self) (closing (a .seat)) (close-answer (a .self) (a .seat) (f .find .ensures) (r .turned-naming .ensures)) y
+    c .refused .ensures ∙ step-refused (a .self) (closing (a .seat)) (found-answer (a .self) (closing (a .seat)) (f .find .ensures) (r .turned-naming .ensures)) y
 
 pub close-spec : {M : Type 1} → statement M
 close-spec =

@@ -1,12 +1,20 @@
 -- `desk::Desk::open` meets its contract, by what is found. Assumes nothing.
-use mathlib.Core.Path.{sym, _∙_}
+use mathlib.Core.Path.{_≡_, ap, sym, _∙_}
 use borrow.Author.Needs.{needs}
-use Rattle.desk.specs.Calls.{opening}
+use Rattle.refusal.specs.Rows.{firstOf}
+use Rattle.pinmap.specs.declared.Reading.{Reading}
+use Rattle.rows.specs.Calls.{opening}
+use Rattle.rows.specs.Refusals.{rowsOf}
 use Rattle.desk.specs.Desk.{effect}
-use Rattle.desk.proofs.Found.{open-answer, open-read, open-seat}
+use Rattle.desk.proofs.Found.{lookFound, found-answer, found-low, open-read}
 use Rattle.desk.proofs.Steps.{step-refused, step-accepted}
 use Rattle.desk.proofs.Desk.open.Statement.{statement}
 use Rattle.desk.proofs.Desk.open.Tie as tie
+
+-- What the reading says.
+told : (c : tie.After-map-read) → let s = c .before .before .before .before in
+    c .map-read .result .verdict ≡ firstOf (rowsOf (lookFound (s .args .self) (c .before .before .find .result)) (opening (s .args .seat) (s .args .job) (s .args .map .now)))
+told c = ap (λ (r : Reading). r .verdict) (c .map-read .ensures)
 
 find-requires : tie.Need-find-requires
 find-requires c κs = search needs
@@ -26,8 +34,7 @@ with-seat-requires c κs =
     let r = b .before .before in
     let f = r .before .before in
     let a = f .before .before .args in
-    let y = sym (b .before .is-accepted .ensures) ∙ b .if1 .taken in
-    open-seat (a .self) (a .seat) (a .job) (a .map .now) (f .find .ensures) (r .map-read .ensures) y
+    found-low (a .self) (opening (a .seat) (a .job) (a .map .now)) (f .find .ensures) (told r) (sym (b .before .is-accepted .ensures) ∙ b .if1 .taken)
 
 refused-requires : tie.Need-refused-requires
 refused-requires c κs = search needs
@@ -41,7 +48,7 @@ returns c =
     let a = f .before .before .args in
     let y = sym (b .before .is-accepted .ensures) ∙ b .if1 .taken in
     step-accepted (a .self) (opening (a .seat) (a .job) (a .map .now))
-    (open-answer (a .self) (a .seat) (a .job) (a .map .now) (f .find .ensures) (r .map-read .ensures)) y
+    (found-answer (a .self) (opening (a .seat) (a .job) (a .map .now)) (f .find .ensures) (told r)) y
     (c .with-seat .ensures ∙ rw (c .before .open-seat .ensures, open-read (a .self) (a .seat) (a .job) (a .map .now) (f .find .ensures) (r .map-read .ensures) y))
 
 returns-2 : tie.Need-returns-2
@@ -53,7 +60,7 @@ returns-2 c =
     let y = sym (b .before .is-accepted .ensures) ∙ b .if1 .left in
     c .refused .ensures
     ∙ step-refused (a .self) (opening (a .seat) (a .job) (a .map .now))
-    (open-answer (a .self) (a .seat) (a .job) (a .map .now) (f .find .ensures) (r .map-read .ensures)) y
+    (found-answer (a .self) (opening (a .seat) (a .job) (a .map .now)) (f .find .ensures) (told r)) y
 
 pub open-spec : {M : Type 1} → statement M
 open-spec =

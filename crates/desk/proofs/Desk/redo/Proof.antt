@@ -1,11 +1,10 @@
 -- `desk::Desk::redo` meets its contract, by what is found. Assumes nothing.
 use mathlib.Core.Path.{sym, _∙_}
 use borrow.Author.Needs.{needs}
-use Rattle.desk.specs.Calls.{redoing}
+use Rattle.rows.specs.Calls.{redoing}
 use Rattle.desk.specs.Desk.{effect}
-use Rattle.desk.proofs.Found.{redo-answer, redo-there, redo-waits, same-there, seat-there}
+use Rattle.desk.proofs.Found.{found-answer, found-low, found-seat, used-fits, redo-fits}
 use Rattle.desk.proofs.Steps.{step-refused, step-accepted}
-use Rattle.desk.proofs.Back.{used-fits, redo-fits}
 use Rattle.desk.proofs.Desk.redo.Statement.{statement}
 use Rattle.desk.proofs.Desk.redo.Tie as tie
 
@@ -24,9 +23,7 @@ redone-requires c κs =
     let r = b .before .before in
     let f = r .before .before in
     let a = f .before .args in
-    let y = sym (b .before .is-accepted .ensures) ∙ b .if1 .taken in
-    redo-fits (a .self) (a .seat) (f .find .ensures) (redo-there (a .self) (a .seat) (f .find .ensures) (r .turned-redoing .ensures) y)
-    (redo-waits (a .self) (a .seat) (f .find .ensures) (r .turned-redoing .ensures) y)
+    redo-fits (a .self) (a .seat) (f .find .ensures) (sym (b .before .is-accepted .ensures) ∙ b .if1 .taken) (r .turned-redoing .ensures)
 
 with-seat-requires : tie.Need-with-seat-requires
 with-seat-requires c κs =
@@ -34,8 +31,7 @@ with-seat-requires c κs =
     let r = b .before .before in
     let f = r .before .before in
     let a = f .before .args in
-    let y = sym (b .before .is-accepted .ensures) ∙ b .if1 .taken in
-    seat-there (a .self) (a .seat) (f .find .ensures) (redo-there (a .self) (a .seat) (f .find .ensures) (r .turned-redoing .ensures) y)
+    found-low (a .self) (redoing (a .seat)) (f .find .ensures) (r .turned-redoing .ensures) (sym (b .before .is-accepted .ensures) ∙ b .if1 .taken)
 
 refused-requires : tie.Need-refused-requires
 refused-requires c κs = search needs
@@ -48,9 +44,9 @@ returns c =
     let f = r .before .before in
     let a = f .before .args in
     let y = sym (b .before .is-accepted .ensures) ∙ b .if1 .taken in
-    let n = redo-there (a .self) (a .seat) (f .find .ensures) (r .turned-redoing .ensures) y in
-    step-accepted (a .self) (redoing (a .seat)) (redo-answer (a .self) (a .seat) (f .find .ensures) (r .turned-redoing .ensures)) y
-    (c .with-seat .ensures ∙ rw (c .before .redone .ensures, same-there (a .self) (a .seat) (f .find .ensures) n))
+    let q = found-seat (a .self) (redoing (a .seat)) (f .find .ensures) (r .turned-redoing .ensures) y in
+    step-accepted (a .self) (redoing (a .seat)) (found-answer (a .self) (redoing (a .seat)) (f .find .ensures) (r .turned-redoing .ensures)) y
+    (c .with-seat .ensures ∙ rw (c .before .redone .ensures, q))
 
 returns-2 : tie.Need-returns-2
 returns-2 c =
@@ -59,7 +55,7 @@ returns-2 c =
     let f = r .before .before in
     let a = f .before .args in
     let y = sym (b .before .is-accepted .ensures) ∙ b .if1 .left in
-    c .refused .ensures ∙ step-refused (a .self) (redoing (a .seat)) (redo-answer (a .self) (a .seat) (f .find .ensures) (r .turned-redoing .ensures)) y
+    c .refused .ensures ∙ step-refused (a .self) (redoing (a .seat)) (found-answer (a .self) (redoing (a .seat)) (f .find .ensures) (r .turned-redoing .ensures)) y
 
 pub redo-spec : {M : Type 1} → statement M
 redo-spec =

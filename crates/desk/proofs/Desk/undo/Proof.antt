@@ -1,11 +1,10 @@
 -- `desk::Desk::undo` meets its contract, by what is found. Assumes nothing.
 use mathlib.Core.Path.{sym, _∙_}
 use borrow.Author.Needs.{needs}
-use Rattle.desk.specs.Calls.{undoing}
+use Rattle.rows.specs.Calls.{undoing}
 use Rattle.desk.specs.Desk.{effect}
-use Rattle.desk.proofs.Found.{undo-answer, undo-there, undo-stands, same-there, seat-there}
+use Rattle.desk.proofs.Found.{found-answer, found-low, found-seat, undo-fits}
 use Rattle.desk.proofs.Steps.{step-refused, step-accepted}
-use Rattle.desk.proofs.Back.{undo-fits}
 use Rattle.desk.proofs.Desk.undo.Statement.{statement}
 use Rattle.desk.proofs.Desk.undo.Tie as tie
 
@@ -24,9 +23,7 @@ undone-requires c κs =
     let r = b .before .before in
     let f = r .before in
     let a = f .before .args in
-    let y = sym (b .before .is-accepted .ensures) ∙ b .if1 .taken in
-    undo-fits (a .self) (a .seat) (f .find .ensures) (undo-there (a .self) (a .seat) (f .find .ensures) (r .turned-undoing .ensures) y)
-    (undo-stands (a .self) (a .seat) (f .find .ensures) (r .turned-undoing .ensures) y)
+    undo-fits (a .self) (a .seat) (f .find .ensures) (sym (b .before .is-accepted .ensures) ∙ b .if1 .taken) (r .turned-undoing .ensures)
 
 with-seat-requires : tie.Need-with-seat-requires
 with-seat-requires c κs =
@@ -34,8 +31,7 @@ with-seat-requires c κs =
     let r = b .before .before in
     let f = r .before in
     let a = f .before .args in
-    let y = sym (b .before .is-accepted .ensures) ∙ b .if1 .taken in
-    seat-there (a .self) (a .seat) (f .find .ensures) (undo-there (a .self) (a .seat) (f .find .ensures) (r .turned-undoing .ensures) y)
+    found-low (a .self) (undoing (a .seat)) (f .find .ensures) (r .turned-undoing .ensures) (sym (b .before .is-accepted .ensures) ∙ b .if1 .taken)
 
 refused-requires : tie.Need-refused-requires
 refused-requires c κs = search needs
@@ -48,9 +44,9 @@ returns c =
     let f = r .before in
     let a = f .before .args in
     let y = sym (b .before .is-accepted .ensures) ∙ b .if1 .taken in
-    let n = undo-there (a .self) (a .seat) (f .find .ensures) (r .turned-undoing .ensures) y in
-    step-accepted (a .self) (undoing (a .seat)) (undo-answer (a .self) (a .seat) (f .find .ensures) (r .turned-undoing .ensures)) y
-    (c .with-seat .ensures ∙ rw (c .before .undone .ensures, same-there (a .self) (a .seat) (f .find .ensures) n))
+    let q = found-seat (a .self) (undoing (a .seat)) (f .find .ensures) (r .turned-undoing .ensures) y in
+    step-accepted (a .self) (undoing (a .seat)) (found-answer (a .self) (undoing (a .seat)) (f .find .ensures) (r .turned-undoing .ensures)) y
+    (c .with-seat .ensures ∙ rw (c .before .undone .ensures, q))
 
 returns-2 : tie.Need-returns-2
 returns-2 c =
@@ -59,7 +55,7 @@ returns-2 c =
     let f = r .before in
     let a = f .before .args in
     let y = sym (b .before .is-accepted .ensures) ∙ b .if1 .left in
-    c .refused .ensures ∙ step-refused (a .self) (undoing (a .seat)) (undo-answer (a .self) (a .seat) (f .find .ensures) (r .turned-undoing .ensures)) y
+    c .refused .ensures ∙ step-refused (a .self) (undoing (a .seat)) (found-answer (a .self) (undoing (a .seat)) (f .find .ensures) (r .turned-undoing .ensures)) y
 
 pub undo-spec : {M : Type 1} → statement M
 undo-spec =

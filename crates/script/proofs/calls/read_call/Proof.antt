@@ -1,74 +1,276 @@
 -- `script::read_call` meets its contract. Assumes nothing.
-use native.Mathlib.Omega.{arith}
-use Rattle.script.proofs.Asking.{call-two, call-three, call-four, call-five, call-none, kept, filled-by}
-use borrow.Author.Tests.{eq-eqb, ne-eqb}
+use mathlib.Core.Path.{sym, _∙_}
+use Rattle.basics.specs.Tests.{both, choose}
+use Rattle.text.specs.Text.{same}
+use Rattle.script.specs.Said.{saidAs}
+use Rattle.script.proofs.Asking.{named, none-named}
 use borrow.Author.Needs.{needs}
 use Rattle.script.proofs.calls.read_call.Statement.{statement}
 use Rattle.script.proofs.calls.read_call.Tie as tie
 
-seat-call-requires : tie.Need-seat-call-requires
-seat-call-requires c κs = search needs
+-- The first word, seen from where a name was not the one asked for.
+abbrev at1 : tie.Else1 → tie.After-word
+at1 c = c .before .before .before
+
+abbrev at2 : tie.Else2 → tie.After-word
+at2 c = at1 (c .before .before .before)
+
+abbrev at3 : tie.Else3 → tie.After-word
+at3 c = at2 (c .before .before .before)
+
+abbrev at4 : tie.Else4 → tie.After-word
+at4 c = at3 (c .before .before .before)
+
+abbrev at5 : tie.Else5 → tie.After-word
+at5 c = at4 (c .before .before .before)
+
+abbrev at6 : tie.Else6 → tie.After-word
+at6 c = at5 (c .before .before .before)
+
+abbrev at7 : tie.Else7 → tie.After-word
+at7 c = at6 (c .before .before .before)
+
+abbrev at8 : tie.Else8 → tie.After-word
+at8 c = at7 (c .before .before .before)
+
+abbrev at9 : tie.Else9 → tie.After-word
+at9 c = at8 (c .before .before .before)
+
+abbrev at10 : tie.Else10 → tie.After-word
+at10 c = at9 (c .before .before .before)
+
+abbrev at11 : tie.Else11 → tie.After-word
+at11 c = at10 (c .before .before .before)
+
+word-requires : tie.Need-word-requires
+word-requires c κs = search needs
+
+slice-aggregate-same : tie.Need-slice-aggregate-same
+slice-aggregate-same c = search needs
+
+same-requires : tie.Need-same-requires
+same-requires c κs = search needs
+
+read-open-requires : tie.Need-read-open-requires
+read-open-requires c κs = search needs
 
 returns : tie.Need-returns
+unfolding saidAs same both choose
 returns c =
-    let not-four = ne-eqb (c .before .before .before .before .before .before .before .args .count) 4 (λ q. omega arith) in (
-      call-two _ _ _ _ _ _ (c .before .if1 .taken) (c .seat-call .ensures),
-      (kept _ not-four, (kept _ not-four, kept _ not-four)),
-    )
+    c .read-open .ensures
+    ∙ named "open" _ (c .before .before .before .before .word .ensures) (sym (c .before .before .same .ensures) ∙ c .before .if1 .taken)
 
-pair-call-requires : tie.Need-pair-call-requires
-pair-call-requires c κs = search needs
+slice-aggregate-same-2 : tie.Need-slice-aggregate-same-2
+slice-aggregate-same-2 c = search needs
+
+same-requires-2 : tie.Need-same-requires-2
+same-requires-2 c κs = search needs
+
+read-close-requires : tie.Need-read-close-requires
+read-close-requires c κs = search needs
 
 returns-2 : tie.Need-returns-2
+unfolding saidAs same both choose
 returns-2 c =
-    let not-four = ne-eqb (c .before .before .before .before .before .before .before .before .args .count) 4 (λ q. omega arith) in (
-      call-three _ _ _ _ _ _ (c .before .if2 .taken) (c .pair-call .ensures),
-      (kept _ not-four, (kept _ not-four, kept _ not-four)),
-    )
+    c .read-close .ensures
+    ∙ named "close" _ (at1 (c .before .before .before .before) .word .ensures) (sym (c .before .before .same2 .ensures) ∙ c .before .if2 .taken)
 
-lent-call-requires : tie.Need-lent-call-requires
-lent-call-requires c κs = search needs
+slice-aggregate-same-3 : tie.Need-slice-aggregate-same-3
+slice-aggregate-same-3 c = search needs
+
+same-requires-3 : tie.Need-same-requires-3
+same-requires-3 c κs = search needs
+
+read-place-requires : tie.Need-read-place-requires
+read-place-requires c κs = search needs
 
 returns-3 : tie.Need-returns-3
+unfolding saidAs same both choose
 returns-3 c =
-    let four = c .before .before .before .before .if3 .taken in (
-      call-four _ _ _ _ _ _ four (c .lent-call .ensures .0),
-      (
-        filled-by _ _ (eq-eqb _ 4 four) (c .lent-call .ensures .1 .0),
-        (
-          filled-by _ _ (eq-eqb _ 4 four) (c .lent-call .ensures .1 .1 .0),
-          filled-by _ _ (eq-eqb _ 4 four) (c .lent-call .ensures .1 .1 .1),
-        ),
-      ),
-    )
+    c .read-place .ensures
+    ∙ named "place" _ (at2 (c .before .before .before .before) .word .ensures) (sym (c .before .before .same3 .ensures) ∙ c .before .if3 .taken)
 
-place-call-requires : tie.Need-place-call-requires
-place-call-requires c κs = search needs
+slice-aggregate-same-4 : tie.Need-slice-aggregate-same-4
+slice-aggregate-same-4 c = search needs
+
+same-requires-4 : tie.Need-same-requires-4
+same-requires-4 c κs = search needs
+
+read-move-requires : tie.Need-read-move-requires
+read-move-requires c κs = search needs
 
 returns-4 : tie.Need-returns-4
+unfolding saidAs same both choose
 returns-4 c =
-    let not-four = ne-eqb _ 4 (c .before .before .if3 .left) in (
-      call-five _ _ _ _ _ _ (c .before .if4 .taken) (c .place-call .ensures),
-      (kept _ not-four, (kept _ not-four, kept _ not-four)),
-    )
+    c .read-move .ensures
+    ∙ named "move" _ (at3 (c .before .before .before .before) .word .ensures) (sym (c .before .before .same4 .ensures) ∙ c .before .if4 .taken)
+
+slice-aggregate-same-5 : tie.Need-slice-aggregate-same-5
+slice-aggregate-same-5 c = search needs
+
+same-requires-5 : tie.Need-same-requires-5
+same-requires-5 c κs = search needs
+
+read-remove-requires : tie.Need-read-remove-requires
+read-remove-requires c κs = search needs
 
 returns-5 : tie.Need-returns-5
+unfolding saidAs same both choose
 returns-5 c =
-    let not-four = ne-eqb _ 4 (c .before .if3 .left) in (
-      call-none _ _ _ _ _ _ (c .before .before .before .if1 .left) (c .before .before .if2 .left) (c .before .if3 .left) (c .if4 .left),
-      (kept _ not-four, (kept _ not-four, kept _ not-four)),
-    )
+    c .read-remove .ensures
+    ∙ named "remove" _ (at4 (c .before .before .before .before) .word .ensures) (sym (c .before .before .same5 .ensures) ∙ c .before .if5 .taken)
+
+slice-aggregate-same-6 : tie.Need-slice-aggregate-same-6
+slice-aggregate-same-6 c = search needs
+
+same-requires-6 : tie.Need-same-requires-6
+same-requires-6 c κs = search needs
+
+read-undo-requires : tie.Need-read-undo-requires
+read-undo-requires c κs = search needs
+
+returns-6 : tie.Need-returns-6
+unfolding saidAs same both choose
+returns-6 c =
+    c .read-undo .ensures
+    ∙ named "undo" _ (at5 (c .before .before .before .before) .word .ensures) (sym (c .before .before .same6 .ensures) ∙ c .before .if6 .taken)
+
+slice-aggregate-same-7 : tie.Need-slice-aggregate-same-7
+slice-aggregate-same-7 c = search needs
+
+same-requires-7 : tie.Need-same-requires-7
+same-requires-7 c κs = search needs
+
+read-redo-requires : tie.Need-read-redo-requires
+read-redo-requires c κs = search needs
+
+returns-7 : tie.Need-returns-7
+unfolding saidAs same both choose
+returns-7 c =
+    c .read-redo .ensures
+    ∙ named "redo" _ (at6 (c .before .before .before .before) .word .ensures) (sym (c .before .before .same7 .ensures) ∙ c .before .if7 .taken)
+
+slice-aggregate-same-8 : tie.Need-slice-aggregate-same-8
+slice-aggregate-same-8 c = search needs
+
+same-requires-8 : tie.Need-same-requires-8
+same-requires-8 c κs = search needs
+
+read-write-requires : tie.Need-read-write-requires
+read-write-requires c κs = search needs
+
+returns-8 : tie.Need-returns-8
+unfolding saidAs same both choose
+returns-8 c =
+    c .read-write .ensures
+    ∙ named "write" _ (at7 (c .before .before .before .before) .word .ensures) (sym (c .before .before .same8 .ensures) ∙ c .before .if8 .taken)
+
+slice-aggregate-same-9 : tie.Need-slice-aggregate-same-9
+slice-aggregate-same-9 c = search needs
+
+same-requires-9 : tie.Need-same-requires-9
+same-requires-9 c κs = search needs
+
+read-wire-requires : tie.Need-read-wire-requires
+read-wire-requires c κs = search needs
+
+returns-9 : tie.Need-returns-9
+unfolding saidAs same both choose
+returns-9 c =
+    c .read-wire .ensures
+    ∙ named "wire" _ (at8 (c .before .before .before .before) .word .ensures) (sym (c .before .before .same9 .ensures) ∙ c .before .if9 .taken)
+
+slice-aggregate-same-10 : tie.Need-slice-aggregate-same-10
+slice-aggregate-same-10 c = search needs
+
+same-requires-10 : tie.Need-same-requires-10
+same-requires-10 c κs = search needs
+
+read-bare-requires : tie.Need-read-bare-requires
+read-bare-requires c κs = search needs
+
+returns-10 : tie.Need-returns-10
+unfolding saidAs same both choose
+returns-10 c =
+    c .read-bare .ensures
+    ∙ named "bare" _ (at9 (c .before .before .before .before) .word .ensures) (sym (c .before .before .same10 .ensures) ∙ c .before .if10 .taken)
+
+slice-aggregate-same-11 : tie.Need-slice-aggregate-same-11
+slice-aggregate-same-11 c = search needs
+
+same-requires-11 : tie.Need-same-requires-11
+same-requires-11 c κs = search needs
+
+read-pins-requires : tie.Need-read-pins-requires
+read-pins-requires c κs = search needs
+
+returns-11 : tie.Need-returns-11
+unfolding saidAs same both choose
+returns-11 c =
+    c .read-pins .ensures
+    ∙ named "pins" _ (at10 (c .before .before .before .before) .word .ensures) (sym (c .before .before .same11 .ensures) ∙ c .before .if11 .taken)
+
+returns-12 : tie.Need-returns-12
+returns-12 c =
+    let e10 = c .before .before .before in
+    let e9 = e10 .before .before .before in
+    let e8 = e9 .before .before .before in
+    let e7 = e8 .before .before .before in
+    let e6 = e7 .before .before .before in
+    let e5 = e6 .before .before .before in
+    let e4 = e5 .before .before .before in
+    let e3 = e4 .before .before .before in
+    let e2 = e3 .before .before .before in
+    let e1 = e2 .before .before .before in
+    none-named _ (e1 .before .before .before .word .ensures) (sym (e1 .before .same .ensures) ∙ e1 .if1 .left) (sym (e2 .before .same2 .ensures) ∙ e2 .if2 .left) (sym (e3 .before .same3 .ensures) ∙ e3 .if3 .left) (sym (e4 .before .same4 .ensures) ∙ e4 .if4 .left) (sym (e5 .before .same5 .ensures) ∙ e5 .if5 .left) (sym (e6 .before .same6 .ensures) ∙ e6 .if6 .left) (sym (e7 .before .same7 .ensures) ∙ e7 .if7 .left) (sym (e8 .before .same8 .ensures) ∙ e8 .if8 .left) (sym (e9 .before .same9 .ensures) ∙ e9 .if9 .left) (sym (e10 .before .same10 .ensures) ∙ e10 .if10 .left) (sym (c .before .same11 .ensures) ∙ c .if11 .left)
 
 pub read-call-spec : {M : Type 1} → statement M
 read-call-spec =
     tie.close
     (tie.spec
-    seat-call-requires
+    word-requires
+    slice-aggregate-same
+    same-requires
+    read-open-requires
     returns
-    pair-call-requires
+    slice-aggregate-same-2
+    same-requires-2
+    read-close-requires
     returns-2
-    lent-call-requires
+    slice-aggregate-same-3
+    same-requires-3
+    read-place-requires
     returns-3
-    place-call-requires
+    slice-aggregate-same-4
+    same-requires-4
+    read-move-requires
     returns-4
-    returns-5)
+    slice-aggregate-same-5
+    same-requires-5
+    read-remove-requires
+    returns-5
+    slice-aggregate-same-6
+    same-requires-6
+    read-undo-requires
+    returns-6
+    slice-aggregate-same-7
+    same-requires-7
+    read-redo-requires
+    returns-7
+    slice-aggregate-same-8
+    same-requires-8
+    read-write-requires
+    returns-8
+    slice-aggregate-same-9
+    same-requires-9
+    read-wire-requires
+    returns-9
+    slice-aggregate-same-10
+    same-requires-10
+    read-bare-requires
+    returns-10
+    slice-aggregate-same-11
+    same-requires-11
+    read-pins-requires
+    returns-11
+    returns-12)

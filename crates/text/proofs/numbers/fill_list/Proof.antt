@@ -1,33 +1,32 @@
 -- `text::fill_list` meets its contract. Assumes nothing.
-use Rattle.text.proofs.Steps.{over-none, over-as}
-use Rattle.text.proofs.Values.{listed-length, list-row, listed-none, listed-row}
-use lib.ListN.{length}
-use mathlib.Core.Path.{sym, _∙_, ap}
+use mathlib.Core.Path.{sym, _∙_}
+use mathlib.Core.List.{map}
+use lib.ListN.{length-map}
+use native.Mathlib.Omega.{arith}
+use Rattle.text.specs.Words.{comma, pieces}
+use Rattle.text.specs.Numbers.{signed, listed}
+use Rattle.text.proofs.Values.{row-numbers, form-stored, form-none}
 use borrow.Author.Needs.{needs}
 use Rattle.text.proofs.numbers.fill_list.Statement.{statement}
 use Rattle.text.proofs.numbers.fill_list.Tie as tie
 
-slice-aggregate-same : tie.Need-slice-aggregate-same
-slice-aggregate-same c = search needs
-
-same-requires : tie.Need-same-requires
-same-requires c κs = search needs
-
-returns : tie.Need-returns
-returns c =
-    let none = listed-none _ (sym (c .before .same .ensures) ∙ c .if1 .taken) in
-    (ap length none, over-none none)
+is-row-requires : tie.Need-is-row-requires
+is-row-requires c κs = search needs
 
 fill-row-requires : tie.Need-fill-row-requires
-fill-row-requires c κs =
-    list-row _ (sym (c .before .before .same .ensures) ∙ c .before .if1 .left)
-    ∙ c .before .before .before .before .before .pre
+fill-row-requires c κs = sym (c .before .before .is-row .ensures) ∙ c .before .if1 .taken
+
+returns : tie.Need-returns
+unfolding listed
+returns c =
+    let row = sym (c .before .before .before .is-row .ensures) ∙ c .before .before .if1 .taken in
+    let word = c .before .before .before .before .before .args .word .now in
+    let count = c .fill-row .ensures .0 ∙ sym (length-map (pieces comma word) signed) in
+    form-stored _ _ row count (omega (arith, count, row-numbers word row .1)) (c .fill-row .ensures .1)
 
 returns-2 : tie.Need-returns-2
-returns-2 c =
-    let row = sym (c .before .before .before .same .ensures) ∙ c .before .before .if1 .left in
-    (c .fill-row .ensures .0 ∙ listed-length _ row, over-as _ (listed-row _ row) (c .fill-row .ensures .1))
+unfolding listed
+returns-2 c = form-none _ _ (sym (c .before .is-row .ensures) ∙ c .if1 .left)
 
 pub fill-list-spec : {M : Type 1} → statement M
-fill-list-spec =
-    tie.close (tie.spec slice-aggregate-same same-requires returns fill-row-requires returns-2)
+fill-list-spec = tie.close (tie.spec is-row-requires fill-row-requires returns returns-2)

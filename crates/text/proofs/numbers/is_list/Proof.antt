@@ -1,6 +1,6 @@
 -- `text::is_list` meets its contract. Assumes nothing.
-use mathlib.Core.Path.{sym, _∙_}
-use Rattle.text.proofs.Values.{list-none, list-row}
+use Rattle.text.specs.Numbers.{isList}
+use Rattle.text.proofs.Values.{none-passes, form-passes}
 use borrow.Author.Needs.{needs}
 use Rattle.text.proofs.numbers.is_list.Statement.{statement}
 use Rattle.text.proofs.numbers.is_list.Tie as tie
@@ -15,12 +15,12 @@ is-row-requires : tie.Need-is-row-requires
 is-row-requires c κs = search needs
 
 returns : tie.Need-returns
-returns c = c .if1 .taken ∙ list-none _ (sym (c .before .same .ensures) ∙ c .if1 .taken)
+unfolding isList
+returns c = none-passes _ (c .before .same .ensures) (c .if1 .taken)
 
 returns-2 : tie.Need-returns-2
-returns-2 c =
-    c .is-row .ensures ∙ list-row _ (sym (c .before .before .same .ensures) ∙ c .before .if1 .left)
+unfolding isList
+returns-2 c = form-passes (c .before .before .same .ensures) (c .before .if1 .left) (c .is-row .ensures)
 
 pub is-list-spec : {M : Type 1} → statement M
-is-list-spec =
-    tie.close (tie.spec slice-aggregate-same same-requires is-row-requires returns returns-2)
+is-list-spec = tie.close (tie.spec slice-aggregate-same same-requires is-row-requires returns returns-2)

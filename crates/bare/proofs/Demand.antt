@@ -1,0 +1,35 @@
+-- DEMAND 2 FOR BARE LISTS: every accepted wiring of lists of x and y is what demand 2 and document 01 say, of the feed whose pins are numbered by position.
+-- Assumes nothing.
+use mathlib.Core.Path.{_≡_, sym, subst}
+use mathlib.Core.Bool.{true, false}
+use mathlib.Core.List.{List}
+use Prim.Native.Nat.{ℕ}
+use lib.IntN.{ℤ}
+use lib.ListN.{length}
+use borrow.Author.Tests.{not-false}
+use Rattle.refusal.specs.Refusals.{accepted}
+use Rattle.refusal.specs.Rows.{firstOf, NoneHolds}
+use Rattle.refusal.proofs.Rows.{none-holds}
+use Rattle.copper.specs.declared.Leg.{Leg}
+use Rattle.wiring.specs.Answer.{wiringOf}
+use Rattle.wiring.specs.Demand.{BestWiring}
+use Rattle.wiring.proofs.Demand.{answer-comes, accepted-is-best}
+use Rattle.lent.specs.Lent.{filledWith}
+use Rattle.lent.proofs.Demand.{filled-best}
+use Rattle.bare.specs.Bare.{feedOfLists, listRows, bareOf}
+use Rattle.bare.proofs.Feeds.{feed-many}
+use Rattle.bare.proofs.Verdicts.{list-apart}
+
+-- EVERY ACCEPTED WIRING OF BARE LISTS IS WHAT DEMAND 2 AND DOCUMENT 01 SAY,
+pub bare-is-best : (xs ys : List ℤ) (room : ℕ) → accepted (bareOf xs ys room .wiring .verdict) ≡ true → BestWiring false (feedOfLists xs ys) (bareOf xs ys room)
+unfolding bareOf wiringOf NoneHolds
+bare-is-best xs ys room z =
+    let h = answer-comes (wiringOf (feedOfLists xs ys) room) (firstOf (listRows xs ys)) z in
+    let w = none-holds (listRows xs ys) (list-apart xs ys) (h .1) in
+    let y : accepted (wiringOf (feedOfLists xs ys) room .wiring .verdict) ≡ true = rw (h .0) at z in
+    subst (BestWiring false (feedOfLists xs ys)) (sym (h .0)) (accepted-is-best false (feedOfLists xs ys) (feed-many xs ys) (not-false _ (w .1 .1 .0)) room y)
+
+-- and so it is with the legs in a lent list.
+pub bare-lent-is-best : (xs ys : List ℤ) (lent : List Leg) → accepted (bareOf xs ys (length lent) .wiring .verdict) ≡ true
+    → BestWiring false (feedOfLists xs ys) (record { wiring = bareOf xs ys (length lent) .wiring; list = filledWith (bareOf xs ys (length lent)) lent })
+bare-lent-is-best xs ys lent z = filled-best (bare-is-best xs ys (length lent) z) lent

@@ -1,0 +1,50 @@
+-- `drawing::is_proper` meets its contract, by the edit's three cases. Assumes nothing.
+use mathlib.Core.Path.{sym, ap, _∙_}
+use mathlib.Core.Bool.{not}
+use borrow.Author.Tests.{lt-ltb, le-ltb}
+use Rattle.basics.proofs.Tests.{both-no, both-yes}
+use Rattle.drawing.specs.Edits.{proper}
+use borrow.Author.Needs.{needs}
+use Rattle.drawing.proofs.is_proper.Statement.{statement}
+use Rattle.drawing.proofs.is_proper.Tie as tie
+
+enum-known-edit : tie.Need-enum-known-edit
+enum-known-edit c = search needs
+
+enum-known-edit-2 : tie.Need-enum-known-edit-2
+enum-known-edit-2 c = search needs
+
+same-place-requires : tie.Need-same-place-requires
+same-place-requires c κs = search needs
+
+enum-known-edit-3 : tie.Need-enum-known-edit-3
+enum-known-edit-3 c = search needs
+
+returns : tie.Need-returns
+unfolding proper
+returns c = rw (c .before .edit .given .1)
+
+returns-2 : tie.Need-returns-2
+unfolding proper
+returns-2 c = rw (c .before .before .before .edit2 .given .1) (ap not (c .same-place .ensures) ∙ sym (both-yes _ (lt-ltb _ _ (c .before .if1 .taken))))
+
+returns-3 : tie.Need-returns-3
+unfolding proper
+returns-3 c = rw (c .before .before .edit2 .given .1) (le-ltb _ _ (c .if1 .left) ∙ sym (both-no _ (le-ltb _ _ (c .if1 .left))))
+
+returns-4 : tie.Need-returns-4
+unfolding proper
+returns-4 c = rw (c .before .edit3 .given .1)
+
+pub is-proper-spec : {M : Type 1} → statement M
+is-proper-spec =
+    tie.close
+    (tie.spec
+    enum-known-edit
+    enum-known-edit-2
+    same-place-requires
+    enum-known-edit-3
+    returns
+    returns-2
+    returns-3
+    returns-4)

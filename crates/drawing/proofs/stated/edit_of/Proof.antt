@@ -1,0 +1,49 @@
+-- `drawing::stated::edit_of` meets its contract. Assumes nothing.
+use borrow.Author.Needs.{needs}
+use Rattle.drawing.proofs.stated.edit_of.Statement.{statement}
+use Rattle.drawing.proofs.stated.edit_of.Tie as tie
+
+enum-known-making : tie.Need-enum-known-making
+enum-known-making c = search needs
+
+enum-known-making-2 : tie.Need-enum-known-making-2
+enum-known-making-2 c = search needs
+
+pin-at-requires : tie.Need-pin-at-requires
+pin-at-requires c κs = search needs
+
+place-of-requires : tie.Need-place-of-requires
+place-of-requires c κs = search needs
+
+enum-known-making-3 : tie.Need-enum-known-making-3
+enum-known-making-3 c = search needs
+
+pin-at-requires-2 : tie.Need-pin-at-requires-2
+pin-at-requires-2 c κs = search needs
+
+held-by-requires : tie.Need-held-by-requires
+held-by-requires c κs = search needs
+
+returns : tie.Need-returns
+returns c = rw (c .before .making .given .1)
+
+returns-2 : tie.Need-returns-2
+returns-2 c = rw (c .before .before .before .making2 .given .1, c .place-of .ensures, c .before .pin-at .ensures)
+
+returns-3 : tie.Need-returns-3
+returns-3 c = rw (c .before .before .before .making3 .given .1, c .held-by .ensures, c .before .pin-at2 .ensures)
+
+pub edit-of-spec : {M : Type 1} → statement M
+edit-of-spec =
+    tie.close
+    (tie.spec
+    enum-known-making
+    enum-known-making-2
+    pin-at-requires
+    place-of-requires
+    enum-known-making-3
+    pin-at-requires-2
+    held-by-requires
+    returns
+    returns-2
+    returns-3)

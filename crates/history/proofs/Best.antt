@@ -1,0 +1,57 @@
+-- DEMAND 2 FOR ACCEPTED ANSWERS: every accepted wiring of a seat, on any desk and after any calls from the empty desk, is what demand 2 and document 01 say.
+-- From wiring's theorem and Leaving; assumes nothing.
+use mathlib.Core.Path.{_≡_, sym, subst}
+use mathlib.Core.Bool.{true, false}
+use mathlib.Core.List.{List}
+use Prim.Native.Nat.{ℕ}
+use borrow.Author.Tests.{not-false}
+use lib.ListN.{length}
+use Rattle.refusal.specs.Refusals.{accepted}
+use Rattle.drawing.specs.declared.Pin.{Pin}
+use Rattle.drawing.specs.Pins.{lawful, feedOf}
+use Rattle.drawing.proofs.Rules.{lawful-parts, feed-long}
+use Rattle.copper.specs.declared.Leg.{Leg}
+use Rattle.wiring.specs.Answer.{wiringOf}
+use Rattle.wiring.specs.Demand.{BestWiring}
+use Rattle.wiring.proofs.Demand.{accepted-is-best}
+use Rattle.lent.proofs.Demand.{filled-best}
+use Rattle.desk.specs.declared.Desk.{Desk}
+use Rattle.rows.specs.Calls.{Call}
+use Rattle.desk.specs.Desk.{seatOf, emptyDesk, wiredOf, wiredSeatOf, lentOf}
+use Rattle.desk.proofs.Sound.{pins-lawful}
+use Rattle.history.specs.History.{pinsIn, pastOf, nothing, history, after}
+use Rattle.history.proofs.Leaving.{wired-open, wired-is, open-as-past}
+
+-- An accepted wiring of the feed of pins that keep the rules is what is demanded.
+lawful-is-best : (l : List Pin) (room : ℕ) → lawful l ≡ true → accepted (wiringOf (feedOf l) room .wiring .verdict) ≡ true → BestWiring false (feedOf l) (wiringOf (feedOf l) room)
+unfolding wiringOf
+lawful-is-best l room k z = accepted-is-best false (feedOf l) (feed-long l k) (lawful-parts l k .board) room z
+
+-- ON ANY DESK: every accepted wiring of a seat is what demand 2 and document 01 say of its pins,
+pub wired-is-best : (d : Desk) (s room : ℕ) → accepted (wiredOf d s room .laid .wiring .verdict) ≡ true
+    → BestWiring false (feedOf (seatOf d s .pins)) (wiredOf d s room .laid)
+wired-is-best d s room z =
+    let o = wired-open d s room z in
+    let e = wired-is d s room z in
+    let k : lawful (seatOf d s .pins) ≡ true = pins-lawful d (not-false _ (o .unbroken)) s (o .low) (o .shown) in
+    subst (BestWiring false (feedOf (seatOf d s .pins))) (sym e) (lawful-is-best (seatOf d s .pins) room k (rw e at z))
+
+-- with the legs in a lent list too.
+pub lent-is-best : (d : Desk) (s : ℕ) (lent : List Leg) → accepted (wiredSeatOf d s lent .wiring .verdict) ≡ true
+    → BestWiring false (feedOf (seatOf d s .pins)) (record { wiring = wiredSeatOf d s lent .wiring; list = lentOf d s lent })
+unfolding wiredSeatOf lentOf
+lent-is-best d s lent z = filled-best (wired-is-best d s (length lent) z) lent
+
+-- AFTER ANY CALLS from the empty desk: every accepted wiring of a seat is what demand 2 and document 01 say of the pins of its past,
+pub wired-is-best-after-calls : (calls : List Call) (s room : ℕ) → accepted (wiredOf (after emptyDesk calls) s room .laid .wiring .verdict) ≡ true
+    → BestWiring false (feedOf (pinsIn (pastOf (history nothing calls) s))) (wiredOf (after emptyDesk calls) s room .laid)
+wired-is-best-after-calls calls s room z =
+    let d = after emptyDesk calls in
+    subst (λ (l : List Pin). BestWiring false (feedOf l) (wiredOf d s room .laid)) (open-as-past calls s (wired-open d s room z) .1) (wired-is-best d s room z)
+
+-- with the legs in a lent list too.
+pub lent-is-best-after-calls : (calls : List Call) (s : ℕ) (lent : List Leg) → accepted (wiredSeatOf (after emptyDesk calls) s lent .wiring .verdict) ≡ true
+    → BestWiring false (feedOf (pinsIn (pastOf (history nothing calls) s)))
+    (record { wiring = wiredSeatOf (after emptyDesk calls) s lent .wiring; list = lentOf (after emptyDesk calls) s lent })
+unfolding wiredSeatOf lentOf
+lent-is-best-after-calls calls s lent z = filled-best (wired-is-best-after-calls calls s (length lent) z) lent

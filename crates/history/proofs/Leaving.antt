@@ -1,0 +1,82 @@
+-- DEMAND 3 FOR WHAT LEAVES THE DESK: after any calls from the empty desk, the bytes written from a seat are the map of the job and pins of its past, and its
+-- wiring is that of those pins. From Demand, Maps and the rows of the calls; assumes nothing.
+use mathlib.Core.Path.{_≡_, sym, ap, ap₂, _∙_}
+use mathlib.Core.Bool.{true}
+use mathlib.Core.List.{List}
+use Prim.Native.Nat.{ℕ}
+use lib.ListN.{length}
+use Rattle.refusal.specs.Refusals.{accepted}
+use Rattle.drawing.specs.declared.Pin.{Pin}
+use Rattle.drawing.specs.Pins.{feedOf}
+use Rattle.pinmap.specs.Map.{mapOf}
+use Rattle.copper.specs.declared.Leg.{Leg}
+use Rattle.wiring.specs.declared.Laid.{Laid}
+use Rattle.wiring.specs.Answer.{wiringOf}
+use Rattle.wiring.proofs.Demand.{answer-comes}
+use Rattle.lent.specs.Lent.{filledWith}
+use Rattle.desk.specs.declared.Desk.{Desk}
+use Rattle.rows.specs.Calls.{Call, closing, asking, writing}
+use Rattle.rows.proofs.Passed.{OpenSeat, Passes, passes}
+use Rattle.desk.specs.Desk.{seatOf, lookAt, emptyDesk, writtenOf, wiredOf, wiredSeatOf, lentOf}
+use Rattle.history.specs.History.{jobIn, pinsIn, pastOf, nothing, history, after}
+use Rattle.history.specs.AsPast.{AsPast}
+use Rattle.history.specs.Leaving.{bytesFrom}
+use Rattle.history.proofs.Demand.{desk-as-past}
+use Rattle.history.proofs.Maps.{writing-writes-the-map}
+
+-- ---- on any desk
+-- An accepted writing finds the seat open.
+written-open : (d : Desk) (s : ℕ) (buffer : List ℕ) → accepted (writtenOf d s buffer .verdict) ≡ true → OpenSeat (lookAt d s)
+unfolding writtenOf Passes
+written-open d s buffer z = passes (lookAt d s) (asking s (writing (length buffer))) z .0
+
+module _ (d : Desk) (s room : ℕ) (z : accepted (wiredOf d s room .laid .wiring .verdict) ≡ true) where
+  -- An accepted wiring of a seat finds it open,
+  pub wired-open : OpenSeat (lookAt d s)
+  unfolding wiredOf Passes
+  wired-open = passes (lookAt d s) (closing s) (answer-comes (wiringOf (feedOf (seatOf d s .pins)) room) _ z .1)
+
+  -- and is the wiring of its drawing's feed.
+  pub wired-is : wiredOf d s room .laid ≡ wiringOf (feedOf (seatOf d s .pins)) room
+  unfolding wiredOf
+  wired-is = answer-comes (wiringOf (feedOf (seatOf d s .pins)) room) _ z .0
+
+-- ---- after any calls
+module _ (calls : List Call) (s : ℕ) where
+  -- The desk after the calls.
+  abbrev desk : Desk
+  desk = after emptyDesk calls
+
+  -- The job of a seat's past,
+  abbrev job : ℕ
+  job = jobIn (pastOf (history nothing calls) s)
+
+  -- and its pins.
+  abbrev pins : List Pin
+  pins = pinsIn (pastOf (history nothing calls) s)
+
+  -- A seat that is open has the job and the pins of its past.
+  pub open-as-past : OpenSeat (lookAt desk s) → (seatOf desk s .job ≡ job) × (seatOf desk s .pins ≡ pins)
+  open-as-past o =
+      let p : AsPast desk s (pastOf (history nothing calls) s) = desk-as-past calls .seat s (o .low) in
+      let t = sym (p .opened) ∙ o .shown in
+      (p .job t, p .pins t)
+
+  -- THE BYTES WRITTEN FROM A SEAT ARE THE MAP OF THE JOB AND PINS OF ITS PAST.
+  pub written-after-calls : (buffer : List ℕ) → accepted (writtenOf desk s buffer .verdict) ≡ true → bytesFrom desk s buffer ≡ mapOf job pins
+  written-after-calls buffer z =
+      let p = open-as-past (written-open desk s buffer z) in
+      writing-writes-the-map desk s buffer z ∙ ap₂ mapOf (p .0) (p .1)
+
+  -- ITS WIRING IS THAT OF THOSE PINS,
+  pub wired-after-calls : (room : ℕ) → accepted (wiredOf desk s room .laid .wiring .verdict) ≡ true → wiredOf desk s room .laid ≡ wiringOf (feedOf pins) room
+  wired-after-calls room z =
+      wired-is desk s room z ∙ ap (λ (l : List Pin). wiringOf (feedOf l) room) (open-as-past (wired-open desk s room z) .1)
+
+  -- into a lent list too: the answer, and the legs that the list is filled with.
+  pub lent-after-calls : (lent : List Leg) → accepted (wiredSeatOf desk s lent .wiring .verdict) ≡ true
+      → (wiredSeatOf desk s lent .wiring ≡ wiringOf (feedOf pins) (length lent) .wiring) × (lentOf desk s lent ≡ filledWith (wiringOf (feedOf pins) (length lent)) lent)
+  unfolding wiredSeatOf lentOf
+  lent-after-calls lent z =
+      let e = wired-after-calls (length lent) z in
+      (ap (λ (l : Laid). l .wiring) e, ap (λ (l : Laid). filledWith l lent) e)

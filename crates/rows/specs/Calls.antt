@@ -1,0 +1,27 @@
+-- The calls that take a desk, as a type: each with the seat that it names and all that it states.
+use mathlib.Core.List.{List}
+use Prim.Native.Nat.{ℕ}
+use Rattle.drawing.specs.declared.stated.Making.{Making}
+
+-- What is asked of a drawing: to write its map into lent room (bytes), or to wire it into lent room (legs).
+pub data Asking : Type 0 where
+  writing : ℕ → Asking
+  wiring : ℕ → Asking
+
+-- Opening from a pin map, closing, making an edit (placing, moving, removing a pin), undo, redo, and asking.
+pub data Call : Type 0 where
+  opening : ℕ → ℕ → List ℕ → Call
+  closing : ℕ → Call
+  making : ℕ → Making → Call
+  undoing : ℕ → Call
+  redoing : ℕ → Call
+  asking : ℕ → Asking → Call
+
+-- The seat that a call names.
+abbrev pub seatIn : Call → ℕ
+seatIn (opening s job map) = s
+seatIn (closing s) = s
+seatIn (making s m) = s
+seatIn (undoing s) = s
+seatIn (redoing s) = s
+seatIn (asking s a) = s

@@ -1,0 +1,25 @@
+-- `script::read_place` meets its contract. Assumes nothing.
+use mathlib.Core.Path.{sym, _∙_}
+use Rattle.script.proofs.Asking.{placing-no, placing-yes}
+use Rattle.script.specs.declared.Said.{Said}
+use borrow.Author.Needs.{needs}
+use Rattle.script.proofs.calls.read_place.Statement.{statement}
+use Rattle.script.proofs.calls.read_place.Tie as tie
+
+placing-requires : tie.Need-placing-requires
+placing-requires c κs = search needs
+
+enum-known-seat : tie.Need-enum-known-seat
+enum-known-seat c = search needs
+
+enum-told : tie.Need-enum-told
+enum-told c = search needs
+
+returns : tie.Need-returns
+returns c = placing-no _ Said.Place (sym (c .enum-told .given .1) ∙ c .before .before .placing .ensures)
+
+returns-2 : tie.Need-returns-2
+returns-2 c = placing-yes _ Said.Place (sym (c .before .seat .given .1) ∙ c .before .before .before .placing .ensures)
+
+pub read-place-spec : {M : Type 1} → statement M
+read-place-spec = tie.close (tie.spec placing-requires enum-known-seat enum-told returns returns-2)
