@@ -107,7 +107,7 @@ static bool broken(const Desk *desk) {
         const Edit *own[RECORDS];
         unsigned n = owned_by(desk, s, own);
         if (!seat->open) {
-            if (n) return true;
+            if (n || seat->standing) return true;
             continue;
         }
         if (seat->job == 0 || job_elsewhere(desk, seat->job, s) || seat->standing > n) return true;

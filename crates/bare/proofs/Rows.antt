@@ -17,7 +17,7 @@ use Rattle.refusal.proofs.Rows.{distinct, unlike, Apart, apart-by, joined, miss
 use Rattle.board.specs.Spots.{spotsFrom}
 use Rattle.tree.specs.Growth.{keptIf, pinsFrom, pinsOf}
 use Rattle.tree.specs.Trees.{none}
-use Rattle.tree.proofs.Apart.{never-meet}
+use Rattle.spanning.proofs.Apart.{never-meet}
 use Rattle.wiring.specs.Answer.{wiringOf, feedRows}
 use Rattle.wiring.proofs.Refusing.{laid-behind, wiring-verdict}
 use Rattle.bare.specs.Bare.{feedOfLists, listRows, bareRows, bareOf}

@@ -9,7 +9,8 @@ use Rattle.refusal.specs.Rows.{firstOf}
 use Rattle.copper.specs.declared.Leg.{Leg}
 use Rattle.wiring.specs.Answer.{wiringOf}
 use Rattle.lent.specs.Lent.{filledWith}
-use Rattle.lent.proofs.Untouched.{Alone, turned-by, wiring-turned, untouched}
+use Rattle.wiring.specs.Demand.{Alone, Empty}
+use Rattle.lent.proofs.Untouched.{turned-by, wiring-turned, alone-empty, untouched}
 use Rattle.bare.specs.Bare.{feedOfLists, listRows, bareOf}
 
 -- A refused answer is its verdict and nothing else.
@@ -19,6 +20,10 @@ bare-turned xs ys room =
     let v = firstOf (listRows xs ys) in
     turned-by (accepted v) v (wiringOf (feedOfLists xs ys) room) (wiring-turned (feedOfLists xs ys) room)
 
--- A refused bare wiring leaves the list as it was.
+-- So a refused bare wiring has length, runs, legs and choices zero, and every run entry 0, 0, straight,
+pub refused-bare-is-empty : (xs ys : List ℤ) (room : ℕ) → accepted (bareOf xs ys room .wiring .verdict) ≡ false → Empty (bareOf xs ys room .wiring)
+refused-bare-is-empty xs ys room e = alone-empty (bareOf xs ys room) (bare-turned xs ys room) e
+
+-- and leaves the list as it was.
 pub bare-untouched : (xs ys : List ℤ) (room : ℕ) (lent : List Leg) → accepted (bareOf xs ys room .wiring .verdict) ≡ false → filledWith (bareOf xs ys room) lent ≡ lent
 bare-untouched xs ys room lent e = untouched (bareOf xs ys room) lent (bare-turned xs ys room) e

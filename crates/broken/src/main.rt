@@ -164,7 +164,16 @@ fn record_of_seat_8() -> Desk {
     d
 }
 
-// A record past the used ones names seat 8, and a closed seat has the job of seat 0 and counts an edit: nothing of it breaks a desk.
+// Seat 7 is closed, and counts a standing edit.
+fn closed_with_a_count() -> Desk {
+    let mut d = whole();
+    let mut s = d.seats[7];
+    s.standing = 1;
+    d.seats[7] = s;
+    d
+}
+
+// A record past the used ones names seat 8, and a closed seat has the job of seat 0: neither breaks a desk.
 fn unused_parts() -> Desk {
     let mut d = whole();
     let mut record = d.journal[2];
@@ -172,7 +181,6 @@ fn unused_parts() -> Desk {
     d.journal[2] = record;
     let mut s = d.seats[7];
     s.job = 7;
-    s.standing = 1;
     d.seats[7] = s;
     d
 }
@@ -267,6 +275,10 @@ fn try_numbers() {
     try_calls(b"used count 257:", used_too_large());
     try_calls(b"standing more than owned:", standing_too_many());
     try_calls(b"record of seat 8:", record_of_seat_8());
+    try_calls(
+        b"closed seat with a standing edit:",
+        closed_with_a_count(),
+    );
 }
 
 // Tries every call on the whole desks, then on the broken ones.

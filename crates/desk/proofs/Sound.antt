@@ -64,10 +64,15 @@ module _ (d : Desk) (h : sound d ≡ true) where
   owned-within : (s : ℕ) → length (editsOf d s) ≤ d .used
   owned-within s = omega (arith, own-length s (inUse d), in-use-length)
 
-  -- A closed seat owns none.
+  -- A closed seat owns none,
   pub closed-owns-none : (s : ℕ) → s < mostSeats → seatOf d s .opened ≡ false → length (editsOf d s) ≡ 0
   unfolding soundSeat soundClosed
-  closed-owns-none s k o = eqb-true _ _ (sym (choose-no _ _ o) ∙ seat-sound s k)
+  closed-owns-none s k o = eqb-true _ _ (both-left _ _ (sym (choose-no _ _ o) ∙ seat-sound s k))
+
+  -- and none of its edits stand.
+  pub closed-stands-none : (s : ℕ) → s < mostSeats → seatOf d s .opened ≡ false → seatOf d s .standing ≡ 0
+  unfolding soundSeat soundClosed
+  closed-stands-none s k o = eqb-true _ _ (both-right _ _ (sym (choose-no _ _ o) ∙ seat-sound s k))
 
   -- An open seat of it.
   module _ (s : ℕ) (k : s < mostSeats) (o : seatOf d s .opened ≡ true) where

@@ -29,7 +29,7 @@ agrees-empty =
             named = refl;
             pasts = length-replicate mostSeats closed;
             sized = refl;
-            at = λ s k. rw (getD-replicate mostSeats s closedSeat noSeat k, getD-replicate mostSeats s closed closed k) (refl, refl);
+            at = λ s k. rw (getD-replicate mostSeats s closedSeat noSeat k, getD-replicate mostSeats s closed closed k) (refl, (refl, refl));
           };
     }
 

@@ -16,10 +16,8 @@ use Rattle.basics.proofs.Tests.{choose-yes}
 use Rattle.refusal.proofs.Rows.{none-first}
 use Rattle.drawing.specs.declared.Pin.{Pin}
 use Rattle.pinmap.specs.declared.Reading.{Reading}
-use Rattle.pinmap.specs.Map.{mapRows, readMap, mapOf, written}
-use Rattle.pinmap.proofs.Judging.{readAs}
-use Rattle.pinmap.proofs.Records.{Bytes}
-use Rattle.pinmap.proofs.RoundTrip.{map-opens, same-bytes}
+use Rattle.pinmap.specs.Map.{mapRows, readMap, mapOf, written, readAs}
+use Rattle.roundtrip.proofs.RoundTrip.{map-opens, same-bytes}
 use Rattle.journal.specs.Journal.{mostSeats}
 use Rattle.seats.specs.declared.Seat.{Seat}
 use Rattle.rows.specs.Calls.{Call, opening, asking, writing}
@@ -33,6 +31,7 @@ use Rattle.history.specs.History.{after}
 use Rattle.history.specs.Until.{NoneAt, isEditOrClosing}
 use Rattle.history.specs.Leaving.{bytesFrom, JobsFit}
 use Rattle.history.proofs.Opened.{job-fits, opened-map-read, opened-seat, opened-without-edits, same-until-edit}
+use Rattle.pinmap.specs.Record.{Bytes}
 
 module _ (d : Desk) (s : ℕ) (buffer : List ℕ) (z : accepted (writtenOf d s buffer .verdict) ≡ true) where
   -- An accepted writing says how long the seat's map is,

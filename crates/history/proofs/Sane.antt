@@ -18,7 +18,7 @@ use Rattle.drawing.specs.Pins.{lawful}
 use Rattle.drawing.specs.Edits.{makeable, made}
 use Rattle.drawing.specs.Stated.{editOf}
 use Rattle.drawing.proofs.Rules.{map-set}
-use Rattle.pinmap.proofs.RoundTrip.{read-lawful}
+use Rattle.roundtrip.proofs.RoundTrip.{read-lawful}
 use Rattle.journal.specs.Journal.{mostSeats, makeableAll}
 use Rattle.journal.proofs.Turns.{turn-nil, turn-first, turn-rest, turn-cons}
 use Rattle.seats.specs.Seats.{sameJob, jobAmong}

@@ -30,9 +30,9 @@ pub record HoldsPast (q : Seat) (l : List Edit) (j : ℕ) (p : List Pin) (standi
   pub count : q .standing ≡ length standing
   pub edits : l ≡ reverseAux standing takenBack
 
--- A seat holds its past; a closed one owns no records.
+-- A seat holds its past; a closed one has no standing edits and owns no records.
 unfoldable pub At : Seat → List Edit → Past → Type 0
-At q l closed = (q .opened ≡ false) × (l ≡ [])
+At q l closed = (q .opened ≡ false) × ((q .standing ≡ 0) × (l ≡ []))
 At q l (opened job first standing takenBack) = HoldsPast q l job (pinsBy first standing) standing takenBack
 
 -- Seats and records in use hold a history.
@@ -75,35 +75,35 @@ unfolding At
 shown-job q l closed a o = cc
 shown-job q l (opened job first standing takenBack) a o = a .job
 
--- the pins
+-- and the pins of its past.
 pub shown-pins : (q : Seat) (l : List Edit) (t : Past) → At q l t → isOpen t ≡ true → q .pins ≡ pinsIn t
 unfolding At
 shown-pins q l closed a o = cc
 shown-pins q l (opened job first standing takenBack) a o = a .pins
 
--- and the number of standing edits of its past.
-pub shown-count : (q : Seat) (l : List Edit) (t : Past) → At q l t → isOpen t ≡ true → q .standing ≡ length (standingIn t)
+-- As many of its edits stand as of its past's.
+pub shown-count : (q : Seat) (l : List Edit) (t : Past) → At q l t → q .standing ≡ length (standingIn t)
 unfolding At
-shown-count q l closed a o = cc
-shown-count q l (opened job first standing takenBack) a o = a .count
+shown-count q l closed a = a .1 .0
+shown-count q l (opened job first standing takenBack) a = a .count
 
 -- Its standing edits are those of its past,
 pub shown-standing : (q : Seat) (l : List Edit) (t : Past) → At q l t → reverse (take (q .standing) l) ≡ standingIn t
 unfolding At
-shown-standing q l closed a = rw (a .1, take-nil (q .standing))
+shown-standing q l closed a = rw (a .1 .1, take-nil (q .standing))
 shown-standing q l (opened job first standing takenBack) a =
     ap reverse (zip-take l standing takenBack (q .standing) (a .edits) (a .count)) ∙ reverse-reverse standing
 
 -- and so are its taken-back ones.
 pub shown-takenBack : (q : Seat) (l : List Edit) (t : Past) → At q l t → drop (q .standing) l ≡ takenBackIn t
 unfolding At
-shown-takenBack q l closed a = rw (a .1, drop-nil (q .standing))
+shown-takenBack q l closed a = rw (a .1 .1, drop-nil (q .standing))
 shown-takenBack q l (opened job first standing takenBack) a = zip-drop l standing takenBack (q .standing) (a .edits) (a .count)
 
 -- A seat owns a record for each standing and each taken-back edit.
 pub shown-length : (q : Seat) (l : List Edit) (t : Past) → At q l t → length l ≡ editsIn t
 unfolding At
-shown-length q l closed a = rw (a .1)
+shown-length q l closed a = rw (a .1 .1)
 shown-length q l (opened job first standing takenBack) a = ap length (a .edits) ∙ length-reverseAux standing takenBack
 
 -- The job that it counts for is its past's: 0 where it is closed.

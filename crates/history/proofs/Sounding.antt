@@ -17,7 +17,7 @@ use Rattle.journal.proofs.Seated.{ownedBelow, owned-all}
 use Rattle.desk.specs.declared.Desk.{Desk}
 use Rattle.rows.specs.Calls.{Call}
 use Rattle.desk.specs.Desk.{seatOf, inUse, editsOf, standingOf, takenBackOf, sound, step}
-use Rattle.desk.proofs.Sound.{eight-seats, whole-journal, used-within, all-seated, jobs-apart, closed-owns-none, job-not-zero, standing-within, pins-lawful, standing-takeable, taken-back-replayable}
+use Rattle.desk.proofs.Sound.{eight-seats, whole-journal, used-within, all-seated, jobs-apart, closed-owns-none, closed-stands-none, job-not-zero, standing-within, pins-lawful, standing-takeable, taken-back-replayable}
 use Rattle.history.specs.History.{Past, closed, opened, editsIn, pastOf, usedIn, pastAfter, history, after, answers, answersIn}
 use Rattle.history.specs.AsPast.{DeskAsPast, openPast, pastAt, pastsBelow, historyOf}
 use Rattle.history.proofs.Stood.{Traced, traced}
@@ -29,7 +29,7 @@ use Rattle.history.proofs.Demand.{seats-as-past, agrees-after, answers-
 -- ---- one seat
 
 module _ (d : Desk) (h : sound d ≡ true) (s : ℕ) (k : s < mostSeats) where
-  -- An open seat of a sound desk holds the past that it has, which is sane; a closed one owns no records.
+  -- An open seat of a sound desk holds the past that it has, which is sane; a closed one has no standing edits and owns no records.
   past-by : (b : Bool) → seatOf d s .opened ≡ b
       → At (seatOf d s) (editsOf d s) (choose b (openPast d s) closed) × sane (choose b (openPast d s) closed)
   unfolding choose At sane
@@ -50,7 +50,7 @@ module _ (d : Desk) (h : sound d ≡ true) (s : ℕ) (k : s < mostSeats) where
           redoes = rw (t .ends) (taken-back-replayable d h s k o);
         },
       )
-  past-by false o = ((o, empty _ (closed-owns-none d h s k o)), tt)
+  past-by false o = ((o, (closed-stands-none d h s k o, empty _ (closed-owns-none d h s k o))), tt)
 
   -- Each seat holds its past,
   past-at : At (seatOf d s) (editsOf d s) (pastAt d s)

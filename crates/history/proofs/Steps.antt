@@ -39,7 +39,7 @@ use Rattle.history.proofs.Simulation.{At, Agrees, zip-take, zip-at, sho
 -- A closed seat that is opened holds the past of an opening,
 at-opened : (q : Seat) (l : List Edit) (t : Past) (job : ℕ) (p : List Pin) → At q l t → isOpen t ≡ false → At (openSeat job p) l (opened job p [] [])
 unfolding At pinsBy
-at-opened q l closed job p a o = record { shown = refl; job = refl; pins = refl; count = refl; edits = a .1 }
+at-opened q l closed job p a o = record { shown = refl; job = refl; pins = refl; count = refl; edits = a .1 .1 }
 at-opened q l (opened i first standing takenBack) job p a o = absurd (true≢false o)
 
 -- which has as many edits as before: none.
@@ -115,7 +115,7 @@ edits-redone (opened job first standing (e ∷ takenBack)) = omega arith
 -- A closed seat without records holds a closed past.
 at-closed : (l : List Edit) → l ≡ [] → At closedSeat l closed
 unfolding At
-at-closed l e = (refl, e)
+at-closed l e = (refl, (refl, e))
 
 -- ---- such a desk is sound
 
@@ -124,10 +124,10 @@ module _ (d : Desk) (h : List Past) (g : Agrees d h) (f : Sane h) where
   seat-by : (s : ℕ) (t : Past) → At (seatOf d s) (editsOf d s) t → sane t → soundSeat (seatOf d s) (editsOf d s) ≡ true
   unfolding soundSeat soundOpen soundClosed sane choose
   seat-by s closed a e =
-      rw (shown-open _ _ _ a) (eq-eqb _ _ (shown-length _ _ _ a))
+      rw (shown-open _ _ _ a) (both-of (eq-eqb _ _ (shown-length _ _ _ a)) (eq-eqb _ _ (shown-count _ _ _ a)))
   seat-by s (opened job first standing takenBack) a e =
       let n : seatOf d s .standing ≤ length (editsOf d s) =
-      omega (arith, shown-length _ _ _ a, shown-count _ _ _ a refl) in
+      omega (arith, shown-length _ _ _ a, shown-count _ _ _ a) in
       rw (
         shown-open _ _ _ a,
         shown-job _ _ _ a refl,
@@ -181,7 +181,7 @@ module _ (d : Desk) (h : List Past) (g : Agrees d h) (f : Sane h) where
       let p = shown-open _ _ _ a in
       let q = shown-job _ _ _ a o in
       let r = shown-pins _ _ _ a o in
-      let c = shown-count _ _ _ a o in
+      let c = shown-count _ _ _ a in
       let b : length (editsOf d s) - seatOf d s .standing ≡ length (takenBackIn (pastOf h s)) =
       omega (arith, shown-length _ _ _ a, c) in
       let j = jobs-same d h g in
@@ -234,7 +234,7 @@ module _ (d : Desk) (h : List Past) (g : Agrees d h) (f : Sane h) where
         → length (added s (seatOf d s .standing) e (inUse d)) + length (takenBackIn (pastOf h s)) ≡ length (inUse d) + 1
     edited-length e o =
         let n = shown-length _ _ _ at-seat in
-        let c = shown-count _ _ _ at-seat o in
+        let c = shown-count _ _ _ at-seat in
         omega (arith, added-length s (seatOf d s .standing) e (inUse d), kept-length s (seatOf d s .standing) (inUse d), n, c)
 
     -- So after a new edit the desk agrees,

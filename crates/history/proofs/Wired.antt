@@ -20,18 +20,18 @@ use Rattle.drawing.proofs.Rules.{lawful-parts, feed-long}
 use Rattle.pinmap.specs.Map.{mapRows}
 use Rattle.pinmap.proofs.Judging.{notOfMap, map-differs}
 use Rattle.journal.specs.Journal.{mostSeats}
-use Rattle.tree.proofs.Apart.{never-meet}
+use Rattle.spanning.proofs.Apart.{never-meet}
 use Rattle.copper.specs.declared.Leg.{Leg}
-use Rattle.wiring.specs.Answer.{runEntries, turnedAway, wiringOf, feedRows}
+use Rattle.wiring.specs.Answer.{wiringOf, feedRows}
 use Rattle.wiring.proofs.Refusing.{laid-behind, wiring-verdict}
-use Rattle.lent.proofs.Untouched.{Alone, turned-by, wiring-turned, untouched}
+use Rattle.wiring.specs.Demand.{Alone, Empty}
+use Rattle.lent.proofs.Untouched.{turned-by, wiring-turned, alone-empty, untouched}
 use Rattle.rows.specs.Calls.{Call, opening, closing, making, undoing, redoing, asking, writing, wiring}
 use Rattle.rows.specs.Refusals.{takingRows}
 use Rattle.rows.proofs.Rows.{naming-apart}
 use Rattle.desk.specs.declared.Desk.{Desk}
 use Rattle.desk.specs.Desk.{seatOf, jobsOf, sound, namingAt, rowsAt, answerOf, step, wiredOf, wiredSeatOf, lentOf}
 use Rattle.desk.proofs.Sound.{pins-lawful}
-use Rattle.history.specs.Leaving.{Empty}
 use Rattle.history.proofs.Refused.{each-refusal-exactly}
 
 -- The verdict in the answer of wiring a seat is what the call is answered,
@@ -94,11 +94,6 @@ wired-never-18 d s room e = wiring-never-18 d s room (sym (wired-verdict d s roo
 
 -- ---- what a refused wiring leaves
 
--- A wiring that was turned away has length, runs, legs and choices zero, and every run entry 0, 0, straight.
-away-empty : (v : Verdict) → Empty (turnedAway v .wiring)
-unfolding turnedAway runEntries
-away-empty v = record { length-zero = refl; runs-zero = refl; legs-zero = refl; choices-zero = refl; entries-blank = refl }
-
 -- A refused wiring of a seat is one that was turned away.
 wired-turned : (d : Desk) (s room : ℕ) → Alone (wiredOf d s room .laid)
 unfolding wiredOf
@@ -108,7 +103,7 @@ wired-turned d s room =
 
 -- A refused wiring of a seat has length, runs, legs and choices zero, and every run entry 0, 0, straight;
 pub refused-wiring-is-empty : (d : Desk) (s room : ℕ) → accepted (wiredOf d s room .laid .wiring .verdict) ≡ false → Empty (wiredOf d s room .laid .wiring)
-refused-wiring-is-empty d s room e = rw (wired-turned d s room e) (away-empty (wiredOf d s room .laid .wiring .verdict))
+refused-wiring-is-empty d s room e = alone-empty (wiredOf d s room .laid) (wired-turned d s room) e
 
 -- into a lent list too,
 pub refused-lent-is-empty : (d : Desk) (s : ℕ) (lent : List Leg) → accepted (wiredSeatOf d s lent .wiring .verdict) ≡ false → Empty (wiredSeatOf d s lent .wiring)

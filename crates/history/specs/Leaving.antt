@@ -1,12 +1,8 @@
--- What leaves the desk: the bytes that a writing wrote, the jobs that fit into them, and the answer of a refused wiring.
+-- What leaves the desk: the bytes that a writing wrote, and the jobs that fit into them.
 use mathlib.Core.Path.{_≡_}
 use mathlib.Core.List.{List, [], _∷_}
 use Prim.Native.Nat.{ℕ, _<_}
-use lib.ListN.{take, replicate}
-use Rattle.tree.specs.Trees.{mostRuns}
-use Rattle.copper.specs.declared.Shape.the-variants.{Straight}
-use Rattle.wiring.specs.declared.Wiring.{Wiring}
-use Rattle.wiring.specs.Answer.{runEntry}
+use lib.ListN.{take}
 use Rattle.desk.specs.declared.Desk.{Desk}
 use Rattle.rows.specs.Calls.{Call, opening}
 use Rattle.desk.specs.Desk.{writtenOf, bufferOf}
@@ -19,11 +15,3 @@ bytesFrom d s buffer = take (writtenOf d s buffer .bytes) (bufferOf d s buffer)
 unfoldable pub JobsFit : List Call → Type 0
 JobsFit [] = Unit {0}
 JobsFit (c ∷ calls) = ((t job : ℕ) (map : List ℕ) → c ≡ opening t job map → job < 65536) × JobsFit calls
-
--- Length, runs, legs and choices zero, and every run entry 0, 0, straight.
-pub record Empty (w : Wiring) : Type 0 where
-  pub length-zero : w .length ≡ 0
-  pub runs-zero : w .runs ≡ 0
-  pub legs-zero : w .legs ≡ 0
-  pub choices-zero : w .weighed ≡ 0
-  pub entries-blank : w .entries ≡ replicate mostRuns (runEntry 0 0 Straight)

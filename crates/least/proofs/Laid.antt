@@ -9,7 +9,7 @@ use lib.Dec.{eqb}
 use borrow.Author.Tests.{eq-eqb, eqb-true, eqb-false}
 use Rattle.basics.specs.Tests.{both, either}
 use Rattle.basics.proofs.Tests.{opposite, fails-if, both-left, both-right, both-of, either-which, either-left, either-second, same-test}
-use Rattle.tree.proofs.FourPins.{InBox}
+use Rattle.spanning.proofs.FourPins.{InBox}
 use Rattle.board.proofs.Flat.{Site, span}
 use Rattle.copper.specs.declared.Arms.{Arms}
 use Rattle.copper.specs.Arms.{noArms, longest, spread}

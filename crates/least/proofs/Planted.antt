@@ -25,11 +25,11 @@ use Rattle.tree.proofs.Membership.{Among}
 use Rattle.tree.proofs.Numbering.{siteAt, keyAt, stands, fits, keyed}
 use Rattle.tree.proofs.Branches.{HasRun, here, further}
 use Rattle.tree.proofs.Listing.{Rooted, runs-rooted, runs-grown, pins-low}
-use Rattle.tree.proofs.Positions.{near-before, near-pin, pin-there, reached-once}
-use Rattle.tree.proofs.Spanning.{in-turned, has-run, entry-in}
-use Rattle.tree.proofs.Neighbours.{Joined, onward, backward, beyond, neighbours}
-use Rattle.tree.proofs.FourPins.{InBox, key-span}
-use Rattle.tree.proofs.Boxes.{point-shared, clash-apart, no-clash}
+use Rattle.spanning.proofs.Positions.{near-before, near-pin, pin-there, reached-once}
+use Rattle.spanning.proofs.Spanning.{in-turned, has-run, entry-in}
+use Rattle.spanning.proofs.Neighbours.{Joined, onward, backward, beyond, neighbours}
+use Rattle.spanning.proofs.FourPins.{InBox, key-span}
+use Rattle.spanning.proofs.Boxes.{point-shared, clash-apart, no-clash}
 use Rattle.copper.proofs.Numbers.{low-held, same-off}
 use Rattle.least.proofs.Sharing.{Same}
 use Rattle.least.proofs.Laid.{Joins, out, back, Spaced}

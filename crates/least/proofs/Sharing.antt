@@ -9,7 +9,7 @@ use lib.Dec.{eqb, ltb, leb}
 use borrow.Author.Tests.{eq-eqb, eqb-true, eqb-false, ltb-true, lt-ltb, leb-true, leb-false, le-leb}
 use Rattle.basics.specs.Tests.{both, either}
 use Rattle.basics.proofs.Tests.{both-left, both-right, both-of, either-which, either-left, either-second, either-false}
-use Rattle.tree.proofs.FourPins.{InBox}
+use Rattle.spanning.proofs.FourPins.{InBox}
 use Rattle.board.proofs.Flat.{order, gap, gap-up, gap-down, Site, span}
 use Rattle.copper.proofs.Cover.{Stride, along, rise, covers, straight, bend, runCovers}
 

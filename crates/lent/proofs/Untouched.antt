@@ -13,12 +13,18 @@ use Rattle.copper.specs.declared.Shape.{Shape}
 use Rattle.copper.specs.declared.Leg.{Leg}
 use Rattle.wiring.specs.declared.Laid.{Laid}
 use Rattle.wiring.specs.Choices.{bestChoice}
-use Rattle.wiring.specs.Answer.{answerWith, turnedAway, wiringRows, wiringWith, wiringFavouring, wiringOf}
+use Rattle.wiring.specs.Demand.{Alone, Empty}
+use Rattle.wiring.specs.Answer.{runEntries, answerWith, turnedAway, wiringRows, wiringWith, wiringFavouring, wiringOf}
 use Rattle.lent.specs.Lent.{filledWith}
 
--- An answer that is refused is its verdict and nothing else.
-abbrev pub Alone : Laid → Type 0
-Alone l = accepted (l .wiring .verdict) ≡ false → l ≡ turnedAway (l .wiring .verdict)
+-- A wiring that was turned away has length, runs, legs and choices zero, and every run entry 0, 0, straight.
+away-empty : (v : Verdict) → Empty (turnedAway v .wiring)
+unfolding turnedAway runEntries
+away-empty v = record { length-zero = refl; runs-zero = refl; legs-zero = refl; choices-zero = refl; entries-blank = refl }
+
+-- So has an answer that is its verdict and nothing else.
+pub alone-empty : (l : Laid) → Alone l → accepted (l .wiring .verdict) ≡ false → Empty (l .wiring)
+alone-empty l h e = rw (h e) (away-empty (l .wiring .verdict))
 
 -- One that may be turned away before it is given is so, if what is given is.
 pub turned-by : (t : Bool) (v : Verdict) (l : Laid) → Alone l → Alone (choose t l (turnedAway v))

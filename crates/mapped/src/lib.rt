@@ -1,5 +1,7 @@
 // What the program wiremap answers to its input, as bytes in a lent buffer.
 use desk::Desk;
+use pinmap::MOST_BYTES;
+use pinmap::RECORD_BYTES;
 use printed::print_verdict;
 use shown::print_map;
 use text::ANSWER_BYTES;
@@ -11,7 +13,7 @@ ghost use Rattle.text.specs.Text.{over, answerBytes};
 ghost use Rattle.mapped.specs.Mapped.{jobOfMap, mapAnswer, mostRead};
 
 // Of a longer input it is enough to read so many bytes (proofs/Inputs.antt).
-const MOST_READ: usize = 397;
+const MOST_READ: usize = MOST_BYTES + RECORD_BYTES + 1;
 
 // Room for as much of the input as is enough to read.
 pub fn window() -> [u8; MOST_READ]

@@ -16,7 +16,7 @@ use Rattle.drawing.specs.Pins.{noPins, spotsOf}
 use Rattle.pinmap.specs.declared.MapRecord.{MapRecord}
 use Rattle.pinmap.specs.declared.Reading.{Reading}
 use Rattle.pinmap.specs.Record.{recordRows}
-use Rattle.pinmap.specs.Map.{recordsIn, recordsOf, withPinOf, withPinsOf, rowsFrom, wrongLength, mapRows, readMap}
+use Rattle.pinmap.specs.Map.{recordsIn, recordsOf, withPinOf, withPinsOf, rowsFrom, wrongLength, mapRows, readAs, readMap}
 
 -- A refusal comes with no pins.
 abbrev pub refusedBy : Verdict → Reading
@@ -25,10 +25,6 @@ refusedBy v = record { verdict = v; pins = noPins }
 -- So it is told part by part.
 pub refused-as : {r : Reading} {v : Verdict} → (r .verdict ≡ v) × (r .pins ≡ noPins) → r ≡ refusedBy v
 refused-as e = λ i. record { verdict = e .0 i; pins = e .1 i }
-
--- An accepted reading comes with the pins.
-abbrev pub readAs : List Pin → Reading
-readAs l = record { verdict = Accepted; pins = l }
 
 -- What a record comes to, after earlier ones.
 abbrev pub judged : ℕ → ℕ → ℕ → List Pin → MapRecord → Verdict

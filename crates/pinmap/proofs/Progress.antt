@@ -21,8 +21,8 @@ use Rattle.drawing.specs.Pins.{noPins, there, holding, spotOf, spotsOf}
 use Rattle.drawing.proofs.Rules.{feed-set}
 use Rattle.pinmap.specs.declared.MapRecord.{MapRecord}
 use Rattle.pinmap.specs.Record.{recordSize, recordOf, recordRows}
-use Rattle.pinmap.specs.Map.{recordsIn, withPinOf, wrongLength, readMap}
-use Rattle.pinmap.proofs.Judging.{refusedBy, readAs, judged, readFrom, read-none, read-next, read-by-length}
+use Rattle.pinmap.specs.Map.{recordsIn, withPinOf, wrongLength, readMap, readAs}
+use Rattle.pinmap.proofs.Judging.{refusedBy, judged, readFrom, read-none, read-next, read-by-length}
 use Rattle.pinmap.proofs.Faults.{faultless}
 
 -- The part of record `number`.

@@ -6,7 +6,7 @@ use lib.Dec.{eqb, ltb}
 use lib.ListN.{length, take, drop, set}
 use Rattle.basics.specs.Tests.{either, choose}
 use Rattle.refusal.specs.Refusals.{accepted}
-use Rattle.refusal.specs.declared.Verdict.the-variants.{MapLength, RoomTooSmall}
+use Rattle.refusal.specs.declared.Verdict.the-variants.{Accepted, MapLength, RoomTooSmall}
 use Rattle.refusal.specs.Rows.{Row, given, firstOf}
 use Rattle.drawing.specs.declared.Pin.{Pin}
 use Rattle.drawing.specs.Pins.{noPins, there, holding, spotsOf}
@@ -54,6 +54,10 @@ mapRows map job = given (wrongLength map) MapLength ∷ rowsFrom job 0 0 noPins 
 -- A reading that these rows decide: the pins of the map's records, no pins where it is refused.
 abbrev pub readBy : List Row → List ℕ → Reading
 readBy rows map = record { verdict = firstOf rows; pins = choose (accepted (firstOf rows)) (withPinsOf noPins (recordsOf map)) noPins }
+
+-- A reading that is accepted, with these pins.
+abbrev pub readAs : List Pin → Reading
+readAs l = record { verdict = Accepted; pins = l }
 
 -- Reading a map under a job. An empty map is a drawing without pins.
 unfoldable pub readMap : List ℕ → ℕ → Reading

@@ -1,7 +1,7 @@
 -- One record of a pin map: what its bytes say, its faults, and the bytes that are written for a pin.
 use mathlib.Core.Bool.{Bool, not}
 use mathlib.Core.List.{List, [], _∷_}
-use Prim.Native.Nat.{ℕ, _+_, _*_, _/_, _%_}
+use Prim.Native.Nat.{ℕ, _+_, _*_, _/_, _%_, _<_}
 use lib.Dec.{eqb, leb, ltb}
 use lib.ListN.{getD}
 use Rattle.basics.specs.Tests.{either}
@@ -17,6 +17,10 @@ use Rattle.board.specs.declared.Spot.{Spot}
 use Rattle.board.specs.declared.Spot.the-variants.{At}
 use Rattle.board.specs.Spots.{mostPins, tooNearAny}
 use Rattle.pinmap.specs.declared.MapRecord.{MapRecord}
+
+-- A list of bytes: each is below 256.
+abbrev pub Bytes : List ℕ → Type 0
+Bytes m = (i : ℕ) → getD m i 0 < 256
 
 -- Records of 12 bytes.
 abbrev pub recordSize : ℕ

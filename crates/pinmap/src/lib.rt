@@ -22,7 +22,7 @@ ghost use Rattle.pinmap.specs.Map.{wrongLength, readMap, mapOf, writeMap
 pub const RECORD_BYTES: usize = 12;
 
 // A map has at most this many bytes.
-pub const MOST_BYTES: usize = 384;
+pub const MOST_BYTES: usize = PINS * RECORD_BYTES;
 
 // What a record says: its job, its pin number, its byte 3, and its place.
 pub struct MapRecord {

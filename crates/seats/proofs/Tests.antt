@@ -63,12 +63,12 @@ module _ (t : Seat) (l : List Edit) where
   -- A seat that is open is sound as an open one;
   pub seat-open : {r : Bool} → t .opened ≡ true → r ≡ soundOpen t l → r ≡ soundSeat t l
   unfolding soundSeat
-  seat-open o e = e ∙ sym (choose-yes (soundOpen t l) (soundClosed l) o)
+  seat-open o e = e ∙ sym (choose-yes (soundOpen t l) (soundClosed t l) o)
 
-  -- a closed one, where it owns no records.
-  pub seat-closed : {n : ℕ} → t .opened ≡ false → n ≡ length l → eqb n 0 ≡ soundSeat t l
+  -- a closed one, where it owns no records and no edits stand.
+  pub seat-closed : {n : ℕ} {r : Bool} → t .opened ≡ false → n ≡ length l → r ≡ both (eqb n 0) (eqb (t .standing) 0) → r ≡ soundSeat t l
   unfolding soundSeat soundClosed
-  seat-closed o e = ap (λ (k : ℕ). eqb k 0) e ∙ sym (choose-no (soundOpen t l) (soundClosed l) o)
+  seat-closed o e f = f ∙ ap (λ (k : ℕ). both (eqb k 0) (eqb (t .standing) 0)) e ∙ sym (choose-no (soundOpen t l) (soundClosed t l) o)
 
 -- Seat after seat.
 module _ (l : List Seat) (m : List Record) where

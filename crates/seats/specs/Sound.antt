@@ -29,13 +29,13 @@ soundOpen t edits =
     (both (lawful (t .pins))
     (both (takeableAll (t .pins) (standingAmong t edits)) (makeableAll (t .pins) (takenBackAmong t edits)))))
 
--- A closed seat is sound where it owns no records.
-unfoldable pub soundClosed : List Edit → Bool
-soundClosed edits = eqb (length edits) 0
+-- A closed seat with these edits is sound: it owns no records, and its number of standing edits agrees with that.
+unfoldable pub soundClosed : Seat → List Edit → Bool
+soundClosed t edits = both (eqb (length edits) 0) (eqb (t .standing) 0)
 
 -- A seat is sound, as an open one or as a closed one.
 unfoldable pub soundSeat : Seat → List Edit → Bool
-soundSeat t edits = choose (t .opened) (soundOpen t edits) (soundClosed edits)
+soundSeat t edits = choose (t .opened) (soundOpen t edits) (soundClosed t edits)
 
 -- The first n of these seats are sound, each with its own edits among the records in use.
 unfoldable pub soundTo : ℕ → List Seat → List Record → Bool

@@ -7,7 +7,7 @@ use journal::Record;
 use journal::SEATS;
 ghost use mathlib.Core.Path.{_≡_};
 ghost use Prim.Native.Nat.{_<_, _≤_};
-ghost use lib.Dec.{leb};
+ghost use lib.Dec.{eqb, leb};
 ghost use lib.ListN.{length, take, drop};
 ghost use Rattle.basics.specs.Tests.{both};
 ghost use Rattle.journal.specs.Journal.{mostRecords, mostSeats, own, countsOf, seated};
@@ -138,7 +138,14 @@ fn open_is_sound(
         && tried::can_redo_all(pins, journal, used, seat, standing)
 }
 
-// Whether every seat is sound, with so many records owned by each: as an open one, or as a closed one, which owns none.
+// Whether a closed seat with so many records and standing edits is sound: it has none of either.
+fn closed_is_sound(owned: usize, standing: usize) -> bool
+    ensures { λ r. ⌜ r ≡ both (eqb owned 0) (eqb standing 0) ⌝ }
+{
+    owned == 0 && standing == 0
+}
+
+// Whether every seat is sound, with so many records owned by each: as an open one, or as a closed one.
 fn each_is_sound(
     seats: [Seat; SEATS],
     journal: [Record; RECORDS],
@@ -156,7 +163,7 @@ fn each_is_sound(
             if !open_is_sound(s, journal, used, i, owned) {
                 return false;
             }
-        } else if owned != 0 {
+        } else if !closed_is_sound(owned, s.standing) {
             return false;
         }
         i += 1;

@@ -19,13 +19,13 @@ ghost use Rattle.text.specs.Numbers.{mostNumber, mostPairs, mostNumbers,
 pub const MOST: usize = 4294967295;
 
 // One more: it stands for all larger numbers.
-const BEYOND: usize = 4294967296;
+const BEYOND: usize = MOST + 1;
 
 // x and y go up to so much.
 const MOST_ABOVE: usize = 2147483647;
 
 // x and y go down to so much below zero.
-const MOST_BELOW: usize = 2147483648;
+const MOST_BELOW: usize = MOST_ABOVE + 1;
 
 // A map has up to so many hex digits.
 const MOST_DIGITS: usize = MOST_PAIRS * 2;

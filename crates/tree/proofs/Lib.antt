@@ -1,8 +1,6 @@
 -- What is proved of the tree beside the functions' contracts.
 pub mod Keys
 pub mod Order
-pub mod Worked
-mod Weighed
 pub mod Arms
 pub mod Membership
 pub mod Earliest
@@ -14,15 +12,5 @@ pub mod Going
 pub mod Loops
 pub mod Branches
 pub mod Listing
-pub mod Positions
-pub mod Ways
-pub mod Spanning
-pub mod TheTree
-pub mod FourPins
-pub mod Neighbours
-pub mod Zones
-pub mod Bent
-pub mod Boxes
-pub mod Apart
 pub mod Answer
 pub mod Result

@@ -19,8 +19,8 @@ use Rattle.tree.specs.Growth.{run, pinsOf, runsOf}
 use Rattle.tree.specs.Spanning.{Among, first, later}
 use Rattle.tree.specs.Trees.{mostRuns}
 use Rattle.tree.proofs.Membership.{in-back}
-use Rattle.tree.proofs.Spanning.{none-among}
-use Rattle.tree.proofs.TheTree.{runs-are-the-tree}
+use Rattle.spanning.proofs.Spanning.{none-among}
+use Rattle.spanning.proofs.TheTree.{runs-are-the-tree}
 use Rattle.copper.specs.declared.Shape.{Shape}
 use Rattle.copper.specs.declared.Leg.{Leg}
 use Rattle.copper.specs.Shapes.{shapeOf, legsOf}

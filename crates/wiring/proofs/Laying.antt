@@ -26,7 +26,7 @@ use Rattle.tree.specs.Boxes.{boxesMeet}
 use Rattle.tree.specs.Reached.{runAt, reachedPin, reachedNear, reachedPlace}
 use Rattle.tree.proofs.Membership.{Among, pins-there}
 use Rattle.tree.proofs.Listing.{Rooted, pins-low, runs-rooted}
-use Rattle.tree.proofs.Positions.{near-before, near-pin, far-pin, pin-there, reached-once}
+use Rattle.spanning.proofs.Positions.{near-before, near-pin, far-pin, pin-there, reached-once}
 use Rattle.tree.proofs.Numbering.{stands}
 use Rattle.least.proofs.Laid.{Spaced}
 use Rattle.least.proofs.Planted.{planted}

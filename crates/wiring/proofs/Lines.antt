@@ -20,7 +20,7 @@ use Rattle.tree.specs.declared.Run.{Run}
 use Rattle.tree.specs.Bends.{bent}
 use Rattle.tree.specs.Spanning.{Among, first, later}
 use Rattle.tree.proofs.Membership.{in-either}
-use Rattle.tree.proofs.Spanning.{none-among}
+use Rattle.spanning.proofs.Spanning.{none-among}
 use Rattle.copper.specs.declared.Shape.{Shape}
 use Rattle.copper.specs.declared.Shape.the-variants.{Straight, Lower, Upper}
 use Rattle.copper.specs.declared.Leg.{Leg}

@@ -17,7 +17,7 @@ use Rattle.tree.specs.Bends.{bent}
 use Rattle.tree.specs.Trees.{mostRuns}
 use Rattle.tree.specs.Reached.{runAt}
 use Rattle.tree.proofs.Membership.{Among, first, later, in-front, in-back, in-either}
-use Rattle.tree.proofs.Spanning.{none-among}
+use Rattle.spanning.proofs.Spanning.{none-among}
 use Rattle.copper.specs.declared.Shape.{Shape}
 use Rattle.copper.specs.declared.Shape.the-variants.{Straight, Lower, Upper}
 use Rattle.copper.specs.Shapes.{shapeOf}

@@ -19,7 +19,7 @@ use Rattle.tree.specs.declared.Run.{Run}
 use Rattle.board.specs.Spots.{mostPins, allWithin}
 use Rattle.tree.specs.Growth.{pinsOf, runsOf}
 use Rattle.tree.proofs.Membership.{Among, first, later, in-either}
-use Rattle.tree.proofs.Spanning.{none-among}
+use Rattle.spanning.proofs.Spanning.{none-among}
 use Rattle.copper.specs.declared.Shape.{Shape}
 use Rattle.copper.specs.declared.Leg.{Leg}
 use Rattle.copper.specs.Length.{stepsOfAll, different, lengthOf}

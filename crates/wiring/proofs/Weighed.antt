@@ -25,8 +25,8 @@ use Rattle.basics.specs.Sums.{howMany, oneIf}
 use Rattle.tree.proofs.Membership.{Among, first, later, Distinct, also, without-none, distinct-without, pins-once, distinct-rest}
 use Rattle.tree.proofs.Listing.{Listed, done, taking, Rooted, runs-listed, runs-rooted}
 use Rattle.tree.specs.Reached.{runAt, reachedPin, reachedNear, reachedPlace}
-use Rattle.tree.proofs.Positions.{near-before, near-pin, far-pin, first-pin, reached-once}
-use Rattle.tree.proofs.Bent.{six-leading}
+use Rattle.spanning.proofs.Positions.{near-before, near-pin, far-pin, first-pin, reached-once}
+use Rattle.spanning.proofs.Bent.{six-leading}
 use Rattle.copper.specs.Least.{isBent}
 use Rattle.copper.proofs.Sums.{sumBelow, sum-same, sum-none, sum-only}
 use Rattle.least.specs.Asking.{doubledIf}

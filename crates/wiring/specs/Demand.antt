@@ -1,11 +1,12 @@
 -- What demand 2 and document 01 say of an accepted wiring of a feed: its runs are the tree, its shapes the first of the shortest, its length is counted
--- by steps, its choices by the sum over pins, and no copper lies diagonal.
+-- by steps, its choices by the sum over pins, and no copper lies diagonal; and of a refused one.
 use mathlib.Core.Path.{_≡_}
-use mathlib.Core.Bool.{Bool}
+use mathlib.Core.Bool.{Bool, false}
 use mathlib.Core.List.{List, _∷_, _++_, map}
 use mathlib.Core.Logic.{_⊎_}
 use Prim.Native.Nat.{ℕ, _*_, _-_, _≤_, _<_}
 use lib.ListN.{length, take, drop, replicate}
+use Rattle.refusal.specs.Refusals.{accepted}
 use Rattle.board.specs.declared.Spot.{Spot}
 use Rattle.board.specs.Place.{distanceOf}
 use Rattle.board.specs.Spots.{placeAt}
@@ -14,6 +15,7 @@ use Rattle.tree.specs.Growth.{run, pinsOf, runsOf}
 use Rattle.tree.specs.Spanning.{Among, IsTree}
 use Rattle.tree.specs.Trees.{mostRuns}
 use Rattle.copper.specs.declared.Shape.{Shape}
+use Rattle.copper.specs.declared.Shape.the-variants.{Straight}
 use Rattle.copper.specs.declared.Leg.{Leg}
 use Rattle.copper.specs.Shapes.{legsOf}
 use Rattle.copper.specs.Length.{stepsOfAll, lengthOf}
@@ -21,7 +23,7 @@ use Rattle.wiring.specs.declared.RunEntry.{RunEntry}
 use Rattle.wiring.specs.declared.Wiring.{Wiring}
 use Rattle.wiring.specs.declared.Laid.{Laid}
 use Rattle.wiring.specs.Choices.{choicesOf, legsOfChoice, lengthOfChoice, weighedOf}
-use Rattle.wiring.specs.Answer.{noRun}
+use Rattle.wiring.specs.Answer.{runEntry, noRun, turnedAway}
 
 -- The run entries of an answer: as many as it has runs.
 abbrev pub listedIn : Wiring → List RunEntry
@@ -42,6 +44,18 @@ legsIn l = take (l .wiring .legs) (l .list)
 -- A leg lies in one row or in one column.
 abbrev pub InLine : Leg → Type 0
 InLine l = (l .from .y ≡ l .to .y) ⊎ (l .from .x ≡ l .to .x)
+
+-- An answer that is refused is its verdict and nothing else.
+abbrev pub Alone : Laid → Type 0
+Alone l = accepted (l .wiring .verdict) ≡ false → l ≡ turnedAway (l .wiring .verdict)
+
+-- Length, runs, legs and choices zero, and every run entry 0, 0, straight.
+pub record Empty (w : Wiring) : Type 0 where
+  pub length-zero : w .length ≡ 0
+  pub runs-zero : w .runs ≡ 0
+  pub legs-zero : w .legs ≡ 0
+  pub choices-zero : w .weighed ≡ 0
+  pub entries-blank : w .entries ≡ replicate mostRuns (runEntry 0 0 Straight)
 
 -- One of some choices of shapes: those before it are longer, and none after it is shorter.
 pub record First (long : List Shape → ℕ) (choices : List (List Shape)) (best : List Shape) : Type 0 where

@@ -26,7 +26,7 @@ use Rattle.seats.specs.declared.Seat.{Seat}
 use Rattle.desk.specs.declared.Desk.{Desk}
 use Rattle.seats.specs.Seats.{sameJob}
 use Rattle.rows.specs.Calls.{Call, opening, making, undoing}
-use Rattle.desk.specs.Desk.{closedSeat, jobOf, soundOpen, soundClosed, soundSeat, soundTo, sound, edited, effect, answerOf, step, emptyDesk}
+use Rattle.desk.specs.Desk.{closedSeat, withPins, jobOf, soundOpen, soundClosed, soundSeat, soundTo, sound, edited, effect, answerOf, step, emptyDesk}
 use Rattle.history.specs.History.{answers}
 
 -- A pin that stands at x and y.
@@ -80,7 +80,7 @@ whole = deskOf (opened 7 (here ∷ []) 1 ∷ []) (stands ∷ takenBack ∷ []) 2
 
 -- Broken desks: job 0; a repeated job; a closed seat with a record; a pin outside the board; two pins at one place;
 -- a standing edit that could not have been made; a taken-back one that could not be redone; 257 used records; a record of seat 8; more
--- standing edits than records.
+-- standing edits than records; a closed seat that counts a standing edit.
 abbrev pub broken : List Desk
 broken =
     deskOf (opened 0 (here ∷ []) 1 ∷ []) (stands ∷ takenBack ∷ []) 2
@@ -93,6 +93,7 @@ broken =
     ∷ deskOf (opened 7 (here ∷ []) 1 ∷ []) (stands ∷ takenBack ∷ []) 257
     ∷ deskOf (opened 7 (here ∷ []) 1 ∷ []) (stands ∷ takenBack ∷ recorded 8 (Placed 0 (holding (place (pos 1) (pos 1)))) ∷ []) 3
     ∷ deskOf (opened 7 (here ∷ []) 3 ∷ []) (stands ∷ takenBack ∷ []) 2
+    ∷ deskOf (opened 7 (here ∷ []) 1 ∷ withPins closedSeat (closedSeat .pins) 1 ∷ []) (stands ∷ takenBack ∷ []) 2
     ∷ []
 
 -- What undo at seat 0 is answered.
@@ -100,7 +101,7 @@ abbrev pub undo : Desk → Verdict
 undo d = answerOf d (undoing 0)
 
 -- Undo is accepted on the sound desk, and 28 on every broken one.
-pub broken-refused : (undo whole ≡ Accepted) × (map undo broken ≡ replicate 10 DeskBroken)
+pub broken-refused : (undo whole ≡ Accepted) × (map undo broken ≡ replicate 11 DeskBroken)
 unfolding both either choose firstOf onBoard inside difference closer tooNear sameNumber samePlace isThere sameHeld samePin samePins spotsTooNear tooNearOther
     crowded within spotOf spotsOf lawful movedPin pinMade pinUnmade made unmade standsAt foundAs allFound proper makeable takeable numbered own kept filled inTurn sameJob
     jobOf soundOpen soundClosed soundSeat soundTo sound answerOf anyOf eachOf noTwo

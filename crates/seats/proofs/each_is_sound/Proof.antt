@@ -1,6 +1,7 @@
 -- `seats::each_is_sound` meets its contract. The loop's invariant: the first `i` seats are sound.
 -- The measure is how many are left. Assumes nothing.
-use borrow.Author.Tests.{eq-eqb, ne-eqb, not-true, not-false}
+use borrow.Author.Needs.{needs}
+use borrow.Author.Tests.{not-true, not-false}
 use mathlib.Core.Path.{_≡_, sym}
 use mathlib.Core.Bool.{true}
 use mathlib.Core.Logic.{⊎-elim}
@@ -52,11 +53,15 @@ returns c =
     let t = o .before .before .before in
     seats-stop _ _ _ (seat-open _ _ (o .before .if1 .taken) (o .open-is-sound .ensures)) (t .loop-test .taken) (not-true _ (c .if2 .taken))
 
+closed-is-sound-requires : tie.Need-closed-is-sound-requires Inv-loop μ-loop
+closed-is-sound-requires c κs = search needs
+
 returns-2 : tie.Need-returns-2 Inv-loop μ-loop
 returns-2 c =
-    let t = c .before .before .before in
+    let o = c .before in
+    let t = o .before .before .before in
     let n = owns (t .before .before) (t .before .loop .i) (t .loop-test .taken) in
-    seats-stop _ _ _ (seat-closed _ _ (c .before .if1 .left) n) (t .loop-test .taken) (ne-eqb _ _ (c .if3 .taken))
+    seats-stop _ _ _ (seat-closed _ _ (o .before .if1 .left) n (o .closed-is-sound .ensures)) (t .loop-test .taken) (not-true _ (c .if3 .taken))
 
 add-i : tie.Need-add-i Inv-loop μ-loop
 add-i c = omega arith
@@ -71,7 +76,7 @@ loop-again c =
       omega arith,
       ⊎-elim
           (λ b. seats-next _ _ _ (seat-open _ _ (b .0 .taken) (b .1 .ensures)) (t .before .loop .inv .1) (not-false _ (b .2 .left)))
-          (λ b. seats-next _ _ _ (seat-closed _ _ (b .0 .left) n) (t .before .loop .inv .1) (eq-eqb _ _ (b .1 .left)))
+          (λ b. seats-next _ _ _ (seat-closed _ _ (b .0 .left) n (b .1 .ensures)) (t .before .loop .inv .1) (not-false _ (b .2 .left)))
           (c .if1 .came),
     )
 
@@ -91,6 +96,7 @@ each-is-sound-spec =
     array-read-owned
     open-is-sound-requires
     returns
+    closed-is-sound-requires
     returns-2
     add-i
     loop-less

@@ -9,19 +9,19 @@ use native.Mathlib.Omega.{arith}
 use lib.ListN.{length}
 use borrow.Author.Tests.{lt-ltb, ltb-true}
 use Rattle.board.specs.declared.Spot.{Spot}
 use Rattle.tree.specs.Weight.{comesBefore}
 use Rattle.board.proofs.Flat.{same-or-not}
 use Rattle.tree.specs.declared.Run.{Run}
 use Rattle.board.specs.Spots.{mostPins, allWithin}
 use Rattle.tree.specs.Growth.{run, pairAt, pinsOf, runsAmong, runsOf}
 use Rattle.tree.specs.Reached.{runAt}
 use Rattle.tree.specs.Spanning.{Among, first, later, EndsAre, Way, stay, along, Out, top, under, JoinsAll, CutBefore, EitherWay, SameRuns}
 use Rattle.tree.proofs.Membership.{without-in}
 use Rattle.tree.proofs.Earliest.{Keyed}
 use Rattle.tree.proofs.Numbering.{keyAt, keyed}
 use Rattle.tree.proofs.Branches.{IsReached, start, new, old, from-start, HasRun, here, further, hangs, Branching, trunk, branch, Grown, branching, reached-there, ends-differ as runs-differ, far-reached, near-reached, way-least, Widest, differ, widest-run, cut, far-hangs, near-stays, run-hangs}
 use Rattle.tree.proofs.Listing.{Listed, taking, runs-listed, runs-rooted, runs-grown, pins-low}
-use Rattle.tree.proofs.Ways.{ends-turn, way-then, way-back, way-more, way-same, out-in, rest-in, in-rest, take-out, Parted, spared, used, part, crossing}
+use Rattle.spanning.proofs.Ways.{ends-turn, way-then, way-back, way-more, way-same, out-in, rest-in, in-rest, take-out, Parted, spared, used, part, crossing}
 
 -- ---- between the two orders of a list
 -- What stands in one of two lists stands in the two joined, the first turned round,

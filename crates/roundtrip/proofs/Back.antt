@@ -21,13 +21,13 @@ use Rattle.board.specs.Spots.{within}
 use Rattle.board.proofs.Rules.{clear-other}
 use Rattle.drawing.specs.Pins.{absent, there, holding, lawful, spotOf, spotsOf}
 use Rattle.drawing.proofs.Rules.{lawful-parts, lawful-set}
 use Rattle.pinmap.specs.declared.MapRecord.{MapRecord}
 use Rattle.pinmap.specs.declared.Reading.{Reading}
-use Rattle.pinmap.specs.Record.{recordSize, recordOf, recordBytes, pinBytes}
+use Rattle.pinmap.specs.Record.{recordSize, recordOf, recordBytes, pinBytes, Bytes}
 use Rattle.pinmap.specs.Map.{recordsIn, withPinOf, mapFrom, mapOf}
 use Rattle.pinmap.proofs.Judging.{refusedBy, judged, readFrom, read-none, read-next}
 use Rattle.pinmap.proofs.Faults.{Faultless, faultless}
-use Rattle.pinmap.proofs.Records.{Bytes, record-written}
+use Rattle.roundtrip.proofs.Records.{record-written}
 
 -- Where no pin is there, the map is empty.
 map-clear : (job i : ℕ) (l : List Pin) → ((k : ℕ) → getD l k absent ≡ absent) → mapFrom job i l ≡ []

@@ -17,15 +17,15 @@ use Rattle.drawing.specs.declared.Pin.{Pin}
 use Rattle.board.specs.Spots.{mostPins, within, allWithin, spotsTooNear}
 use Rattle.drawing.specs.Pins.{spotIn, lawful, spotOf, spotsOf, noPins}
 use Rattle.drawing.proofs.Rules.{lawful-parts}
 use Rattle.pinmap.specs.declared.Reading.{Reading}
-use Rattle.pinmap.specs.Record.{recordSize, bytesIn, pinBytes}
-use Rattle.pinmap.specs.Map.{mostBytes, recordsOf, wrongLength, readMap, mapFrom, mapOf, written, writeMap, bufferAfter}
-use Rattle.pinmap.proofs.Judging.{refusedBy, readAs, readFrom, read-by-length}
+use Rattle.pinmap.specs.Record.{recordSize, bytesIn, pinBytes, Bytes}
+use Rattle.pinmap.specs.Map.{mostBytes, recordsOf, wrongLength, readMap, mapFrom, mapOf, written, writeMap, bufferAfter, readAs}
+use Rattle.pinmap.proofs.Judging.{refusedBy, readFrom, read-by-length}
 use Rattle.pinmap.proofs.Lengths.{right-length, length-right}
 use Rattle.pinmap.proofs.Written.{map-size}
-use Rattle.pinmap.proofs.Records.{Bytes, bytes-append, record-bytes}
-use Rattle.pinmap.proofs.Opening.{upto-none, open-from}
-use Rattle.pinmap.proofs.Back.{Kept, Back, back-from}
+use Rattle.roundtrip.proofs.Records.{bytes-append, record-bytes}
+use Rattle.roundtrip.proofs.Opening.{upto-none, open-from}
+use Rattle.roundtrip.proofs.Back.{Kept, Back, back-from}
 
 -- ---- the map of a drawing
 

@@ -6,9 +6,9 @@ use Prim.Native.Nat.{ℕ}
 use lib.ListN.{length}
 use Rattle.board.specs.declared.Spot.{Spot}
 use Rattle.board.specs.Spots.{mostPins, allWithin}
 use Rattle.tree.specs.Growth.{pinsOf, runsOf}
 use Rattle.tree.specs.Spanning.{IsTree}
-use Rattle.tree.proofs.Spanning.{runs-join, runs-many, runs-cut, runs-groups, runs-two, runs-only}
+use Rattle.spanning.proofs.Spanning.{runs-join, runs-many, runs-cut, runs-groups, runs-two, runs-only}
 
 -- The runs of a feed that has pins are its tree.
 pub runs-are-the-tree : (feed : List Spot) → length feed ≡ mostPins → allWithin feed ≡ true → (f : ℕ) (left : List ℕ) → pinsOf feed ≡ f ∷ left

@@ -12,16 +12,16 @@ use mir.Syntax.{w32}
 use mir.Val.{SFits}
 use Rattle.basics.proofs.Tests.{both-left, both-right}
 use Rattle.board.specs.declared.Place.{Place}
 use Rattle.pinmap.specs.Number.{numberAt, firstByte, secondByte, thirdByte, fourthByte, putAt}
 use Rattle.board.specs.Place.{inside}
-use Rattle.pinmap.proofs.Bytes.{join-split, first-byte, second-byte, third-byte, fourth-byte, written-read}
+use Rattle.roundtrip.proofs.Bytes.{join-split, first-byte, second-byte, third-byte, fourth-byte, written-read}
 use Rattle.board.proofs.Board.{number-held}
 use Rattle.drawing.specs.declared.Held.{Held}
 use Rattle.drawing.specs.declared.Pin.{Pin}
 use Rattle.drawing.specs.Pins.{holding}
-use Rattle.pinmap.specs.Record.{recordSize, recordOf, recordBytes}
+use Rattle.pinmap.specs.Record.{Bytes, recordSize, recordOf, recordBytes}
 use Rattle.pinmap.proofs.Faults.{Faultless}
 use Rattle.pinmap.proofs.Written.{record-stored}
 
 -- An i32 holds the x of a place of the board,
 x-held : (a : Place) → inside a ≡ true → SFits w32 (a .x)
@@ -40,10 +40,6 @@ unfolding recordOf recordBytes numberAt
 record-read job pin held j e =
     let k : job / 256 * 256 + job % 256 ≡ job = omega arith in
     rw (k, join-split (held .place .x) (x-held (held .place) e), join-split (held .place .y) (y-held (held .place) e))
-
--- A list of bytes.
-abbrev pub Bytes : List ℕ → Type 0
-Bytes m = (i : ℕ) → getD m i 0 < 256
 
 -- A byte put where it stands already changes nothing.
 set-own : (l : List ℕ) (i v : ℕ) → v ≡ getD l i 0 → set l i v ≡ l

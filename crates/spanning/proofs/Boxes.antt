@@ -18,12 +18,12 @@ use Rattle.board.specs.declared.Place.{Place}
 use Rattle.board.specs.declared.Spot.{Spot}
 use Rattle.board.proofs.Signed.{off, I32, ltZ-off}
 use Rattle.board.proofs.Flat.{Site, site, PlaceI32}
 use Rattle.tree.specs.Reached.{runAt}
 use Rattle.tree.specs.declared.Run.{Run}
 use Rattle.board.specs.Spots.{placeAt}
 use Rattle.tree.specs.Growth.{run}
 use Rattle.tree.specs.Boxes.{belowBoth, under, overlap, boxesShare, common, clash, boxesMeet}
-use Rattle.tree.proofs.FourPins.{InBox}
+use Rattle.spanning.proofs.FourPins.{InBox}
 
 -- ---- boxes share a point just where the test says so
 -- Both of two numbers are less than both of two others: in ℕ.

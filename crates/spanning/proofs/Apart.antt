@@ -45,10 +45,10 @@ use Rattle.tree.proofs.Branches.{
   near-stays,
   run-hangs,
 }
 use Rattle.tree.proofs.Listing.{runs-grown, pins-low}
-use Rattle.tree.proofs.Spanning.{has-run, in-turned, none-among, no-runs}
-use Rattle.tree.proofs.FourPins.{Before, key-before, InBox, no-point}
-use Rattle.tree.proofs.Boxes.{Shared, shared-point}
+use Rattle.spanning.proofs.Spanning.{has-run, in-turned, none-among, no-runs}
+use Rattle.spanning.proofs.FourPins.{Before, key-before, InBox, no-point}
+use Rattle.spanning.proofs.Boxes.{Shared, shared-point}
 
 -- Of two runs not each hangs from the other.
 not-both : {There : ℕ → Type 0} {o : ℕ} {rs : List Run} → Branching There o rs → (s t s' t' : ℕ) → HasRun s t rs → HasRun s' t' rs → (t ≡ t' → ⊥)

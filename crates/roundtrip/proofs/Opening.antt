@@ -23,13 +23,13 @@ use Rattle.drawing.specs.Pins.{absent, there, lawful, spotOf, spotsOf, noPins}
 use Rattle.board.specs.declared.Spot.the-variants as spot
 use Rattle.board.proofs.Rules.{spots-turned, apart-pair, within-at}
 use Rattle.drawing.proofs.Rules.{lawful-parts, feed-at}
 use Rattle.pinmap.specs.declared.MapRecord.{MapRecord}
 use Rattle.pinmap.specs.Record.{recordSize, recordBytes, pinBytes}
-use Rattle.pinmap.specs.Map.{recordsIn, recordsOf, withPinOf, mapFrom}
-use Rattle.pinmap.proofs.Judging.{readAs, readFrom, read-none, read-next}
+use Rattle.pinmap.specs.Map.{recordsIn, recordsOf, withPinOf, mapFrom, readAs}
+use Rattle.pinmap.proofs.Judging.{readFrom, read-none, read-next}
 use Rattle.pinmap.proofs.Faults.{Faultless, no-fault}
 use Rattle.pinmap.proofs.Written.{record-length, absent-bytes, there-bytes, map-next, map-end}
-use Rattle.pinmap.proofs.Records.{record-read}
+use Rattle.roundtrip.proofs.Records.{record-read}
 
 -- The pins below i are those of the drawing, the others are absent.
 pub record Upto (l : List Pin) (i : ℕ) (earlier : List Pin) : Type 0 where

@@ -9,7 +9,7 @@ use lib.Dec.{T, ltb}
 use borrow.Author.Tests.{ltb-true, ltb-false}
 use Rattle.board.proofs.Flat.{gap, gap-swap, gap-up, gap-down, gap-through, Site, span}
 use Rattle.basics.specs.Sums.{oneIf, howMany}
-use Rattle.tree.proofs.Neighbours.{All, All.none, All.also, all-map, Pairwise}
+use Rattle.spanning.proofs.Neighbours.{All, All.none, All.also, all-map, Pairwise}
 
 -- On which side of a number another lies.
 pub data Side : Type 0 where

@@ -14,20 +14,20 @@ use Rattle.board.specs.declared.Spot.{Spot}
 use Rattle.board.specs.Place.{difference, sameNumber, isStraight}
 use Rattle.board.proofs.Signed.{off, I32}
 use Rattle.board.proofs.Flat.{gap, gap-self, difference-gap}
 use Rattle.tree.specs.declared.Run.{Run}
 use Rattle.board.specs.Spots.{mostPins, placeAt, allWithin}
 use Rattle.tree.specs.Growth.{pinsOf, runsAmong, runsOf}
 use Rattle.tree.specs.Boxes.{isEnd}
 use Rattle.tree.specs.Bends.{bent, bentAt, bentFrom, bentInto}
 use Rattle.basics.specs.Sums.{oneIf, howMany}
 use Rattle.tree.proofs.Membership.{Among, first, later}
 use Rattle.tree.proofs.Numbering.{siteAt, keyAt, keyed, stands, fits}
 use Rattle.tree.proofs.Branches.{Grown, branching, reached-there}
 use Rattle.tree.proofs.Listing.{runs-grown, pins-low}
-use Rattle.tree.proofs.Spanning.{runs-join}
-use Rattle.tree.proofs.FourPins.{key-span}
-use Rattle.tree.proofs.Neighbours.{Joined, joined-reached, neighbours, around, All, All.none, All.also, Pairwise, around-joined, around-once}
-use Rattle.tree.proofs.Zones.{skew, skew-of, Spread, six}
+use Rattle.spanning.proofs.Spanning.{runs-join}
+use Rattle.spanning.proofs.FourPins.{key-span}
+use Rattle.spanning.proofs.Neighbours.{Joined, joined-reached, neighbours, around, All, All.none, All.also, Pairwise, around-joined, around-once}
+use Rattle.spanning.proofs.Zones.{skew, skew-of, Spread, six}
 
 -- Numbers that are not the same are not the same in ℕ.
 number-apart : (a b : ℤ) → I32 a → I32 b → sameNumber a b ≡ false → off a ≡ off b → ⊥

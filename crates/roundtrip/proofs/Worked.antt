@@ -9,14 +9,14 @@ use Rattle.refusal.specs.declared.Verdict.the-variants.{Accepted, MapLength, Ot
 use Rattle.basics.specs.Tests.{both, either, choose, anyOf}
 use Rattle.refusal.specs.Refusals.{accepted}
 use Rattle.refusal.specs.Rows.{firstOf}
 use Rattle.pinmap.specs.Number.{numberAt, firstByte, secondByte, thirdByte, fourthByte}
 use Rattle.board.specs.Place.{onBoard, inside, difference, closer, tooNear}
 use Rattle.drawing.specs.declared.Pin.{Pin}
 use Rattle.board.specs.Spots.{spotsTooNear}
 use Rattle.drawing.specs.Pins.{absent, there, holding, spotOf, spotsOf, noPins}
 use Rattle.pinmap.specs.Record.{recordOf, faulty, recordBytes, pinBytes}
-use Rattle.pinmap.proofs.Judging.{refusedBy, readAs}
-use Rattle.pinmap.specs.Map.{recordsIn, withPinOf, withPinsOf, rowsFrom, wrongLength, readMap, mapFrom, mapOf, written, writeMap, bufferAfter}
+use Rattle.pinmap.proofs.Judging.{refusedBy}
+use Rattle.pinmap.specs.Map.{recordsIn, withPinOf, withPinsOf, rowsFrom, wrongLength, readMap, mapFrom, mapOf, written, writeMap, bufferAfter, readAs}
 
 -- Job 7, pin 0 at (1,-1).
 abbrev onePin : List Pin

@@ -1,0 +1,8 @@
+-- The round trips of a pin map, and maps worked by hand.
+pub mod Bytes
+pub mod Records
+pub mod Opening
+pub mod Back
+pub mod RoundTrip
+mod Worked
+mod Signs
