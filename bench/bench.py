@@ -59,7 +59,7 @@ def map_answer(replay, text):
     """What wiremap must print for a map, in hex, worked out from what a replay prints."""
     job = 1 if len(text) < 4 else int(text[:4], 16)
     # A line of a log takes 4,200 bytes of a map; any map above 384 bytes is refused alike.
-    wrote = run(replay, f"open 0 {job} {text[:8400]}\nwire 0 64\n".encode())[0].decode().splitlines()
+    wrote = run(replay, f"open 0 {job} {text[:8400]}\nwire 0 64 lower\n".encode())[0].decode().splitlines()
     if wrote[0] != "0" or wrote[1].startswith("refused"):
         return f"{wrote[0] if wrote[0] != '0' else wrote[1]}\n".encode()
     length, runs, weighed = (wrote[1].split()[i] for i in (2, 4, 8))

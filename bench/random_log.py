@@ -102,6 +102,11 @@ def listed(parts):
     return ",".join(map(number, parts)) if parts else "-"
 
 
+def favour():
+    """What a wiring says of the shape to favour, before its line ends: most often nothing."""
+    return pick([" lower", " upper"]) if chance(40) else pick([" Upper", " straight", " upper lower", " -"]) if chance(2) else ""
+
+
 def bare(spread):
     spots = board(spread, pick([3, 5, 8, 12, 20, 32]))
     xs, ys = [x for x, _ in spots], [y for _, y in spots]
@@ -123,7 +128,7 @@ def bare(spread):
                 xs, ys = xs + list(range(more)), ys + [300] * more
                 break
     room = pick([64, 64, 64, 62, random.randint(0, 65), len(xs), 2 * len(xs)])
-    return f"bare {plain(room)} {listed(xs)} {listed(ys)}"
+    return f"bare {plain(room)} {listed(xs)} {listed(ys)}{favour()}"
 
 
 def edit(spread):
@@ -138,7 +143,7 @@ def look(spread):
     if call == "pins":
         return f"pins {at}"
     if call == "wire":
-        return f"wire {at} {plain(pick([64, 64, random.randint(0, 65)]))}"
+        return f"wire {at} {plain(pick([64, 64, random.randint(0, 65)]))}{favour()}"
     return f"write {at} {plain(pick([0, 12, 24, 383, 384, 1024, 1025, random.randint(0, 400)]))}"
 
 

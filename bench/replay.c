@@ -380,14 +380,17 @@ static Arm arm(Place at, Place other, Shape shape) {
     return (Arm){to.y > at.y ? 1 : 3, gap(to.y, at.y)};
 }
 
-// A cost is a length and a choice of shapes in one number: the length above, below it a bit for each run, the first run's highest, set for upper.
-// Costs of parts add up, and the least cost is the least length with the first choice among equals.
+// The shape of a bent run that is not the favoured one.
+static Shape other_than(Shape favoured) { return favoured == LOWER ? UPPER : LOWER; }
+
+// A cost is a length and a choice of shapes in one number: the length above, below it a bit for each run, the first run's highest, set for the shape that is
+// not favoured. Costs of parts add up, and the least cost is the least length with the first choice among equals.
 enum { CHOICE_BITS = 32 };
 
-static uint64_t upper_bit(int run) { return (uint64_t)1 << (CHOICE_BITS - 1 - run); }
+static uint64_t other_bit(int run) { return (uint64_t)1 << (CHOICE_BITS - 1 - run); }
 
 // What lies below a pin costs, given the shape of the run that reached it (-1: none did): the best over the shapes of the runs leading on.
-static uint64_t pin_cost(const Pin *pins, const Run *run, int n, int pin, int reach, Shape reach_shape, uint64_t below[][3]) {
+static uint64_t pin_cost(const Pin *pins, const Run *run, int n, Shape favoured, int pin, int reach, Shape reach_shape, uint64_t below[][3]) {
     int on[PINS], count = 0, bends = 0, bend[PINS];
     for (int r = 0; r < n; r++)
         if (run[r].near == pin) {
@@ -410,7 +413,7 @@ static uint64_t pin_cost(const Pin *pins, const Run *run, int n, int pin, int re
             int64_t shared = a.reach < longest[a.way] ? a.reach : longest[a.way];
             if (a.reach > longest[a.way]) longest[a.way] = a.reach;
             sum += gap(near.x, far.x) + gap(near.y, far.y) - shared;
-            cost += below[on[i]][shape] + (shape == UPPER ? upper_bit(on[i]) : 0);
+            cost += below[on[i]][shape] + (shape == other_than(favoured) ? other_bit(on[i]) : 0);
         }
         cost += sum << CHOICE_BITS;
         if (cost < best) best = cost;
@@ -419,23 +422,23 @@ static uint64_t pin_cost(const Pin *pins, const Run *run, int n, int pin, int re
 }
 
 // The shapes of least length, the first among equals; later runs hang below earlier ones, so the last is asked first.
-static int64_t choose_shapes(const Pin *pins, Run *run, int n) {
+static int64_t choose_shapes(const Pin *pins, Run *run, int n, Shape favoured) {
     uint64_t below[PINS][3] = {0};
     for (int r = n - 1; r >= 0; r--) {
         if (run[r].shape == STRAIGHT)
-            below[r][STRAIGHT] = pin_cost(pins, run, n, run[r].far, r, STRAIGHT, below);
+            below[r][STRAIGHT] = pin_cost(pins, run, n, favoured, run[r].far, r, STRAIGHT, below);
         else
-            for (Shape s = LOWER; s <= UPPER; s++) below[r][s] = pin_cost(pins, run, n, run[r].far, r, s, below);
+            for (Shape s = LOWER; s <= UPPER; s++) below[r][s] = pin_cost(pins, run, n, favoured, run[r].far, r, s, below);
     }
-    uint64_t best = n ? pin_cost(pins, run, n, run[0].near, -1, STRAIGHT, below) : 0;
+    uint64_t best = n ? pin_cost(pins, run, n, favoured, run[0].near, -1, STRAIGHT, below) : 0;
     for (int r = 0; r < n; r++)
-        if (run[r].shape != STRAIGHT) run[r].shape = best & upper_bit(r) ? UPPER : LOWER;
+        if (run[r].shape != STRAIGHT) run[r].shape = best & other_bit(r) ? other_than(favoured) : favoured;
     return best >> CHOICE_BITS;
 }
 
 #ifdef EVERY_CHOICE
-// The same by the rule's own words: every choice in order, lower before upper, kept where it is shorter.
-static void try_every_choice(const Pin *pins, Run *run, int n) {
+// The same by the rule's own words: every choice in order, the favoured shape before the other, kept where it is shorter.
+static void try_every_choice(const Pin *pins, Run *run, int n, Shape favoured) {
     int bends[PINS], count = 0;
     for (int r = 0; r < n; r++)
         if (run[r].shape != STRAIGHT) bends[count++] = r;
@@ -444,7 +447,7 @@ static void try_every_choice(const Pin *pins, Run *run, int n) {
     Run kept[PINS];
     for (uint32_t choice = 0; choice < (uint32_t)1 << count; choice++) {
         Leg leg[LEGS];
-        for (int i = 0; i < count; i++) run[bends[i]].shape = choice >> (count - 1 - i) & 1 ? UPPER : LOWER;
+        for (int i = 0; i < count; i++) run[bends[i]].shape = choice >> (count - 1 - i) & 1 ? other_than(favoured) : favoured;
         int64_t length = length_of(leg, lay_legs(pins, run, n, leg));
         if (length < least) least = length, memcpy(kept, run, n * sizeof *run);
     }
@@ -466,13 +469,13 @@ static int64_t choices_weighed(const Pin *pins, const Run *run, int n) {
 }
 
 // Wires the pins: 17, 18, 19.
-static Verdict wire_pins(const Pin *pins, unsigned room, Wiring *w) {
+static Verdict wire_pins(const Pin *pins, unsigned room, Shape favoured, Wiring *w) {
     if (pins_there(pins) == 0) return refused(17);
     w->runs = grow(pins, w->run);
     if (boxes_meet(pins, w->run, w->runs)) return refused(18);
-    int64_t length = choose_shapes(pins, w->run, w->runs);
+    int64_t length = choose_shapes(pins, w->run, w->runs, favoured);
 #ifdef EVERY_CHOICE
-    try_every_choice(pins, w->run, w->runs);
+    try_every_choice(pins, w->run, w->runs, favoured);
 #endif
     w->legs = lay_legs(pins, w->run, w->runs, w->leg);
     if ((unsigned)w->legs > room) return refused(19);
@@ -482,12 +485,12 @@ static Verdict wire_pins(const Pin *pins, unsigned room, Wiring *w) {
     return accepted;
 }
 
-static Verdict wire_seat(const Desk *desk, uint32_t seat, unsigned room, Wiring *w) {
+static Verdict wire_seat(const Desk *desk, uint32_t seat, unsigned room, Shape favoured, Wiring *w) {
     Verdict v = seat_refusal(desk, seat);
-    return v.number ? v : wire_pins(desk->seats[seat].pins, room, w);
+    return v.number ? v : wire_pins(desk->seats[seat].pins, room, favoured, w);
 }
 
-static Verdict wire_bare(const int32_t *xs, unsigned x_count, const int32_t *ys, unsigned y_count, unsigned room, Wiring *w) {
+static Verdict wire_bare(const int32_t *xs, unsigned x_count, const int32_t *ys, unsigned y_count, unsigned room, Shape favoured, Wiring *w) {
     Pin pins[PINS] = {0};
     if (x_count != y_count || x_count > PINS) return refused(16);
     for (unsigned i = 0; i < x_count; i++) pins[i] = (Pin){true, {xs[i], ys[i]}};
@@ -495,7 +498,7 @@ static Verdict wire_bare(const int32_t *xs, unsigned x_count, const int32_t *ys,
     for (unsigned i = 0; i < x_count; i++)
         if (outside(pins[i].at)) return refused(8);
     if (pins_break_rules(pins)) return refused(9);
-    return wire_pins(pins, room, w);
+    return wire_pins(pins, room, favoured, w);
 }
 
 // ---- Lines read ----
@@ -554,6 +557,15 @@ static bool read_hex(Word w, uint8_t *map, size_t *bytes) {
     return true;
 }
 
+// The shape to favour: the word after the first `fewest`, or upper where nothing is said.
+static bool read_favour(const Word *word, int words, int fewest, Shape *favoured) {
+    *favoured = UPPER;
+    if (words == fewest) return true;
+    if (words != fewest + 1) return false;
+    if (is(word[fewest], "lower")) *favoured = LOWER;
+    return *favoured == LOWER || is(word[fewest], "upper");
+}
+
 // ---- Answers printed ----
 
 static bool print_verdict(Verdict v) {
@@ -600,13 +612,15 @@ static bool print_pins(const Desk *desk, uint32_t seat) {
 
 enum { WORDS = 5 };
 
-static bool play_bare(const Word *word) {
+static bool play_bare(const Word *word, int words) {
     int32_t xs[LIST_NUMBERS], ys[LIST_NUMBERS];
     unsigned x_count, y_count;
     uint64_t room;
+    Shape favoured;
     Wiring w;
+    if (!read_favour(word, words, 4, &favoured)) return false;
     if (!read_digits(word[1], WIRE_ROOM, &room) || !read_list(word[2], xs, &x_count) || !read_list(word[3], ys, &y_count)) return false;
-    Verdict v = wire_bare(xs, x_count, ys, y_count, room, &w);
+    Verdict v = wire_bare(xs, x_count, ys, y_count, room, favoured, &w);
     return print_wiring(v, &w);
 }
 
@@ -618,11 +632,12 @@ static bool play_open(Desk *desk, uint32_t seat, const Word *word) {
     return print_verdict(open_seat(desk, seat, job, map, bytes));
 }
 
-static bool play_wire(const Desk *desk, uint32_t seat, Word room_word) {
+static bool play_wire(const Desk *desk, uint32_t seat, const Word *word, int words) {
     uint64_t room;
+    Shape favoured;
     Wiring w;
-    if (!read_digits(room_word, WIRE_ROOM, &room)) return false;
-    Verdict v = wire_seat(desk, seat, room, &w);
+    if (!read_favour(word, words, 3, &favoured) || !read_digits(word[2], WIRE_ROOM, &room)) return false;
+    Verdict v = wire_seat(desk, seat, room, favoured, &w);
     return print_wiring(v, &w);
 }
 
@@ -630,8 +645,9 @@ static bool play_wire(const Desk *desk, uint32_t seat, Word room_word) {
 static bool play_words(Desk *desk, const Word *word, int words) {
     uint64_t seat, n;
     Place at;
-    if (words == 4 && is(word[0], "bare")) return play_bare(word);
+    if (is(word[0], "bare")) return play_bare(word, words);
     if (words < 2 || !read_digits(word[1], UINT32_MAX, &seat)) return false;
+    if (is(word[0], "wire")) return play_wire(desk, seat, word, words);
     if (words == 2) {
         if (is(word[0], "close")) return print_verdict(close_seat(desk, seat));
         if (is(word[0], "undo")) return print_verdict(undo(desk, seat));
@@ -640,8 +656,7 @@ static bool play_words(Desk *desk, const Word *word, int words) {
     }
     if (words == 3) {
         if (is(word[0], "remove")) return read_digits(word[2], UINT32_MAX, &n) && print_verdict(remove_pin(desk, seat, n));
-        if (is(word[0], "write")) return read_digits(word[2], WRITE_ROOM, &n) && print_written(desk, seat, n);
-        return is(word[0], "wire") && play_wire(desk, seat, word[2]);
+        return is(word[0], "write") && read_digits(word[2], WRITE_ROOM, &n) && print_written(desk, seat, n);
     }
     if (words == 4) return is(word[0], "open") && play_open(desk, seat, word);
     if (!read_digits(word[2], UINT32_MAX, &n) || !read_signed(word[3], &at.x) || !read_signed(word[4], &at.y)) return false;

@@ -8,6 +8,7 @@ use lib.IntN.{ℤ}
 use lib.ListN.{take, replicate}
 use Rattle.basics.specs.Tests.{choose}
 use Rattle.refusal.specs.Refusals.{accepted}
+use Rattle.copper.specs.declared.Favour.{Favour}
 use Rattle.wiring.specs.declared.Laid.{Laid}
 use Rattle.bare.specs.Bare.{bareOf}
 use Rattle.desk.specs.declared.Desk.{Desk}
@@ -44,14 +45,14 @@ module _ (d : Desk) (old : List ℕ) {n : ℕ} {new : List ℕ} where
   write-refused s buffer {w} e a h = rw (← e, a) (held old mostLineBytes {p = verdictLine (w .verdict)} (omega arith) refl h)
 
   -- A wiring of a seat, printed as it is laid.
-  pub wire-done : (s legs : ℕ) {w : Wired} → w ≡ wiredOf d s legs → Holds answerBytes (laidText (w .laid)) old n new
-      → Holds answerBytes (laidText (wiredOf d s legs .laid)) old n new
-  wire-done s legs e h = rw (← e) h
+  pub wire-done : (s legs : ℕ) (favour : Favour) {w : Wired} → w ≡ wiredOf d s legs favour → Holds answerBytes (laidText (w .laid)) old n new
+      → Holds answerBytes (laidText (wiredOf d s legs favour .laid)) old n new
+  wire-done s legs favour e h = rw (← e) h
 
 -- A bare wiring is printed as it is laid.
-pub bare-done : (xs ys : List ℤ) (legs : ℕ) (old : List ℕ) {n : ℕ} {new : List ℕ} {l : Laid} → l ≡ bareOf xs ys legs
-    → Holds answerBytes (laidText l) old n new → Holds answerBytes (laidText (bareOf xs ys legs)) old n new
-bare-done xs ys legs old e h = rw (← e) h
+pub bare-done : (xs ys : List ℤ) (legs : ℕ) (favour : Favour) (old : List ℕ) {n : ℕ} {new : List ℕ} {l : Laid} → l ≡ bareOf xs ys legs favour
+    → Holds answerBytes (laidText l) old n new → Holds answerBytes (laidText (bareOf xs ys legs favour)) old n new
+bare-done xs ys legs favour old e h = rw (← e) h
 
 -- The first of many equal bytes.
 first-same : (n m b : ℕ) → n ≤ m → take n (replicate m b) ≡ replicate n b

@@ -17,7 +17,7 @@ use Rattle.rows.specs.Refusals.{Look}
 use Rattle.desk.specs.declared.Desk.{Desk}
 use Rattle.desk.specs.Desk.{lookAt, namingAt, step, writtenOf, bufferOf, wiredOf}
 use Rattle.script.specs.declared.Said.{Said}
-use Rattle.script.specs.Said.{saidBy, mapGiven, xsGiven, ysGiven}
+use Rattle.script.specs.Said.{saidBy, mapGiven, xsGiven, ysGiven, favourGiven}
 use Rattle.printed.specs.Answers.{verdictLine, writtenLine, closedLine, notACallLine}
 use Rattle.shown.specs.Shown.{laidText, drawnText}
 
@@ -79,8 +79,8 @@ printed d number line (Said.Remove s p) = callText d (making s (Removing p))
 printed d number line (Said.Undo s) = callText d (undoing s)
 printed d number line (Said.Redo s) = callText d (redoing s)
 printed d number line (Said.Write s room) = writingText d s (lentBytes room)
-printed d number line (Said.Wire s room) = laidText (wiredOf d s room .laid)
-printed d number line (Said.Bare room) = laidText (bareOf (xsGiven line) (ysGiven line) room)
+printed d number line (Said.Wire s room) = laidText (wiredOf d s room (favourGiven 3 line) .laid)
+printed d number line (Said.Bare room) = laidText (bareOf (xsGiven line) (ysGiven line) room (favourGiven 4 line))
 printed d number line (Said.Pins s) = seatText d s
 
 -- What the line of that number prints.

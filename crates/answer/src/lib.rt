@@ -20,7 +20,7 @@ ghost use Rattle.bare.specs.Bare.{bareOf};
 ghost use Rattle.rows.specs.Calls.{opening};
 ghost use Rattle.desk.specs.Desk.{step, wiredOf};
 ghost use Rattle.text.specs.Text.{over, mostRoom, answerBytes, Holds};
-ghost use Rattle.script.specs.Said.{mapGiven, xsGiven, ysGiven};
+ghost use Rattle.script.specs.Said.{mapGiven, xsGiven, ysGiven, favourGiven};
 ghost use Rattle.printed.specs.Answers.{verdictLine};
 ghost use Rattle.shown.specs.Shown.{laidText};
 ghost use Rattle.answer.specs.Answered.{played, callText, lentBytes, writingText, isNotOpen, seatText, answered};
@@ -80,24 +80,26 @@ fn write(desk: Desk, seat: usize, room: usize, out: &mut [u8; ANSWER_BYTES]) -> 
     write_into(desk, seat, &mut buffer[..room], out)
 }
 
-// Wires a seat.
-fn wire(desk: Desk, seat: usize, room: usize, out: &mut [u8; ANSWER_BYTES]) -> usize
-    ensures { λ r. ⌜ Holds answerBytes (laidText (wiredOf desk seat room .laid)) (now (out .entry)) r (now (out .exit)) ⌝ }
+// Wires a seat, as the line says of the shape to favour.
+fn wire(desk: Desk, seat: usize, room: usize, line: &[u8], out: &mut [u8; ANSWER_BYTES]) -> usize
+    ensures { λ r. ⌜ Holds answerBytes (laidText (wiredOf desk seat room (favourGiven 3 (now (line .entry))) .laid)) (now (out .entry)) r (now (out .exit)) ⌝ }
 {
-    let wired = desk.wire(seat, room);
+    let favour = script::given_favour(line, 3);
+    let wired = desk.wire(seat, room, favour);
     let laid = wired.laid;
     print_laid(laid, out)
 }
 
-// Wires the x and y that the line gives.
+// Wires the x and y that the line gives, as it says of the shape to favour.
 fn wire_bare(line: &[u8], room: usize, out: &mut [u8; ANSWER_BYTES]) -> usize
-    ensures { λ r. ⌜ Holds answerBytes (laidText (bareOf (xsGiven (now (line .entry))) (ysGiven (now (line .entry))) room)) (now (out .entry)) r (now (out .exit)) ⌝ }
+    ensures { λ r. ⌜ Holds answerBytes (laidText (bareOf (xsGiven (now (line .entry))) (ysGiven (now (line .entry))) room (favourGiven 4 (now (line .entry))))) (now (out .entry)) r (now (out .exit)) ⌝ }
 {
     let mut xs = [0i32; MOST_NUMBERS];
     let mut ys = [0i32; MOST_NUMBERS];
     let across = script::given_xs(line, &mut xs);
     let up = script::given_ys(line, &mut ys);
-    let laid = bare::wire_bare(&xs[..across], &ys[..up], room);
+    let favour = script::given_favour(line, 4);
+    let laid = bare::wire_bare(&xs[..across], &ys[..up], room, favour);
     print_laid(laid, out)
 }
 
@@ -155,7 +157,7 @@ pub fn answer_line(desk: Desk, number: usize, line: &[u8], out: &mut [u8; ANSWER
             Answer { desk, bytes }
         }
         Said::Wire { seat, room } => {
-            let bytes = wire(desk, seat, room, out);
+            let bytes = wire(desk, seat, room, line, out);
             Answer { desk, bytes }
         }
         Said::Bare { room } => {

@@ -10,10 +10,13 @@ use borrow.Author.Tests.{not-false}
 use Rattle.refusal.specs.Refusals.{accepted}
 use Rattle.refusal.specs.Rows.{firstOf, NoneHolds}
 use Rattle.refusal.proofs.Rows.{none-holds}
+use Rattle.copper.specs.declared.Favour.{Favour}
+use Rattle.copper.specs.Shapes.{favoursUpper}
 use Rattle.copper.specs.declared.Leg.{Leg}
 use Rattle.wiring.specs.Answer.{wiringOf}
-use Rattle.wiring.specs.Demand.{BestWiring}
+use Rattle.wiring.specs.Demand.{BestWiring, SameButShapes}
 use Rattle.wiring.proofs.Demand.{answer-comes, accepted-is-best}
+use Rattle.wiring.proofs.Either.{turned-either}
 use Rattle.lent.specs.Lent.{filledWith}
 use Rattle.lent.proofs.Demand.{filled-best}
 use Rattle.bare.specs.Bare.{feedOfLists, listRows, bareOf}
@@ -21,15 +24,23 @@ use Rattle.bare.proofs.Feeds.{feed-many}
 use Rattle.bare.proofs.Verdicts.{list-apart}
 
 -- EVERY ACCEPTED WIRING OF BARE LISTS IS WHAT DEMAND 2 AND DOCUMENT 01 SAY,
-pub bare-is-best : (xs ys : List ℤ) (room : ℕ) → accepted (bareOf xs ys room .wiring .verdict) ≡ true → BestWiring false (feedOfLists xs ys) (bareOf xs ys room)
+pub bare-is-best : (xs ys : List ℤ) (room : ℕ) (favour : Favour) → accepted (bareOf xs ys room favour .wiring .verdict) ≡ true
+    → BestWiring (favoursUpper favour) (feedOfLists xs ys) (bareOf xs ys room favour)
 unfolding bareOf wiringOf NoneHolds
-bare-is-best xs ys room z =
-    let h = answer-comes (wiringOf (feedOfLists xs ys) room) (firstOf (listRows xs ys)) z in
+bare-is-best xs ys room favour z =
+    let h = answer-comes (wiringOf (feedOfLists xs ys) room favour) (firstOf (listRows xs ys)) z in
     let w = none-holds (listRows xs ys) (list-apart xs ys) (h .1) in
-    let y : accepted (wiringOf (feedOfLists xs ys) room .wiring .verdict) ≡ true = rw (h .0) at z in
-    subst (BestWiring false (feedOfLists xs ys)) (sym (h .0)) (accepted-is-best false (feedOfLists xs ys) (feed-many xs ys) (not-false _ (w .1 .1 .0)) room y)
+    let y : accepted (wiringOf (feedOfLists xs ys) room favour .wiring .verdict) ≡ true = rw (h .0) at z in
+    subst (BestWiring (favoursUpper favour) (feedOfLists xs ys)) (sym (h .0))
+    (accepted-is-best (favoursUpper favour) (feedOfLists xs ys) (feed-many xs ys) (not-false _ (w .1 .1 .0)) room y)
 
 -- and so it is with the legs in a lent list.
-pub bare-lent-is-best : (xs ys : List ℤ) (lent : List Leg) → accepted (bareOf xs ys (length lent) .wiring .verdict) ≡ true
-    → BestWiring false (feedOfLists xs ys) (record { wiring = bareOf xs ys (length lent) .wiring; list = filledWith (bareOf xs ys (length lent)) lent })
-bare-lent-is-best xs ys lent z = filled-best (bare-is-best xs ys (length lent) z) lent
+pub bare-lent-is-best : (xs ys : List ℤ) (lent : List Leg) (favour : Favour) → accepted (bareOf xs ys (length lent) favour .wiring .verdict) ≡ true
+    → BestWiring (favoursUpper favour) (feedOfLists xs ys)
+    (record { wiring = bareOf xs ys (length lent) favour .wiring; list = filledWith (bareOf xs ys (length lent) favour) lent })
+bare-lent-is-best xs ys lent favour z = filled-best (bare-is-best xs ys (length lent) favour z) lent
+
+-- WHATEVER IS SAID OF THE SHAPE TO FAVOUR, THE WIRING OF BARE LISTS IS THE SAME BUT FOR SHAPES, accepted or refused.
+pub bare-either : (xs ys : List ℤ) (room : ℕ) (f g : Favour) → SameButShapes (bareOf xs ys room f .wiring) (bareOf xs ys room g .wiring)
+unfolding bareOf
+bare-either xs ys room f g = turned-either (firstOf (listRows xs ys)) (feedOfLists xs ys) room f g

@@ -23,6 +23,7 @@ use Rattle.wiring.proofs.Refusing.{laid-behind, wiring-verdict}
 use Rattle.bare.specs.Bare.{feedOfLists, listRows, bareRows, bareOf}
 use Rattle.bare.proofs.Feeds.{feed-many}
 use Rattle.bare.proofs.Verdicts.{list-apart}
+use Rattle.copper.specs.declared.Favour.{Favour}
 
 -- Lists that are not empty have a pin.
 pins-there : (xs ys : List ℤ) → eqb (length xs) 0 ≡ false → none (pinsOf (feedOfLists xs ys)) ≡ false
@@ -38,26 +39,26 @@ left-out rows r more a h = joined rows (r ∷ more) a ∙ by (accepted (firstOf 
     by true q = ap (λ v. choose true v (firstOf rows)) (sym (miss (r .refusal) more (h (none-holds rows a q)) refl))
     by false q = unfold choose in refl
 
-module _ (xs ys : List ℤ) (room : ℕ) where
+module _ (xs ys : List ℤ) (room : ℕ) (favour : Favour) where
   -- The answer carries the first of the rows that holds: after 17 of the lists there are pins, so that 17 of the feed never comes.
-  answer-is : bareOf xs ys room .wiring .verdict ≡ firstOf (bareRows xs ys room)
+  answer-is : bareOf xs ys room favour .wiring .verdict ≡ firstOf (bareRows xs ys room favour)
   unfolding bareOf NoneHolds
   answer-is =
       let feed = feedOfLists xs ys in
-      laid-behind (listRows xs ys) (feedRows feed room) (list-apart xs ys) (wiringOf feed room) (wiring-verdict feed room)
-      ∙ left-out (listRows xs ys) _ (drop 1 (feedRows feed room)) (list-apart xs ys) (λ n. pins-there xs ys (n .1 .0))
+      laid-behind (listRows xs ys) (feedRows feed room favour) (list-apart xs ys) (wiringOf feed room favour) (wiring-verdict feed room favour)
+      ∙ left-out (listRows xs ys) _ (drop 1 (feedRows feed room favour)) (list-apart xs ys) (λ n. pins-there xs ys (n .1 .0))
 
   -- The rows are apart.
-  bare-apart : Apart (bareRows xs ys room)
+  bare-apart : Apart (bareRows xs ys room favour)
   unfolding distinct unlike both accepted
-  bare-apart = apart-by (bareRows xs ys room) refl
+  bare-apart = apart-by (bareRows xs ys room favour) refl
 
   -- EACH REFUSAL OF BARE WIRING EXACTLY.
-  pub bare-exactly : Exactly (bareRows xs ys room) (bareOf xs ys room .wiring .verdict)
-  bare-exactly = rw answer-is (exactly (bareRows xs ys room) bare-apart)
+  pub bare-exactly : Exactly (bareRows xs ys room favour) (bareOf xs ys room favour .wiring .verdict)
+  bare-exactly = rw answer-is (exactly (bareRows xs ys room favour) bare-apart)
 
   -- 18 NEVER COMES: where the rows before it pass, the pins are on the board, so that no boxes meet.
-  pub bare-never-18 : bareOf xs ys room .wiring .verdict ≡ BoxesMeet → ⊥
+  pub bare-never-18 : bareOf xs ys room favour .wiring .verdict ≡ BoxesMeet → ⊥
   unfolding refusalAt Given
   bare-never-18 e =
       let g = bare-exactly .refused 4 (omega arith) .0 e in

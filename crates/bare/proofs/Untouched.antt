@@ -6,6 +6,7 @@ use Prim.Native.Nat.{ℕ}
 use lib.IntN.{ℤ}
 use Rattle.refusal.specs.Refusals.{accepted}
 use Rattle.refusal.specs.Rows.{firstOf}
+use Rattle.copper.specs.declared.Favour.{Favour}
 use Rattle.copper.specs.declared.Leg.{Leg}
 use Rattle.wiring.specs.Answer.{wiringOf}
 use Rattle.lent.specs.Lent.{filledWith}
@@ -14,16 +15,18 @@ use Rattle.lent.proofs.Untouched.{turned-by, wiring-turned, alone-empty, untouc
 use Rattle.bare.specs.Bare.{feedOfLists, listRows, bareOf}
 
 -- A refused answer is its verdict and nothing else.
-pub bare-turned : (xs ys : List ℤ) (room : ℕ) → Alone (bareOf xs ys room)
+pub bare-turned : (xs ys : List ℤ) (room : ℕ) (favour : Favour) → Alone (bareOf xs ys room favour)
 unfolding bareOf
-bare-turned xs ys room =
+bare-turned xs ys room favour =
     let v = firstOf (listRows xs ys) in
-    turned-by (accepted v) v (wiringOf (feedOfLists xs ys) room) (wiring-turned (feedOfLists xs ys) room)
+    turned-by (accepted v) v (wiringOf (feedOfLists xs ys) room favour) (wiring-turned (feedOfLists xs ys) room favour)
 
 -- So a refused bare wiring has length, runs, legs and choices zero, and every run entry 0, 0, straight,
-pub refused-bare-is-empty : (xs ys : List ℤ) (room : ℕ) → accepted (bareOf xs ys room .wiring .verdict) ≡ false → Empty (bareOf xs ys room .wiring)
-refused-bare-is-empty xs ys room e = alone-empty (bareOf xs ys room) (bare-turned xs ys room) e
+pub refused-bare-is-empty : (xs ys : List ℤ) (room : ℕ) (favour : Favour) → accepted (bareOf xs ys room favour .wiring .verdict) ≡ false
+    → Empty (bareOf xs ys room favour .wiring)
+refused-bare-is-empty xs ys room favour e = alone-empty (bareOf xs ys room favour) (bare-turned xs ys room favour) e
 
 -- and leaves the list as it was.
-pub bare-untouched : (xs ys : List ℤ) (room : ℕ) (lent : List Leg) → accepted (bareOf xs ys room .wiring .verdict) ≡ false → filledWith (bareOf xs ys room) lent ≡ lent
-bare-untouched xs ys room lent e = untouched (bareOf xs ys room) lent (bare-turned xs ys room) e
+pub bare-untouched : (xs ys : List ℤ) (room : ℕ) (lent : List Leg) (favour : Favour) → accepted (bareOf xs ys room favour .wiring .verdict) ≡ false
+    → filledWith (bareOf xs ys room favour) lent ≡ lent
+bare-untouched xs ys room lent favour e = untouched (bareOf xs ys room favour) lent (bare-turned xs ys room favour) e

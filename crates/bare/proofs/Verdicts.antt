@@ -17,6 +17,7 @@ use Rattle.refusal.specs.declared.Verdict.the-variants.{Accepted, ListLengths, 
 use Rattle.board.specs.Spots.{mostPins, allWithin, allApart}
 use Rattle.wiring.specs.Answer.{turnedAway, wiringOf}
 use Rattle.bare.specs.Bare.{feedOfLists, wrongLengths, listRows, bareOf}
+use Rattle.copper.specs.declared.Favour.{Favour}
 
 module _ (xs ys : List ℤ) where
   -- Where the lengths are not wrong, they are equal and at most 32.
@@ -56,13 +57,13 @@ module _ (xs ys : List ℤ) where
       all-well e f = sym (none-accepted (listRows xs ys) (right, (ne-eqb (length xs) 0 some, (ap not e, (ap not f, tt)))))
 
 -- The whole answer: a refusal, or the wiring of the feed.
-module _ (xs ys : List ℤ) (room : ℕ) where
+module _ (xs ys : List ℤ) (room : ℕ) (favour : Favour) where
   -- What has a verdict that refuses, as the rows give it, is turned away.
-  pub turned : (v : Verdict) → accepted v ≡ false → v ≡ firstOf (listRows xs ys) → turnedAway v ≡ bareOf xs ys room
+  pub turned : (v : Verdict) → accepted v ≡ false → v ≡ firstOf (listRows xs ys) → turnedAway v ≡ bareOf xs ys room favour
   unfolding bareOf
   turned v n e = ap turnedAway e ∙ sym (choose-no _ _ (ap accepted (sym e) ∙ n))
 
   -- What the rows accept is wired.
-  pub wired : accepted (firstOf (listRows xs ys)) ≡ true → wiringOf (feedOfLists xs ys) room ≡ bareOf xs ys room
+  pub wired : accepted (firstOf (listRows xs ys)) ≡ true → wiringOf (feedOfLists xs ys) room favour ≡ bareOf xs ys room favour
   unfolding bareOf
   wired e = sym (choose-yes _ _ e)

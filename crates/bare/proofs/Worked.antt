@@ -10,7 +10,7 @@ use Rattle.refusal.specs.Refusals.{accepted}
 use Rattle.refusal.specs.Rows.{firstOf}
 use Rattle.refusal.specs.declared.Verdict.the-variants.{Accepted}
 use Rattle.board.specs.declared.Place.{Place}
-use Rattle.board.specs.Boards.{boards}
+use Rattle.board.specs.Boards.{W2, boards}
 use Rattle.board.specs.Place.{difference, larger, sameNumber, onBoard, inside, closer, tooNear, isStraight}
 use Rattle.tree.specs.Weight.{weightOf, pairOf, byPart, byNumber, comesBefore}
 use Rattle.board.specs.Place.{distanceOf}
@@ -20,6 +20,7 @@ use Rattle.tree.specs.Boxes.{belowBoth, under, overlap, boxesShare, isEnd, comm
 use Rattle.tree.specs.Bends.{bent}
 use Rattle.basics.specs.Sums.{howMany}
 use Rattle.tree.specs.Trees.{mostRuns}
+use Rattle.copper.specs.declared.Favour.{Favour}
 use Rattle.copper.specs.declared.Shape.the-variants.{Straight, Lower, Upper}
 use Rattle.copper.specs.Shapes.{lowerCorner, upperCorner, legsOf}
 use Rattle.copper.specs.Length.{sameStep, stepsAcross, stepsUp, stepsOf, stepsOfAll, different, lengthOf}
@@ -30,9 +31,9 @@ use Rattle.wiring.specs.Choices.{bentShapes, shapesOf, withShape, withShapes, c
 use Rattle.wiring.specs.Answer.{runEntry, noRun, mostLegs, shapedRuns, runEntries, legEntries, turnedAway, answerWith, wiringWith, wiringFavouring, wiringOf}
 use Rattle.bare.specs.Bare.{feedOfLists, wrongLengths, bareOf}
 
--- Bare wiring of a board: its x and its y, pin by pin, with room for all legs.
-abbrev pub wiringOfBoard : List Place → Wiring
-wiringOfBoard board = bareOf (map (λ (p : Place). p .x) board) (map (λ (p : Place). p .y) board) mostLegs .wiring
+-- Bare wiring of a board: its x and its y, pin by pin, with room for all legs, and what is said of the shape to favour.
+abbrev pub wiringOfBoard : Favour → List Place → Wiring
+wiringOfBoard favour board = bareOf (map (λ (p : Place). p .x) board) (map (λ (p : Place). p .y) board) mostLegs favour .wiring
 
 -- An answer: the length, the runs and their shapes, the legs, the choices weighed.
 abbrev pub answer : ℕ → List RunEntry → ℕ → ℕ → Wiring
@@ -46,7 +47,7 @@ answer long runs legs weighed =
       weighed = weighed;
     }
 
--- What W1 to W8 are answered: their lengths, runs and shapes, legs and choices weighed.
+-- What W1 to W8 are answered with lower asked for: their lengths, runs and shapes, legs and choices weighed.
 abbrev pub answers : List Wiring
 answers =
     answer 0 [] 0 1
@@ -59,12 +60,17 @@ answers =
     ∷ answer 6 (runEntry 0 3 Straight ∷ runEntry 0 1 Straight ∷ runEntry 0 2 Straight ∷ []) 3 4
     ∷ []
 
--- W1 to W8.
-pub worked : map wiringOfBoard boards ≡ answers
+-- What W2 is answered with upper asked for.
+abbrev pub upperAnswer : Wiring
+upperAnswer = answer 5 (runEntry 0 1 Upper ∷ []) 2 4
+
+-- W1 to W8 with lower asked for; W2 with upper, and with nothing said.
+pub worked : (map (wiringOfBoard Favour.Lower) boards ≡ answers)
+    × (map (λ favour. wiringOfBoard favour W2) (Favour.Upper ∷ Favour.Unsaid ∷ []) ≡ upperAnswer ∷ upperAnswer ∷ [])
 unfolding bareOf wrongLengths feedOfLists spotsFrom valuesFrom within noTwo anyOf spotsTooNear wiringOf wiringFavouring wiringWith answerWith
     turnedAway legEntries runEntries shapedRuns weighedOf sum weighedAt howMany bent bestChoice shortestOf shortest lengthOfChoice legsOfChoice choicesOf withShapes
     withShape shapesOf bentShapes lengthOf different stepsOfAll stepsOf smaller stepsUp stepsAcross sameStep legsOf lowerCorner upperCorner isStraight clash
     common isEnd boxesShare overlap under belowBoth runsOf pinsOf runsAmong grown nextRun earliestOf earliest runsBetween runsFrom without pinsFrom keptIf
     sooner pairAt eachOf comesBefore byPart byNumber pairOf weightOf distanceOf difference larger sameNumber onBoard inside closer tooNear accepted firstOf both
     either choose
-worked = refl
+worked = (refl, refl)

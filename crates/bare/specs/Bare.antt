@@ -13,6 +13,7 @@ use Rattle.board.specs.declared.Spot.{Spot}
 use Rattle.board.specs.Spots.{mostPins, spotsFrom, allWithin, allApart}
 use Rattle.wiring.specs.declared.Laid.{Laid}
 use Rattle.wiring.specs.Answer.{turnedAway, wiringOf, feedRows}
+use Rattle.copper.specs.declared.Favour.{Favour}
 
 -- The pins of lists of x and y, numbered by position: one is there for each x.
 unfoldable pub feedOfLists : List ℤ → List ℤ → List Spot
@@ -32,10 +33,10 @@ listRows xs ys =
     ∷ []
 
 -- Bare wiring: 16, 17, 8, 9, then what wiring the feed says after its 17: 18, 19.
-abbrev pub bareRows : List ℤ → List ℤ → ℕ → List Row
-bareRows xs ys room = listRows xs ys ++ drop 1 (feedRows (feedOfLists xs ys) room)
+abbrev pub bareRows : List ℤ → List ℤ → ℕ → Favour → List Row
+bareRows xs ys room favour = listRows xs ys ++ drop 1 (feedRows (feedOfLists xs ys) room favour)
 
 -- Bare wiring: what the lists say, or the wiring of their feed.
-unfoldable pub bareOf : List ℤ → List ℤ → ℕ → Laid
-bareOf xs ys room =
-    choose (accepted (firstOf (listRows xs ys))) (wiringOf (feedOfLists xs ys) room) (turnedAway (firstOf (listRows xs ys)))
+unfoldable pub bareOf : List ℤ → List ℤ → ℕ → Favour → Laid
+bareOf xs ys room favour =
+    choose (accepted (firstOf (listRows xs ys))) (wiringOf (feedOfLists xs ys) room favour) (turnedAway (firstOf (listRows xs ys)))

@@ -1,6 +1,7 @@
 // Bare wiring: lists of x and y as a feed, what is turned away, and the wiring of the rest.
 use board::PINS;
 use board::spots;
+use copper::Favour;
 use copper::Leg;
 use lent::fill;
 use lent::wiring_of;
@@ -24,9 +25,9 @@ fn wrong_lengths(xs: &[i32], ys: &[i32]) -> bool
 }
 
 // Wires lists whose lengths are right and that are not empty, or says why not: 8, 9, 18, 19. Pins are numbered by position.
-fn wire_listed(xs: &[i32], ys: &[i32], room: usize) -> Laid
+fn wire_listed(xs: &[i32], ys: &[i32], room: usize, favour: Favour) -> Laid
     requires { ⌜ (wrongLengths (now xs) (now ys) ≡ false) × (length (now xs) ≡ 0 → ⊥) ⌝ }
-    ensures { λ r. ⌜ r ≡ bareOf (now (xs .entry)) (now (ys .entry)) room ⌝ }
+    ensures { λ r. ⌜ r ≡ bareOf (now (xs .entry)) (now (ys .entry)) room favour ⌝ }
 {
     let mut across = [0i32; PINS];
     let mut up = [0i32; PINS];
@@ -46,12 +47,12 @@ fn wire_listed(xs: &[i32], ys: &[i32], room: usize) -> Laid
     if !spots::are_apart(&across, &up, &there) {
         return wiring::refused(Verdict::PlaceTaken);
     }
-    wiring::wire_feed(&across, &up, &there, room)
+    wiring::wire_feed(&across, &up, &there, room, favour)
 }
 
-// Wires lists of x and y with room for so many legs, or says why not: 16, 17, 8, 9, 18, 19.
-pub fn wire_bare(xs: &[i32], ys: &[i32], room: usize) -> Laid
-    ensures { λ r. ⌜ r ≡ bareOf (now (xs .entry)) (now (ys .entry)) room ⌝ }
+// Wires lists of x and y with room for so many legs, as is said of the shape to favour; or says why not: 16, 17, 8, 9, 18, 19.
+pub fn wire_bare(xs: &[i32], ys: &[i32], room: usize, favour: Favour) -> Laid
+    ensures { λ r. ⌜ r ≡ bareOf (now (xs .entry)) (now (ys .entry)) room favour ⌝ }
 {
     if wrong_lengths(xs, ys) {
         return wiring::refused(Verdict::ListLengths);
@@ -59,14 +60,14 @@ pub fn wire_bare(xs: &[i32], ys: &[i32], room: usize) -> Laid
     if xs.len() == 0 {
         return wiring::refused(Verdict::NoPins);
     }
-    wire_listed(xs, ys, room)
+    wire_listed(xs, ys, room, favour)
 }
 
 // Wires lists of x and y, and fills the list that was lent with the legs; or says why not, and leaves the list as it was.
-pub fn wire_lent(xs: &[i32], ys: &[i32], legs: &mut [Leg]) -> Wiring
-    ensures { λ r. ⌜ (r ≡ bareOf (now (xs .entry)) (now (ys .entry)) (length (now (legs .entry))) .wiring) × (now (legs .exit) ≡ filledWith (bareOf (now (xs .entry)) (now (ys .entry)) (length (now (legs .entry)))) (now (legs .entry))) ⌝ }
+pub fn wire_lent(xs: &[i32], ys: &[i32], legs: &mut [Leg], favour: Favour) -> Wiring
+    ensures { λ r. ⌜ (r ≡ bareOf (now (xs .entry)) (now (ys .entry)) (length (now (legs .entry))) favour .wiring) × (now (legs .exit) ≡ filledWith (bareOf (now (xs .entry)) (now (ys .entry)) (length (now (legs .entry))) favour) (now (legs .entry))) ⌝ }
 {
-    let laid = wire_bare(xs, ys, legs.len());
+    let laid = wire_bare(xs, ys, legs.len(), favour);
     fill(laid, legs);
     wiring_of(laid)
 }

@@ -1,6 +1,7 @@
 // Tries 28 on desks broken by hand, one or more for each way that the rules list: every call on each of them, on the whole desk that they were made from, and on it with its unused parts changed.
 use board::LIMIT;
 use board::Place;
+use copper::Favour;
 use desk::Answered;
 use desk::Desk;
 use drawing::Edit;
@@ -223,7 +224,7 @@ fn try_others(desk: Desk) {
     let written = desk.write(0, &mut buffer);
     let writing = written.verdict;
     tell(b" write ", writing);
-    let wired = desk.wire(0, LEGS);
+    let wired = desk.wire(0, LEGS, Favour::Unsaid);
     let laid = wired.laid;
     let wiring = laid.wiring;
     let verdict = wiring.verdict;
@@ -275,10 +276,7 @@ fn try_numbers() {
     try_calls(b"used count 257:", used_too_large());
     try_calls(b"standing more than owned:", standing_too_many());
     try_calls(b"record of seat 8:", record_of_seat_8());
-    try_calls(
-        b"closed seat with a standing edit:",
-        closed_with_a_count(),
-    );
+    try_calls(b"closed seat with a standing edit:", closed_with_a_count());
 }
 
 // Tries every call on the whole desks, then on the broken ones.

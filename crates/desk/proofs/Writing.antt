@@ -23,6 +23,7 @@ use Rattle.desk.specs.declared.Wired.{Wired}
 use Rattle.desk.specs.Desk.{closedSeat, seatOf, namingAt, rowsAt, mapAt, sound, writtenOf, bufferOf, wiredOf}
 use Rattle.desk.proofs.Sound.{pins-lawful}
 use Rattle.desk.proofs.Found.{foundAt}
+use Rattle.copper.specs.declared.Favour.{Favour}
 
 -- The map of what is found,
 abbrev mapFound : Found → List ℕ
@@ -41,8 +42,8 @@ abbrev bufferFound : List ℕ → Found → List ℕ
 bufferFound buffer f = bufferBy (rowsFound f buffer) (mapFound f) buffer
 
 -- and how it is wired.
-abbrev wireFound : ℕ → Found → Laid
-wireFound room f = wiredBy (namingFound f) (feedOf (f .state .pins)) room
+abbrev wireFound : ℕ → Favour → Found → Laid
+wireFound room favour f = wiredBy (namingFound f) (feedOf (f .state .pins)) room favour
 
 -- Writing and wiring look at the seat only where neither 28 nor 1 applies.
 module _ (d : Desk) (s : ℕ) where
@@ -56,19 +57,19 @@ module _ (d : Desk) (s : ℕ) where
   written-by buffer false false k e = (rw (k, e), rw (k, e))
 
   -- and is wired as it is.
-  wired-by : (room : ℕ) (b t : Bool) → not (sound d) ≡ b → leb mostSeats s ≡ t
-      → wireFound room (foundAt d s) ≡ wiredBy (namingAt d s) (feedOf (seatOf d s .pins)) room
+  wired-by : (room : ℕ) (favour : Favour) (b t : Bool) → not (sound d) ≡ b → leb mostSeats s ≡ t
+      → wireFound room favour (foundAt d s) ≡ wiredBy (namingAt d s) (feedOf (seatOf d s .pins)) room favour
   unfolding sound accepted firstOf choose
-  wired-by room true t k e = rw k
-  wired-by room false true k e = rw (k, e)
-  wired-by room false false k e = rw (k, e)
+  wired-by room favour true t k e = rw k
+  wired-by room favour false true k e = rw (k, e)
+  wired-by room favour false false k e = rw (k, e)
 
 module _ (d : Desk) (s : ℕ) {f : Found} (g : f ≡ foundAt d s) where
   -- Wiring: the answer with its legs.
-  pub wire-laid : (room : ℕ) {w : Laid} → w ≡ wireFound room f → _≡_ {A = Wired} (record { desk = d; laid = w }) (wiredOf d s room)
+  pub wire-laid : (room : ℕ) (favour : Favour) {w : Laid} → w ≡ wireFound room favour f → _≡_ {A = Wired} (record { desk = d; laid = w }) (wiredOf d s room favour)
   unfolding wiredOf
-  wire-laid room e =
-      let q = e ∙ ap (wireFound room) g ∙ wired-by d s room _ _ refl refl in
+  wire-laid room favour e =
+      let q = e ∙ ap (wireFound room favour) g ∙ wired-by d s room favour _ _ refl refl in
       λ i. record { desk = d; laid = q i }
 
   -- Writing: the answer and the number of bytes,

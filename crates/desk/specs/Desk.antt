@@ -12,6 +12,7 @@ use Rattle.drawing.specs.Pins.{feedOf}
 use Rattle.drawing.specs.Stated.{editOf}
 use Rattle.pinmap.specs.declared.Writing.{Writing}
 use Rattle.pinmap.specs.Map.{readMap, mapOf, writeBy, bufferBy}
+use Rattle.copper.specs.declared.Favour.{Favour}
 use Rattle.copper.specs.declared.Leg.{Leg}
 use Rattle.lent.specs.Lent.{filledWith}
 use Rattle.journal.specs.declared.Record.{Record}
@@ -149,13 +150,13 @@ unfoldable pub emptyDesk : Desk
 emptyDesk = record { seats = replicate mostSeats closedSeat; journal = replicate mostRecords blank; used = 0 }
 
 -- Wiring a seat, with room for so many legs: the desk as it is, and the answer with its legs.
-unfoldable pub wiredOf : Desk → ℕ → ℕ → Wired
-wiredOf d s room = record { desk = d; laid = wiredBy (namingAt d s) (feedOf (seatOf d s .pins)) room }
+unfoldable pub wiredOf : Desk → ℕ → ℕ → Favour → Wired
+wiredOf d s room favour = record { desk = d; laid = wiredBy (namingAt d s) (feedOf (seatOf d s .pins)) room favour }
 
 -- Wiring into a lent list of legs: its length is the room. The desk as it is, and the answer.
-unfoldable pub wiredSeatOf : Desk → ℕ → List Leg → WiredSeat
-wiredSeatOf d s lent = record { desk = d; wiring = wiredOf d s (length lent) .laid .wiring }
+unfoldable pub wiredSeatOf : Desk → ℕ → List Leg → Favour → WiredSeat
+wiredSeatOf d s lent favour = record { desk = d; wiring = wiredOf d s (length lent) favour .laid .wiring }
 
 -- The lent list of legs after wiring: filled with the legs, entries after these as they were; where it is refused, there are none.
-unfoldable pub lentOf : Desk → ℕ → List Leg → List Leg
-lentOf d s lent = filledWith (wiredOf d s (length lent) .laid) lent
+unfoldable pub lentOf : Desk → ℕ → List Leg → Favour → List Leg
+lentOf d s lent favour = filledWith (wiredOf d s (length lent) favour .laid) lent

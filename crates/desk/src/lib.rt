@@ -1,5 +1,6 @@
 // The desk: its seats and its journal, whether it is broken, and the calls that take it as it stands and hand back the desk that follows.
 use board::Place;
+use copper::Favour;
 use copper::Leg;
 use drawing::Edit;
 use drawing::Held;
@@ -292,21 +293,21 @@ impl Desk {
         }
     }
 
-    // Wires the drawing at `seat`, with room for so many legs, or says why not. The desk stays as it is.
-    pub fn wire(self, seat: usize, room: usize) -> Wired
-        ensures { λ r. ⌜ r ≡ wiredOf self seat room ⌝ }
+    // Wires the drawing at `seat`, with room for so many legs, as is said of the shape to favour; or says why not. The desk stays as it is.
+    pub fn wire(self, seat: usize, room: usize, favour: Favour) -> Wired
+        ensures { λ r. ⌜ r ≡ wiredOf self seat room favour ⌝ }
     {
         let found = self.find(seat);
-        let laid = rows::feed_wired(found, room);
+        let laid = rows::feed_wired(found, room, favour);
         Wired { desk: self, laid }
     }
 
     // Wires the drawing at `seat` and fills a lent list with its legs, or says why not. Entries after the legs keep what they held.
-    pub fn wire_lent(self, seat: usize, legs: &mut [Leg]) -> WiredSeat
-        ensures { λ r. ⌜ r ≡ wiredSeatOf self seat (now (legs .entry)) ⌝ }
-        ensures { λ _. ⌜ now (legs .exit) ≡ lentOf self seat (now (legs .entry)) ⌝ }
+    pub fn wire_lent(self, seat: usize, legs: &mut [Leg], favour: Favour) -> WiredSeat
+        ensures { λ r. ⌜ r ≡ wiredSeatOf self seat (now (legs .entry)) favour ⌝ }
+        ensures { λ _. ⌜ now (legs .exit) ≡ lentOf self seat (now (legs .entry)) favour ⌝ }
     {
-        let wired = self.wire(seat, legs.len());
+        let wired = self.wire(seat, legs.len(), favour);
         let laid = wired.laid;
         lent::fill(laid, legs);
         WiredSeat {

@@ -9,6 +9,7 @@ use Rattle.refusal.specs.Refusals.{accepted}
 use Rattle.drawing.specs.declared.Pin.{Pin}
 use Rattle.drawing.specs.Pins.{feedOf}
 use Rattle.pinmap.specs.Map.{mapOf}
+use Rattle.copper.specs.declared.Favour.{Favour}
 use Rattle.copper.specs.declared.Leg.{Leg}
 use Rattle.wiring.specs.declared.Laid.{Laid}
 use Rattle.wiring.specs.Answer.{wiringOf}
@@ -30,16 +31,16 @@ written-open : (d : Desk) (s : ℕ) (buffer : List ℕ) → accepted (writtenOf 
 unfolding writtenOf Passes
 written-open d s buffer z = passes (lookAt d s) (asking s (writing (length buffer))) z .0
 
-module _ (d : Desk) (s room : ℕ) (z : accepted (wiredOf d s room .laid .wiring .verdict) ≡ true) where
+module _ (d : Desk) (s room : ℕ) (favour : Favour) (z : accepted (wiredOf d s room favour .laid .wiring .verdict) ≡ true) where
   -- An accepted wiring of a seat finds it open,
   pub wired-open : OpenSeat (lookAt d s)
   unfolding wiredOf Passes
-  wired-open = passes (lookAt d s) (closing s) (answer-comes (wiringOf (feedOf (seatOf d s .pins)) room) _ z .1)
+  wired-open = passes (lookAt d s) (closing s) (answer-comes (wiringOf (feedOf (seatOf d s .pins)) room favour) _ z .1)
 
   -- and is the wiring of its drawing's feed.
-  pub wired-is : wiredOf d s room .laid ≡ wiringOf (feedOf (seatOf d s .pins)) room
+  pub wired-is : wiredOf d s room favour .laid ≡ wiringOf (feedOf (seatOf d s .pins)) room favour
   unfolding wiredOf
-  wired-is = answer-comes (wiringOf (feedOf (seatOf d s .pins)) room) _ z .0
+  wired-is = answer-comes (wiringOf (feedOf (seatOf d s .pins)) room favour) _ z .0
 
 -- ---- after any calls
 module _ (calls : List Call) (s : ℕ) where
@@ -69,14 +70,14 @@ module _ (calls : List Call) (s : ℕ) where
       writing-writes-the-map desk s buffer z ∙ ap₂ mapOf (p .0) (p .1)
 
   -- ITS WIRING IS THAT OF THOSE PINS,
-  pub wired-after-calls : (room : ℕ) → accepted (wiredOf desk s room .laid .wiring .verdict) ≡ true → wiredOf desk s room .laid ≡ wiringOf (feedOf pins) room
-  wired-after-calls room z =
-      wired-is desk s room z ∙ ap (λ (l : List Pin). wiringOf (feedOf l) room) (open-as-past (wired-open desk s room z) .1)
+  pub wired-after-calls : (room : ℕ) (favour : Favour) → accepted (wiredOf desk s room favour .laid .wiring .verdict) ≡ true → wiredOf desk s room favour .laid ≡ wiringOf (feedOf pins) room favour
+  wired-after-calls room favour z =
+      wired-is desk s room favour z ∙ ap (λ (l : List Pin). wiringOf (feedOf l) room favour) (open-as-past (wired-open desk s room favour z) .1)
 
   -- into a lent list too: the answer, and the legs that the list is filled with.
-  pub lent-after-calls : (lent : List Leg) → accepted (wiredSeatOf desk s lent .wiring .verdict) ≡ true
-      → (wiredSeatOf desk s lent .wiring ≡ wiringOf (feedOf pins) (length lent) .wiring) × (lentOf desk s lent ≡ filledWith (wiringOf (feedOf pins) (length lent)) lent)
+  pub lent-after-calls : (lent : List Leg) (favour : Favour) → accepted (wiredSeatOf desk s lent favour .wiring .verdict) ≡ true
+      → (wiredSeatOf desk s lent favour .wiring ≡ wiringOf (feedOf pins) (length lent) favour .wiring) × (lentOf desk s lent favour ≡ filledWith (wiringOf (feedOf pins) (length lent) favour) lent)
   unfolding wiredSeatOf lentOf
-  lent-after-calls lent z =
-      let e = wired-after-calls (length lent) z in
+  lent-after-calls lent favour z =
+      let e = wired-after-calls (length lent) favour z in
       (ap (λ (l : Laid). l .wiring) e, ap (λ (l : Laid). filledWith l lent) e)

@@ -18,6 +18,7 @@ use Rattle.desk.specs.declared.Desk.{Desk}
 use Rattle.rows.specs.Calls.{Call, seatIn, opening, closing, making, undoing, redoing, asking, Asking, writing}
 use Rattle.desk.specs.Desk.{noSeat, seatOf, inUse, editsOf, withSeat, withRecords, edited, effect, answerOf, step, writtenOf, bufferOf, wiredOf}
 use Rattle.history.specs.AsPast.{Untouched}
+use Rattle.copper.specs.declared.Favour.{Favour}
 
 -- The same seat with the same edits has the same of them standing and taken back.
 untouched-by : (d e : Desk) (t : ℕ) → seatOf e t ≡ seatOf d t → editsOf e t ≡ editsOf d t → Untouched d e t
@@ -70,9 +71,9 @@ unfolding step effect
 asking-leaves-the-desk d s a = choose-same (accepted (answerOf d (asking s a))) d
 
 -- The answer of wiring hands back the desk that it was given,
-pub wired-leaves-the-desk : (d : Desk) (s room : ℕ) → wiredOf d s room .desk ≡ d
+pub wired-leaves-the-desk : (d : Desk) (s room : ℕ) (favour : Favour) → wiredOf d s room favour .desk ≡ d
 unfolding wiredOf
-wired-leaves-the-desk d s room = refl
+wired-leaves-the-desk d s room favour = refl
 
 -- and so does that of writing.
 pub written-leaves-the-desk : (d : Desk) (s : ℕ) (buffer : List ℕ) → writtenOf d s buffer .desk ≡ d

@@ -21,6 +21,7 @@ use Rattle.pinmap.specs.Map.{mapRows}
 use Rattle.pinmap.proofs.Judging.{notOfMap, map-differs}
 use Rattle.journal.specs.Journal.{mostSeats}
 use Rattle.spanning.proofs.Apart.{never-meet}
+use Rattle.copper.specs.declared.Favour.{Favour}
 use Rattle.copper.specs.declared.Leg.{Leg}
 use Rattle.wiring.specs.Answer.{wiringOf, feedRows}
 use Rattle.wiring.proofs.Refusing.{laid-behind, wiring-verdict}
@@ -35,29 +36,29 @@ use Rattle.desk.proofs.Sound.{pins-lawful}
 use Rattle.history.proofs.Refused.{each-refusal-exactly}
 
 -- The verdict in the answer of wiring a seat is what the call is answered,
-pub wired-verdict : (d : Desk) (s room : ℕ) → wiredOf d s room .laid .wiring .verdict ≡ answerOf d (asking s (wiring room))
+pub wired-verdict : (d : Desk) (s room : ℕ) (favour : Favour) → wiredOf d s room favour .laid .wiring .verdict ≡ answerOf d (asking s (wiring room favour))
 unfolding wiredOf answerOf
-wired-verdict d s room =
+wired-verdict d s room favour =
     let feed = feedOf (seatOf d s .pins) in
-    laid-behind (namingAt d s) (feedRows feed room) (naming-apart (not (sound d)) s (seatOf d s .opened)) (wiringOf feed room) (wiring-verdict feed room)
+    laid-behind (namingAt d s) (feedRows feed room favour) (naming-apart (not (sound d)) s (seatOf d s .opened)) (wiringOf feed room favour) (wiring-verdict feed room favour)
 
 -- with a lent list its length is the room;
-pub lent-verdict : (d : Desk) (s : ℕ) (lent : List Leg) → wiredSeatOf d s lent .wiring .verdict ≡ answerOf d (asking s (wiring (length lent)))
+pub lent-verdict : (d : Desk) (s : ℕ) (lent : List Leg) (favour : Favour) → wiredSeatOf d s lent favour .wiring .verdict ≡ answerOf d (asking s (wiring (length lent) favour))
 unfolding wiredSeatOf
-lent-verdict d s lent = wired-verdict d s (length lent)
+lent-verdict d s lent favour = wired-verdict d s (length lent) favour
 
 -- so each of its refusals is given exactly under its condition, and after those before it.
-pub wired-exactly : (d : Desk) (s room : ℕ) → Exactly (rowsAt d (asking s (wiring room))) (wiredOf d s room .laid .wiring .verdict)
+pub wired-exactly : (d : Desk) (s room : ℕ) (favour : Favour) → Exactly (rowsAt d (asking s (wiring room favour))) (wiredOf d s room favour .laid .wiring .verdict)
 unfolding step
-wired-exactly d s room = rw (wired-verdict d s room) (each-refusal-exactly d (asking s (wiring room)))
+wired-exactly d s room favour = rw (wired-verdict d s room favour) (each-refusal-exactly d (asking s (wiring room favour)))
 
 -- ---- 18 never comes
 
 -- Wiring a seat is never answered 18: past 28, 1 and 2 its pins are on the board, so that no boxes meet.
-wiring-never-18 : (d : Desk) (s room : ℕ) → step d (asking s (wiring room)) .verdict ≡ BoxesMeet → ⊥
+wiring-never-18 : (d : Desk) (s room : ℕ) (favour : Favour) → step d (asking s (wiring room favour)) .verdict ≡ BoxesMeet → ⊥
 unfolding refusalAt Given
-wiring-never-18 d s room e =
-    let g = each-refusal-exactly d (asking s (wiring room)) .refused 4 (omega arith) .0 e in
+wiring-never-18 d s room favour e =
+    let g = each-refusal-exactly d (asking s (wiring room favour)) .refused 4 (omega arith) .0 e in
     let l : lawful (seatOf d s .pins) ≡ true = pins-lawful d (not-false _ (g .0)) s (leb-false mostSeats s (g .1 .0)) (not-false _ (g .1 .1 .0)) in
     true≢false (sym (g .1 .1 .1 .1) ∙ never-meet (spotsOf (seatOf d s .pins)) (feed-long _ l) (lawful-parts _ l .board))
 
@@ -85,37 +86,37 @@ never-18 d (undoing s) e = other-rows (rowsAt d (undoing s)) (differs-by BoxesMe
 never-18 d (redoing s) e = other-rows (rowsAt d (redoing s)) (differs-by BoxesMeet (rowsAt d (redoing s)) refl) e
 never-18 d (asking s (writing room)) e =
     other-rows (rowsAt d (asking s (writing room))) (differs-by BoxesMeet (rowsAt d (asking s (writing room))) refl) e
-never-18 d (asking s (wiring room)) e = wiring-never-18 d s room e
+never-18 d (asking s (wiring room favour)) e = wiring-never-18 d s room favour e
 
 -- nor does the answer of wiring a seat carry it.
-pub wired-never-18 : (d : Desk) (s room : ℕ) → wiredOf d s room .laid .wiring .verdict ≡ BoxesMeet → ⊥
+pub wired-never-18 : (d : Desk) (s room : ℕ) (favour : Favour) → wiredOf d s room favour .laid .wiring .verdict ≡ BoxesMeet → ⊥
 unfolding step
-wired-never-18 d s room e = wiring-never-18 d s room (sym (wired-verdict d s room) ∙ e)
+wired-never-18 d s room favour e = wiring-never-18 d s room favour (sym (wired-verdict d s room favour) ∙ e)
 
 -- ---- what a refused wiring leaves
 
 -- A refused wiring of a seat is one that was turned away.
-wired-turned : (d : Desk) (s room : ℕ) → Alone (wiredOf d s room .laid)
+wired-turned : (d : Desk) (s room : ℕ) (favour : Favour) → Alone (wiredOf d s room favour .laid)
 unfolding wiredOf
-wired-turned d s room =
+wired-turned d s room favour =
     let v = firstOf (namingAt d s) in
-    turned-by (accepted v) v (wiringOf (spotsOf (seatOf d s .pins)) room) (wiring-turned (spotsOf (seatOf d s .pins)) room)
+    turned-by (accepted v) v (wiringOf (spotsOf (seatOf d s .pins)) room favour) (wiring-turned (spotsOf (seatOf d s .pins)) room favour)
 
 -- A refused wiring of a seat has length, runs, legs and choices zero, and every run entry 0, 0, straight;
-pub refused-wiring-is-empty : (d : Desk) (s room : ℕ) → accepted (wiredOf d s room .laid .wiring .verdict) ≡ false → Empty (wiredOf d s room .laid .wiring)
-refused-wiring-is-empty d s room e = alone-empty (wiredOf d s room .laid) (wired-turned d s room) e
+pub refused-wiring-is-empty : (d : Desk) (s room : ℕ) (favour : Favour) → accepted (wiredOf d s room favour .laid .wiring .verdict) ≡ false → Empty (wiredOf d s room favour .laid .wiring)
+refused-wiring-is-empty d s room favour e = alone-empty (wiredOf d s room favour .laid) (wired-turned d s room favour) e
 
 -- into a lent list too,
-pub refused-lent-is-empty : (d : Desk) (s : ℕ) (lent : List Leg) → accepted (wiredSeatOf d s lent .wiring .verdict) ≡ false → Empty (wiredSeatOf d s lent .wiring)
+pub refused-lent-is-empty : (d : Desk) (s : ℕ) (lent : List Leg) (favour : Favour) → accepted (wiredSeatOf d s lent favour .wiring .verdict) ≡ false → Empty (wiredSeatOf d s lent favour .wiring)
 unfolding wiredSeatOf
-refused-lent-is-empty d s lent e = refused-wiring-is-empty d s (length lent) e
+refused-lent-is-empty d s lent favour e = refused-wiring-is-empty d s (length lent) favour e
 
 -- which it leaves as it was.
-pub refused-leaves-the-legs : (d : Desk) (s : ℕ) (lent : List Leg) → accepted (wiredSeatOf d s lent .wiring .verdict) ≡ false → lentOf d s lent ≡ lent
+pub refused-leaves-the-legs : (d : Desk) (s : ℕ) (lent : List Leg) (favour : Favour) → accepted (wiredSeatOf d s lent favour .wiring .verdict) ≡ false → lentOf d s lent favour ≡ lent
 unfolding wiredSeatOf lentOf
-refused-leaves-the-legs d s lent e = untouched (wiredOf d s (length lent) .laid) lent (wired-turned d s (length lent)) e
+refused-leaves-the-legs d s lent favour e = untouched (wiredOf d s (length lent) favour .laid) lent (wired-turned d s (length lent) favour) e
 
 -- Wiring into a lent list leaves the desk as it is, accepted or not.
-pub lent-leaves-the-desk : (d : Desk) (s : ℕ) (lent : List Leg) → wiredSeatOf d s lent .desk ≡ d
+pub lent-leaves-the-desk : (d : Desk) (s : ℕ) (lent : List Leg) (favour : Favour) → wiredSeatOf d s lent favour .desk ≡ d
 unfolding wiredSeatOf
-lent-leaves-the-desk d s lent = refl
+lent-leaves-the-desk d s lent favour = refl

@@ -16,8 +16,9 @@ use Rattle.board.specs.Spots.{mostPins}
 use Rattle.tree.specs.declared.Run.{Run}
 use Rattle.tree.specs.Growth.{runsOf}
 use Rattle.tree.proofs.Answer.{runs-few}
+use Rattle.copper.specs.declared.Favour.{Favour}
 use Rattle.copper.specs.declared.Shape.{Shape}
-use Rattle.copper.specs.Shapes.{legsOf}
+use Rattle.copper.specs.Shapes.{legsOf, favoursUpper}
 use Rattle.wiring.specs.declared.Laid.{Laid}
 use Rattle.wiring.specs.Choices.{legsOfChoice, nearEnd, farEnd, bestChoice}
 use Rattle.wiring.specs.Answer.{mostLegs, turnedAway, answerWith, wiringRows, wiringWith, wiringFavouring, wiringOf}
@@ -62,10 +63,10 @@ pub needed-few : (feed : List Spot) (shapes : List Shape) → length feed ≡ mo
 needed-few feed shapes full = omega (arith, choice-few feed (runsOf feed) shapes, runs-few feed full)
 
 -- The legs of a wiring are at most 62, and at most the room.
-pub wiring-fits : (feed : List Spot) (room : ℕ) → length feed ≡ mostPins → Fits room (wiringOf feed room)
+pub wiring-fits : (feed : List Spot) (room : ℕ) (favour : Favour) → length feed ≡ mostPins → Fits room (wiringOf feed room favour)
 unfolding wiringOf wiringFavouring wiringWith answerWith
-wiring-fits feed room full =
+wiring-fits feed room favour full =
     let runs = runsOf feed in
-    let shapes = bestChoice false feed runs in
+    let shapes = bestChoice (favoursUpper favour) feed runs in
     let v = firstOf (wiringRows feed shapes room) in
     fits-either (accepted v) v room (answerWith feed shapes) (λ e. (needed-few feed shapes full, room-kept feed shapes room e))

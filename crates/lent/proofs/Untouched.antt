@@ -9,6 +9,8 @@ use Rattle.refusal.specs.Rows.{firstOf}
 use Rattle.refusal.specs.declared.Verdict.{Verdict}
 use Rattle.board.specs.declared.Spot.{Spot}
 use Rattle.tree.specs.Growth.{runsOf}
+use Rattle.copper.specs.declared.Favour.{Favour}
+use Rattle.copper.specs.Shapes.{favoursUpper}
 use Rattle.copper.specs.declared.Shape.{Shape}
 use Rattle.copper.specs.declared.Leg.{Leg}
 use Rattle.wiring.specs.declared.Laid.{Laid}
@@ -38,10 +40,10 @@ unfolding answerWith accepted
 answer-given feed shapes e = absurd (true≢false e)
 
 -- The wiring of a feed is such a one.
-pub wiring-turned : (feed : List Spot) (room : ℕ) → Alone (wiringOf feed room)
+pub wiring-turned : (feed : List Spot) (room : ℕ) (favour : Favour) → Alone (wiringOf feed room favour)
 unfolding wiringOf wiringFavouring wiringWith
-wiring-turned feed room =
-    let shapes = bestChoice false feed (runsOf feed) in
+wiring-turned feed room favour =
+    let shapes = bestChoice (favoursUpper favour) feed (runsOf feed) in
     let v = firstOf (wiringRows feed shapes room) in
     turned-by (accepted v) v (answerWith feed shapes) (answer-given feed shapes)
 

@@ -19,6 +19,7 @@ use Rattle.rows.specs.Calls.{opening}
 use Rattle.desk.specs.Desk.{jobOf, soundClosed, soundSeat, soundTo, sound, answerOf, step, emptyDesk, wiredOf}
 use Rattle.printed.specs.Answers.{verdictLine}
 use Rattle.shown.specs.Shown.{mapText}
+use Rattle.copper.specs.declared.Favour.{Favour}
 use Rattle.wiring.specs.Answer.{mostLegs}
 use Rattle.mapped.specs.Mapped.{jobOfMap, openedWith, wiredWith, mapAnswer}
 
@@ -58,9 +59,9 @@ module _ (map : List ℕ) {job : ℕ} {d : Desk} {a : Answered} (j : job ≡ job
   answer-refused e = sym (printed-refused map (sym (ap (λ (x : Answered). x .verdict) open-so)) e)
 
   -- One that was accepted: the wiring is.
-  pub answer-wired : {w : Wired} → w ≡ wiredOf (a .desk) 0 mostLegs → accepted (a .verdict) ≡ true
+  pub answer-wired : {w : Wired} → w ≡ wiredOf (a .desk) 0 mostLegs Favour.Lower → accepted (a .verdict) ≡ true
       → mapText job (w .laid .wiring) ≡ mapAnswer map
   unfolding wiredWith
   answer-wired {w} q e =
-      let x : w ≡ wiredOf (openedWith map .desk) 0 mostLegs = q ∙ ap (λ (x : Answered). wiredOf (x .desk) 0 mostLegs) open-so in
+      let x : w ≡ wiredOf (openedWith map .desk) 0 mostLegs Favour.Lower = q ∙ ap (λ (x : Answered). wiredOf (x .desk) 0 mostLegs Favour.Lower) open-so in
       rw (j, x) (sym (printed-wired map (sym (ap (λ (x : Answered). accepted (x .verdict)) open-so) ∙ e)))

@@ -15,6 +15,8 @@ use Rattle.board.specs.declared.Spot.{Spot}
 use Rattle.board.specs.Spots.{mostPins}
 use Rattle.drawing.specs.Pins.{feedOf}
 use Rattle.tree.specs.Growth.{runsOf}
+use Rattle.copper.specs.declared.Favour.{Favour}
+use Rattle.copper.specs.Shapes.{favoursUpper}
 use Rattle.wiring.specs.Choices.{bestChoice, legsOfChoice}
 use Rattle.wiring.specs.Answer.{mostLegs, turnedAway, wiringOf, feedRows}
 use Rattle.wiring.proofs.Refusing.{wiring-apart, wiring-verdict}
@@ -30,25 +32,25 @@ unfolding unlike both accepted
 naming-else d s e = never-first RoomTooSmall (namingAt d s) refl (differs-by RoomTooSmall (namingAt d s) refl) (sym e)
 
 -- A feed of 32 spots is not refused for its room: 19 is given only where it needs more than 62 legs.
-feed-else : (feed : List Spot) → length feed ≡ mostPins → wiringOf feed mostLegs .wiring .verdict ≡ RoomTooSmall → ⊥
+feed-else : (feed : List Spot) (favour : Favour) → length feed ≡ mostPins → wiringOf feed mostLegs favour .wiring .verdict ≡ RoomTooSmall → ⊥
 unfolding refusalAt Given
-feed-else feed h e =
-    let shapes = bestChoice false feed (runsOf feed) in
-    let g : Given (feedRows feed mostLegs) 2 =
-    exactly (feedRows feed mostLegs) (wiring-apart feed shapes mostLegs) .refused 2 (omega arith) .0 (sym (wiring-verdict feed mostLegs) ∙ e) in
+feed-else feed favour h e =
+    let shapes = bestChoice (favoursUpper favour) feed (runsOf feed) in
+    let g : Given (feedRows feed mostLegs favour) 2 =
+    exactly (feedRows feed mostLegs favour) (wiring-apart feed shapes mostLegs) .refused 2 (omega arith) .0 (sym (wiring-verdict feed mostLegs favour) ∙ e) in
     omega (arith, ltb-true mostLegs (length (legsOfChoice feed (runsOf feed) shapes)) (g .1 .1), needed-few feed shapes h)
 
 -- No seat of any desk is.
-seat-else : (d : Desk) (s : ℕ) → wiredOf d s mostLegs .laid .wiring .verdict ≡ RoomTooSmall → ⊥
+seat-else : (d : Desk) (s : ℕ) (favour : Favour) → wiredOf d s mostLegs favour .laid .wiring .verdict ≡ RoomTooSmall → ⊥
 unfolding wiredOf choose turnedAway
-seat-else d s = by (accepted (firstOf (namingAt d s))) refl
+seat-else d s favour = by (accepted (firstOf (namingAt d s))) refl
   where
     by : (t : Bool) → accepted (firstOf (namingAt d s)) ≡ t
-        → choose t (wiringOf (feedOf (seatOf d s .pins)) mostLegs) (turnedAway (firstOf (namingAt d s))) .wiring .verdict ≡ RoomTooSmall → ⊥
-    by true e = feed-else (feedOf (seatOf d s .pins)) (feed-whole d s e)
+        → choose t (wiringOf (feedOf (seatOf d s .pins)) mostLegs favour) (turnedAway (firstOf (namingAt d s))) .wiring .verdict ≡ RoomTooSmall → ⊥
+    by true e = feed-else (feedOf (seatOf d s .pins)) favour (feed-whole d s e)
     by false e = naming-else d s
 
 -- THE ROOM IS ENOUGH FOR ANY MAP.
 pub never-nineteen : (map : List ℕ) → wiredWith map .verdict ≡ RoomTooSmall → ⊥
 unfolding wiredWith
-never-nineteen map = seat-else (openedWith map .desk) 0
+never-nineteen map = seat-else (openedWith map .desk) 0 Favour.Lower

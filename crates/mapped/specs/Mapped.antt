@@ -7,6 +7,7 @@ use Rattle.pinmap.specs.Record.{jobAt}
 use Rattle.rows.specs.Calls.{opening}
 use Rattle.desk.specs.declared.Answered.{Answered}
 use Rattle.desk.specs.Desk.{emptyDesk, step, wiredOf}
+use Rattle.copper.specs.declared.Favour.{Favour}
 use Rattle.wiring.specs.declared.Wiring.{Wiring}
 use Rattle.wiring.specs.Answer.{mostLegs}
 use Rattle.printed.specs.Answers.{verdictLine}
@@ -22,9 +23,9 @@ jobOfMap (b ∷ c ∷ rest) = jobAt (b ∷ c ∷ rest)
 unfoldable pub openedWith : List ℕ → Answered
 openedWith map = step emptyDesk (opening 0 (jobOfMap map) map)
 
--- And wires it, with room for all legs.
+-- And wires it, with room for all legs and lower asked for.
 unfoldable pub wiredWith : List ℕ → Wiring
-wiredWith map = wiredOf (openedWith map .desk) 0 mostLegs .laid .wiring
+wiredWith map = wiredOf (openedWith map .desk) 0 mostLegs Favour.Lower .laid .wiring
 
 -- What it prints: the wiring, or the refusal of the wiring or of the opening.
 unfoldable pub mapAnswer : List ℕ → List ℕ

@@ -1,4 +1,5 @@
 // What the program wiremap answers to its input, as bytes in a lent buffer.
+use copper::Favour;
 use desk::Desk;
 use pinmap::MOST_BYTES;
 use pinmap::RECORD_BYTES;
@@ -32,7 +33,7 @@ fn job_of_map(map: &[u8]) -> u16
     pinmap::job_at(map)
 }
 
-// Opens a map at seat 0 of an empty desk under its job, wires it, and prints the answer; says how many bytes that is.
+// Opens a map at seat 0 of an empty desk under its job, wires it with lower asked for, and prints the answer; says how many bytes that is.
 pub fn map_answer(map: &[u8], out: &mut [u8; ANSWER_BYTES]) -> usize
     ensures { λ r. ⌜ ((r ≡ length (mapAnswer (now (map .entry)))) × (r ≤ answerBytes)) × (now (out .exit) ≡ over (mapAnswer (now (map .entry))) (now (out .entry))) ⌝ }
 {
@@ -42,7 +43,7 @@ pub fn map_answer(map: &[u8], out: &mut [u8; ANSWER_BYTES]) -> usize
     let verdict = opened.verdict;
     if refusal::is_accepted(verdict) {
         let d = opened.desk;
-        let wired = d.wire(0, LEGS);
+        let wired = d.wire(0, LEGS, Favour::Lower);
         let laid = wired.laid;
         let wiring = laid.wiring;
         return print_map(job, wiring, out);

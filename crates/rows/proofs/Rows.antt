@@ -59,7 +59,7 @@ rows-apart l (making s (Removing p)) = apart-by (rowsOf l (making s (Removing p)
 rows-apart l (undoing s) = apart-by (rowsOf l (undoing s)) refl
 rows-apart l (redoing s) = apart-by (rowsOf l (redoing s)) refl
 rows-apart l (asking s (writing room)) = apart-by (rowsOf l (asking s (writing room))) refl
-rows-apart l (asking s (wiring room)) = apart-by (rowsOf l (asking s (wiring room))) refl
+rows-apart l (asking s (wiring room favour)) = apart-by (rowsOf l (asking s (wiring room favour))) refl
 
 -- ---- what was read first
 

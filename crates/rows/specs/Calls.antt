@@ -2,11 +2,12 @@
 use mathlib.Core.List.{List}
 use Prim.Native.Nat.{ℕ}
 use Rattle.drawing.specs.declared.stated.Making.{Making}
+use Rattle.copper.specs.declared.Favour.{Favour}
 
--- What is asked of a drawing: to write its map into lent room (bytes), or to wire it into lent room (legs).
+-- What is asked of a drawing: to write its map into lent room (bytes), or to wire it into lent room (legs) with what is said of the shape to favour.
 pub data Asking : Type 0 where
   writing : ℕ → Asking
-  wiring : ℕ → Asking
+  wiring : ℕ → Favour → Asking
 
 -- Opening from a pin map, closing, making an edit (placing, moving, removing a pin), undo, redo, and asking.
 pub data Call : Type 0 where

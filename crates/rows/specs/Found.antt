@@ -17,6 +17,7 @@ use Rattle.seats.specs.Seats.{closedSeat, noSeat}
 use Rattle.seats.specs.Sound.{soundAll}
 use Rattle.rows.specs.declared.Found.{Found}
 use Rattle.rows.specs.Refusals.{namingRows}
+use Rattle.copper.specs.declared.Favour.{Favour}
 
 -- What a call finds on these seats and this journal: whether they are not sound, and the state of the seat that it names, a closed one's above 7.
 abbrev pub foundIn : List Seat → List Record → ℕ → ℕ → Found
@@ -28,5 +29,5 @@ abbrev pub namingFound : Found → List Row
 namingFound f = namingRows (f .broken) (f .seat) (f .state .opened)
 
 -- Wiring a feed, with room for so many legs, where these rows come first: they turn it away, or it is wired, which 17, 18 or 19 may turn away.
-abbrev pub wiredBy : List Row → List Spot → ℕ → Laid
-wiredBy rows feed room = choose (accepted (firstOf rows)) (wiringOf feed room) (turnedAway (firstOf rows))
+abbrev pub wiredBy : List Row → List Spot → ℕ → Favour → Laid
+wiredBy rows feed room favour = choose (accepted (firstOf rows)) (wiringOf feed room favour) (turnedAway (firstOf rows))

@@ -81,7 +81,7 @@ redoingRow takenBack = given (eqb takenBack 0) NothingTakenBack ∷ []
 -- Writing: 19. Wiring: 17, 18, 19.
 abbrev pub askingRows : ℕ → List Pin → Asking → List Row
 askingRows job l (writing room) = roomRows job l room
-askingRows job l (wiring room) = feedRows (feedOf l) room
+askingRows job l (wiring room favour) = feedRows (feedOf l) room favour
 
 -- The rows of each call.
 abbrev pub rowsOf : Look → Call → List Row

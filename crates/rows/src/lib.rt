@@ -1,6 +1,7 @@
 // Rows of refusals: what a call finds at the seat that it names, for each call its row in document 01's order over that, and what opening reads, writing writes and wiring answers.
 use board::PINS;
 use board::Place;
+use copper::Favour;
 use drawing::Held;
 use drawing::Pin;
 use drawing::stated::Making;
@@ -267,10 +268,10 @@ pub fn map_written(found: Found, buffer: &mut [u8]) -> Writing
     }
 }
 
-// Wiring a seat, with room for so many legs: 28, 1, 2, then what wiring the drawing's feed answers, 17, 18 or 19 among it.
-pub fn feed_wired(found: Found, room: usize) -> Laid
+// Wiring a seat, with room for so many legs and what is said of the shape to favour: 28, 1, 2, then what wiring the drawing's feed answers, 17, 18 or 19 among it.
+pub fn feed_wired(found: Found, room: usize, favour: Favour) -> Laid
     requires { ⌜ (found .broken ≡ false → found .state .opened ≡ true → lawful (found .state .pins) ≡ true) ⌝ }
-    ensures { λ r. ⌜ r ≡ wiredBy (namingFound found) (feedOf (found .state .pins)) room ⌝ }
+    ensures { λ r. ⌜ r ≡ wiredBy (namingFound found) (feedOf (found .state .pins)) room favour ⌝ }
 {
     let verdict = turned_naming(found);
     if refusal::is_accepted(verdict) {
@@ -280,7 +281,7 @@ pub fn feed_wired(found: Found, room: usize) -> Laid
         let xs = lists.xs;
         let ys = lists.ys;
         let there = lists.there;
-        wiring::wire_feed(&xs, &ys, &there, room)
+        wiring::wire_feed(&xs, &ys, &there, room, favour)
     } else {
         wiring::refused(verdict)
     }

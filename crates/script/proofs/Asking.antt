@@ -2,15 +2,17 @@
 use mathlib.Core.Path.{_≡_, refl, sym, _∙_, ap}
 use mathlib.Core.Bool.{Bool, true, false}
 use mathlib.Core.List.{List}
-use Prim.Native.Nat.{ℕ, _≤_, _<_}
+use Prim.Native.Nat.{ℕ, _+_, _-_, _≤_, _<_}
 use Prim.Native.String.{String}
+use native.Mathlib.Omega.{arith}
 use lib.IntN.{ℤ}
 use lib.Dec.{eqb}
 use lib.ListN.{length, getD}
 use borrow.Author.Tests.{eq-eqb, ne-eqb, lt-ltb, le-ltb}
 use Rattle.basics.specs.Tests.{both, either, choose}
-use Rattle.basics.proofs.Tests.{opposite, both-no, both-yes, choose-yes, choose-no}
+use Rattle.basics.proofs.Tests.{opposite, both-no, both-yes, either-left, either-right, either-none, choose-yes, choose-no}
 use Rattle.board.specs.declared.Place.{Place}
+use Rattle.copper.specs.declared.Favour.{Favour}
 use Rattle.text.specs.Text.{text, same}
 use Rattle.text.specs.Words.{hash, withoutReturn, wordsOf, word}
 use Rattle.text.specs.Numbers.{mostNumber, mostJob, valueOf, isNumber, numberOf, isCoordinate, signed, coordinateOf, isList, isMap}
@@ -19,7 +21,7 @@ use Rattle.text.specs.declared.Coordinate.{Coordinate}
 use Rattle.text.proofs.Steps.{picked, unpicked}
 use Rattle.text.proofs.Cutting.{same-is}
 use Rattle.text.proofs.Values.{number-read, number-unread, coordinate-read, coordinate-unread}
-use Rattle.script.specs.Said.{mostLine, mostLegsLent, only, numberIn, placeIn, isSeatAlone, isPair, isPlacing, seatCall, pairCall, placeCall, openCall, bareCall, calls, saidAs, callIn, isSkipped, saidIn, isLong, saidBy}
+use Rattle.script.specs.Said.{mostLine, mostLegsLent, only, numberIn, placeIn, isSeatAlone, isPair, isPlacing, seatCall, pairCall, placeCall, favourIn, endsInFavour, openCall, wireCall, bareCall, calls, saidAs, callIn, isSkipped, saidIn, isLong, saidBy}
 use Rattle.script.specs.declared.Said.{Said}
 use Rattle.script.specs.declared.Pair.{Pair}
 use Rattle.script.specs.declared.Placing.{Placing}
@@ -97,51 +99,68 @@ module _ (words : List (List ℕ)) where
         let same : s ≡ numberIn 1 words = cc in
         only-yes (h .0) (ap call same)
 
+-- Two numbers that were not read did not pass,
+two-unread : {t : Bool} (a b : ℕ) → Pair.Unread ≡ choose t (Pair.Of a b) Pair.Unread → t ≡ false
+two-unread {t} a b f = unpicked t (λ q. opposite {t = true} refl cc) f
+
+-- and two that were read passed, and are those asked for.
+two-read : {t : Bool} (a b : ℕ) {s m : ℕ} → Pair.Of s m ≡ choose t (Pair.Of a b) Pair.Unread → (t ≡ true) × ((s ≡ a) × (m ≡ b))
+two-read {t} a b {s} {m} f =
+    let h : (t ≡ true) × (Pair.Of s m ≡ Pair.Of a b) = picked t (λ q. opposite {t = true} refl cc) f in
+    let seat : s ≡ a = cc in
+    let number : m ≡ b = cc in
+    (h .0, (seat, number))
+
 -- NAME SEAT and one number more.
 module _ (top : ℕ) (words : List (List ℕ)) where
+  abbrev twoThere : Bool
+  twoThere = both (isNumber mostNumber (word 1 words)) (isNumber top (word 2 words))
+
+  abbrev twoRead : Pair
+  twoRead = choose twoThere (Pair.Of (numberIn 1 words) (numberIn 2 words)) Pair.Unread
+
   abbrev pairRead : Pair
   pairRead = choose (isPair top words) (Pair.Of (numberIn 1 words) (numberIn 2 words)) Pair.Unread
 
+  module _ {v : List ℕ} (f : v ≡ word 1 words) where
+    -- A seat that is no number is not read,
+    pub two-seat : Number.Unread ≡ numberOf mostNumber v → Pair.Unread ≡ twoRead
+    two-seat k = unread-as _ _ (both-no _ (number-not mostNumber f k))
+
+    module _ {s : ℕ} (p : Number.Of s ≡ numberOf mostNumber v) {w : List ℕ} (g : w ≡ word 2 words) where
+      -- nor is a number out of its range;
+      pub two-number : Number.Unread ≡ numberOf top w → Pair.Unread ≡ twoRead
+      two-number k = unread-as _ _ (both-by (number-there mostNumber f p) (number-not top g k))
+
+      -- a seat and a number are read.
+      pub two-both : {m : ℕ} → Number.Of m ≡ numberOf top w → Pair.Of s m ≡ twoRead
+      two-both q =
+          read-as _ (both-by (number-there mostNumber f p) (number-there top g q))
+          (λ i. Pair.Of (number-value mostNumber f p i) (number-value top g q i))
+
   module _ {n : ℕ} (e : n ≡ length words) where
-    -- Fewer or more words are not read,
+    -- Fewer or more than three words are not read,
     pub pair-few : (n ≡ 3 → ⊥) → Pair.Unread ≡ pairRead
     unfolding isPair
     pair-few h = unread-as _ _ (both-no _ (count-no words 3 e h))
 
-    module _ (h : n ≡ 3) {v : List ℕ} (f : v ≡ word 1 words) where
-      -- nor is a seat that is no number,
-      pub pair-seat : Number.Unread ≡ numberOf mostNumber v → Pair.Unread ≡ pairRead
-      unfolding isPair
-      pair-seat k = unread-as _ _ (both-by (count-yes words 3 e h) (both-no _ (number-not mostNumber f k)))
-
-      module _ {s : ℕ} (p : Number.Of s ≡ numberOf mostNumber v) {w : List ℕ} (g : w ≡ word 2 words) where
-        -- nor a number out of its range;
-        pub pair-number : Number.Unread ≡ numberOf top w → Pair.Unread ≡ pairRead
-        unfolding isPair
-        pair-number k = unread-as _ _ (both-by (count-yes words 3 e h) (both-by (number-there mostNumber f p) (number-not top g k)))
-
-        -- a seat and a number are read.
-        pub pair-both : {m : ℕ} → Number.Of m ≡ numberOf top w → Pair.Of s m ≡ pairRead
-        unfolding isPair
-        pair-both q =
-            read-as _ (both-by (count-yes words 3 e h) (both-by (number-there mostNumber f p) (number-there top g q)))
-            (λ i. Pair.Of (number-value mostNumber f p i) (number-value top g q i))
+    -- and three by the second and the third.
+    pub pair-three : n ≡ 3 → {r : Pair} → r ≡ twoRead → r ≡ pairRead
+    unfolding isPair
+    pair-three h g = g ∙ rw (both-by (count-yes words 3 e h) refl)
 
   module _ (call : ℕ → ℕ → Said) where
     -- What is not read is not a call,
     pub pair-no : Pair.Unread ≡ pairRead → Said.NotACall ≡ pairCall top call words
     unfolding pairCall
-    pair-no f = only-no _ (unpicked (isPair top words) (λ q. opposite {t = true} refl cc) f)
+    pair-no f = only-no _ (two-unread _ _ f)
 
     -- and what is read is one with that number.
     pub pair-yes : {s m : ℕ} → Pair.Of s m ≡ pairRead → call s m ≡ pairCall top call words
     unfolding pairCall
-    pair-yes {s} {m} f =
-        let h : (isPair top words ≡ true) × (Pair.Of s m ≡ Pair.Of (numberIn 1 words) (numberIn 2 words)) =
-        picked (isPair top words) (λ q. opposite {t = true} refl cc) f in
-        let seat : s ≡ numberIn 1 words = cc in
-        let number : m ≡ numberIn 2 words = cc in
-        only-yes (h .0) (λ i. call (seat i) (number i))
+    pair-yes f =
+        let h = two-read _ _ f in
+        only-yes (h .0) (λ i. call (h .1 .0 i) (h .1 .1 i))
 
 -- NAME SEAT PIN X Y.
 module _ (words : List (List ℕ)) where
@@ -242,37 +261,106 @@ module _ (words : List (List ℕ)) {n : ℕ} (e : n ≡ length words) where
             (both-by (count-yes words 4 e h) (both-by (number-there mostNumber ea ps) (both-by (number-there mostJob eb pj) (rw ec at k))))
             (λ i. Said.Open (number-value mostNumber ea ps i) (number-value mostJob eb pj i))
 
--- bare ROOM XS YS.
-module _ (words : List (List ℕ)) {n : ℕ} (e : n ≡ length words) where
-  -- Fewer or more words wire nothing bare,
-  pub bare-few : (n ≡ 4 → ⊥) → Said.NotACall ≡ bareCall words
-  unfolding bareCall
-  bare-few h = only-no _ (both-no _ (count-no words 4 e h))
+-- FAVOUR.
+module _ (w : List ℕ) where
+  -- One of the two names is there where the first is,
+  pub favour-first : same w (text "lower") ≡ true → true ≡ either (same w (text "lower")) (same w (text "upper"))
+  favour-first h = sym (either-left _ h)
 
-  module _ (h : n ≡ 4) {a : List ℕ} (ea : a ≡ word 1 words) where
+  -- and else where the second is.
+  pub favour-second : {t : Bool} → same w (text "lower") ≡ false → t ≡ same w (text "upper") → t ≡ either (same w (text "lower")) (same w (text "upper"))
+  favour-second h e = e ∙ sym (either-right _ h)
+
+  -- `lower` names lower,
+  pub favour-lower : same w (text "lower") ≡ true → Favour.Lower ≡ favourIn w
+  unfolding favourIn
+  favour-lower h = sym (choose-yes _ _ h)
+
+  module _ (h : same w (text "lower") ≡ false) where
+    -- `upper` names upper,
+    pub favour-upper : same w (text "upper") ≡ true → Favour.Upper ≡ favourIn w
+    unfolding favourIn
+    favour-upper k = sym (choose-no _ _ h ∙ choose-yes _ _ k)
+
+    -- and nothing else says anything.
+    pub favour-unsaid : same w (text "upper") ≡ false → Favour.Unsaid ≡ favourIn w
+    unfolding favourIn
+    favour-unsaid k = sym (choose-no _ _ h ∙ choose-no _ _ k)
+
+-- So many words, or one more that is a favour.
+module _ (words : List (List ℕ)) {n : ℕ} (k : ℕ) (e : n ≡ length words) where
+  -- So many or fewer pass by their number alone,
+  pub ends-few : n ≤ k → eqb n k ≡ endsInFavour k words
+  unfolding endsInFavour
+  ends-few h =
+      ap (λ (m : ℕ). eqb m k) e
+      ∙ sym (ap (either (eqb (length words) k)) (both-no _ (count-no words (k + 1) e (λ q. omega (arith, h, q)))) ∙ either-none (eqb (length words) k))
+
+  module _ (more : k < n) where
+    -- one more by what it names,
+    pub ends-one : n - k ≡ 1 → {w : List ℕ} → w ≡ word k words → {t : Bool} → t ≡ either (same w (text "lower")) (same w (text "upper"))
+        → t ≡ endsInFavour k words
+    unfolding endsInFavour
+    ends-one h f g =
+        g ∙ ap (λ (v : List ℕ). either (same v (text "lower")) (same v (text "upper"))) f
+        ∙ sym (either-right _ (count-no words k e (λ q. omega (arith, more, q))) ∙ both-yes _ (count-yes words (k + 1) e (omega (arith, more, h))))
+
+    -- and more than one do not.
+    pub ends-many : (n - k ≡ 1 → ⊥) → false ≡ endsInFavour k words
+    unfolding endsInFavour
+    ends-many h =
+        sym (either-right _ (count-no words k e (λ q. omega (arith, more, q))) ∙ both-no _ (count-no words (k + 1) e (λ q. h (omega (arith, q)))))
+
+-- wire SEAT ROOM [FAVOUR].
+module _ (words : List (List ℕ)) where
+  -- Fewer or more words wire no seat,
+  pub wire-few : endsInFavour 3 words ≡ false → Said.NotACall ≡ wireCall words
+  unfolding wireCall
+  wire-few h = only-no _ (both-no _ h)
+
+  module _ (h : endsInFavour 3 words ≡ true) where
+    -- nor do a seat and a room that are not read,
+    pub wire-no : Pair.Unread ≡ twoRead mostLegsLent words → Said.NotACall ≡ wireCall words
+    unfolding wireCall
+    wire-no f = only-no _ (both-by h (two-unread _ _ f))
+
+    -- and a seat and a room that are read are a wiring.
+    pub wire-yes : {s m : ℕ} → Pair.Of s m ≡ twoRead mostLegsLent words → Said.Wire s m ≡ wireCall words
+    unfolding wireCall
+    wire-yes f =
+        let g = two-read _ _ f in
+        only-yes (both-by h (g .0)) (λ i. Said.Wire (g .1 .0 i) (g .1 .1 i))
+
+-- bare ROOM XS YS [FAVOUR].
+module _ (words : List (List ℕ)) where
+  -- Fewer or more words wire nothing bare,
+  pub bare-few : endsInFavour 4 words ≡ false → Said.NotACall ≡ bareCall words
+  unfolding bareCall
+  bare-few h = only-no _ (both-no _ h)
+
+  module _ (h : endsInFavour 4 words ≡ true) {a : List ℕ} (ea : a ≡ word 1 words) where
     -- nor does a room out of its range,
     pub bare-room : Number.Unread ≡ numberOf mostLegsLent a → Said.NotACall ≡ bareCall words
     unfolding bareCall
-    bare-room k = only-no _ (both-by (count-yes words 4 e h) (both-no _ (number-not mostLegsLent ea k)))
+    bare-room k = only-no _ (both-by h (both-no _ (number-not mostLegsLent ea k)))
 
     module _ {s : ℕ} (ps : Number.Of s ≡ numberOf mostLegsLent a) {b : List ℕ} (eb : b ≡ word 2 words) where
       -- nor x that are no list,
       pub bare-across : isList b ≡ false → Said.NotACall ≡ bareCall words
       unfolding bareCall
-      bare-across k = only-no _ (both-by (count-yes words 4 e h) (both-by (number-there mostLegsLent ea ps) (both-no _ (rw eb at k))))
+      bare-across k = only-no _ (both-by h (both-by (number-there mostLegsLent ea ps) (both-no _ (rw eb at k))))
 
       module _ (pb : isList b ≡ true) {c : List ℕ} (ec : c ≡ word 3 words) where
         -- nor y that are none;
         pub bare-up : isList c ≡ false → Said.NotACall ≡ bareCall words
         unfolding bareCall
-        bare-up k =
-            only-no _ (both-by (count-yes words 4 e h) (both-by (number-there mostLegsLent ea ps) (both-by (rw eb at pb) (rw ec at k))))
+        bare-up k = only-no _ (both-by h (both-by (number-there mostLegsLent ea ps) (both-by (rw eb at pb) (rw ec at k))))
 
         -- a room and two lists are a bare wiring.
         pub bare-yes : isList c ≡ true → Said.Bare s ≡ bareCall words
         unfolding bareCall
         bare-yes k =
-            only-yes (both-by (count-yes words 4 e h) (both-by (number-there mostLegsLent ea ps) (both-by (rw eb at pb) (rw ec at k))))
+            only-yes (both-by h (both-by (number-there mostLegsLent ea ps) (both-by (rw eb at pb) (rw ec at k))))
             (ap Said.Bare (number-value mostLegsLent ea ps))
 
 -- Words whose first has the name of a call say what that call says.

@@ -8,7 +8,7 @@ use Rattle.basics.proofs.Tests.{both-right}
 use Rattle.text.specs.Text.{mostRoom}
 use Rattle.text.specs.Words.{word}
 use Rattle.text.proofs.Values.{number-top}
-use Rattle.script.specs.Said.{only, numberIn, isPair, seatCall, pairCall, placeCall, openCall, bareCall, saidAs, callIn, isSkipped, saidIn, isLong, wordsIn, saidBy}
+use Rattle.script.specs.Said.{only, numberIn, isPair, seatCall, pairCall, placeCall, openCall, wireCall, bareCall, saidAs, callIn, isSkipped, saidIn, isLong, wordsIn, saidBy}
 use Rattle.script.specs.declared.Said.{Said}
 
 -- The room of a writing is at most the most room.
@@ -46,7 +46,7 @@ pair-top top words h = number-top top (word 2 words) (both-right _ _ (both-right
 
 -- It holds of what any words say by the calls that there are,
 call-fits : (words : List (List ℕ)) → Fits (callIn words)
-unfolding callIn saidAs openCall seatCall placeCall pairCall bareCall Fits
+unfolding callIn saidAs openCall seatCall placeCall pairCall wireCall bareCall Fits
 call-fits words =
     chosen Fits _ (passed Fits tt _ (λ h. tt))
     (chosen Fits _ (passed Fits tt _ (λ h. tt))

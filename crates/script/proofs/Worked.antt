@@ -5,10 +5,11 @@ use Prim.Native.String.{String}
 use lib.IntN.{pos, negsuc}
 use lib.ListN.{replicate}
 use Rattle.basics.specs.Tests.{both, either, choose, eachOf}
+use Rattle.copper.specs.declared.Favour.{Favour}
 use Rattle.text.specs.Text.{text, same}
 use Rattle.text.specs.Words.{endOf, beforeFirst, pieces, nonEmpty, wordsOf}
 use Rattle.text.specs.Numbers.{between, valueFrom, isNumber, hasMinus, isCoordinate, signed, listed, isRow, isList, isHex, hexValue, allPairs, bytesOf, isSpelled, isMap, spelled}
-use Rattle.script.specs.Said.{only, isSeatAlone, isPair, isPlacing, seatCall, pairCall, placeCall, openCall, bareCall, saidAs, callIn, isSkipped, saidIn, isLong, saidBy, mapGiven, xsGiven, ysGiven}
+use Rattle.script.specs.Said.{only, isSeatAlone, isPair, isPlacing, seatCall, pairCall, placeCall, favourIn, endsInFavour, openCall, wireCall, bareCall, saidAs, callIn, isSkipped, saidIn, isLong, saidBy, mapGiven, xsGiven, ysGiven, favourGiven}
 use Rattle.script.specs.declared.Said.{Said}
 
 -- What lines say.
@@ -20,7 +21,8 @@ saidByEach (line ∷ rest) = saidBy (text line) ∷ saidByEach rest
 pub each-call :
     saidByEach
     ("open 00 0007 -" ∷ "open 1 9 0009fF" ∷ "close 7" ∷ "  place   0 0 -0 007  " ∷ "move 3 31 -5 12" ∷ "remove 0 4294967295"
-    ∷ "undo 0" ∷ "redo 0\r" ∷ "write 1 1024" ∷ "wire 1 64" ∷ "bare 64 0,-0 1,002" ∷ "bare 0 - 5" ∷ "pins 8" ∷ [])
+    ∷ "undo 0" ∷ "redo 0\r" ∷ "write 1 1024" ∷ "wire 1 64" ∷ "wire 2 0 lower" ∷ "wire 3 62  upper " ∷ "bare 64 0,-0 1,002" ∷ "bare 0 - 5"
+    ∷ "bare 1 5 - upper" ∷ "pins 8" ∷ [])
     ≡ Said.Open 0 7
     ∷ Said.Open 1 9
     ∷ Said.Close 7
@@ -31,34 +33,41 @@ pub each-call :
     ∷ Said.Redo 0
     ∷ Said.Write 1 1024
     ∷ Said.Wire 1 64
+    ∷ Said.Wire 2 0
+    ∷ Said.Wire 3 62
     ∷ Said.Bare 64
     ∷ Said.Bare 0
+    ∷ Said.Bare 1
     ∷ Said.Pins 8
     ∷ []
 unfolding saidByEach both either choose same endOf beforeFirst pieces nonEmpty wordsOf between eachOf valueFrom isNumber hasMinus isCoordinate signed
-    isRow isList isHex allPairs isSpelled isMap only isSeatAlone isPair isPlacing seatCall pairCall placeCall openCall bareCall
+    isRow isList isHex allPairs isSpelled isMap only isSeatAlone isPair isPlacing seatCall pairCall placeCall endsInFavour openCall wireCall bareCall
     saidAs callIn isSkipped saidIn isLong saidBy
 each-call = refl
 
--- What such lines give: the bytes of a map, and x and y.
+-- What such lines give: the bytes of a map, x and y, and the shape to favour.
 pub given :
     (mapGiven (text "open 1 9 0009fF\r") ≡ 0 ∷ 9 ∷ 255 ∷ []) × (mapGiven (text "open 00 0007 -") ≡ [])
     × (xsGiven (text "bare 64 0,-7 -") ≡ pos 0 ∷ negsuc 6 ∷ []) × (ysGiven (text "bare 64 0,-7 -") ≡ [])
+    × (favourGiven 3 (text "wire 1 64") ≡ Favour.Unsaid) × (favourGiven 3 (text "wire 1 64 lower\r") ≡ Favour.Lower)
+    × (favourGiven 4 (text "bare 64 - - upper") ≡ Favour.Upper)
 unfolding both either choose endOf beforeFirst pieces nonEmpty wordsOf between eachOf valueFrom isNumber hasMinus isCoordinate signed isRow
-    listed isHex hexValue allPairs bytesOf isSpelled spelled mapGiven xsGiven ysGiven
-given = (refl, refl, refl, refl)
+    listed isHex hexValue allPairs bytesOf isSpelled spelled same favourIn mapGiven xsGiven ysGiven favourGiven
+given = (refl, refl, refl, refl, refl, refl, refl)
 
--- What is no call: signs where none may stand, numbers out of range, words missing, over or unknown, tabs, wrong or odd hex digits, lists with a gap.
+-- What is no call: signs where none may stand, numbers out of range, words missing, over or unknown, a word that is no shape to favour, tabs,
+-- wrong or odd hex digits, lists with a gap.
 pub no-calls :
     saidByEach
     ("place 0 1 +5 0" ∷ "place 0 1 - 0" ∷ "place 0 1 --5 0" ∷ "place -0 1 5 0"
     ∷ "place 0 2 99999999999999999999999999999999 0" ∷ "place 0 2 2147483648 0" ∷ "place 0 2 0 -2147483649"
     ∷ "place 4294967296 2 0 0" ∷ "open 2 65536 -" ∷ "undo 0 # x" ∷ "undo" ∷ "Undo 0" ∷ "\t" ∷ "place\t0 3 0 1"
-    ∷ "open 1 9 0009Ff0" ∷ "open 1 9 0g" ∷ "open 1 9 --" ∷ "write 2 1025" ∷ "wire 1 65" ∷ "bare 64 1,,2 1,2,3"
+    ∷ "open 1 9 0009Ff0" ∷ "open 1 9 0g" ∷ "open 1 9 --" ∷ "write 2 1025" ∷ "wire 1 65"
+    ∷ "wire 1 64 Lower" ∷ "wire 1 64 straight" ∷ "wire 1 64 lower upper" ∷ "wire 1 upper" ∷ "bare 64 - - -" ∷ "bare 64 1,,2 1,2,3"
     ∷ "bare 64 1, 2" ∷ "bare 64 , ," ∷ "bare 64 -,1 1,2" ∷ "bare 65 - -" ∷ [])
-    ≡ replicate 24 Said.NotACall
+    ≡ replicate 29 Said.NotACall
 unfolding saidByEach both either choose same endOf beforeFirst pieces nonEmpty wordsOf between eachOf valueFrom isNumber hasMinus isCoordinate signed
-    isRow isList isHex allPairs isSpelled isMap only isSeatAlone isPair isPlacing seatCall pairCall placeCall openCall bareCall
+    isRow isList isHex allPairs isSpelled isMap only isSeatAlone isPair isPlacing seatCall pairCall placeCall endsInFavour openCall wireCall bareCall
     saidAs callIn isSkipped saidIn isLong saidBy
 no-calls = refl
 

@@ -1,7 +1,7 @@
--- What a line says: nothing, no call, or a call with its numbers; and the map and the lists that it gives.
+-- What a line says: nothing, no call, or a call with its numbers; and the map, the lists and the shape to favour that it gives.
 use mathlib.Core.Bool.{Bool}
 use mathlib.Core.List.{List, [], _∷_}
-use Prim.Native.Nat.{ℕ}
+use Prim.Native.Nat.{ℕ, _+_}
 use Prim.Native.String.{String}
 use lib.IntN.{ℤ}
 use lib.Dec.{ltb, eqb}
@@ -9,6 +9,7 @@ use lib.ListN.{length, getD}
 use Rattle.basics.specs.Tests.{both, either, choose}
 use Rattle.board.specs.Place.{place}
 use Rattle.board.specs.declared.Place.{Place}
+use Rattle.copper.specs.declared.Favour.{Favour}
 use Rattle.text.specs.Text.{text, same, mostRoom}
 use Rattle.text.specs.Words.{hash, withoutReturn, wordsOf, word}
 use Rattle.text.specs.Numbers.{mostNumber, mostJob, valueOf, isNumber, isCoordinate, signed, listed, isList, spelled, isMap}
@@ -61,6 +62,16 @@ pairCall top call words = only (isPair top words) (call (numberIn 1 words) (numb
 unfoldable pub placeCall : (ℕ → ℕ → Place → Said) → List (List ℕ) → Said
 placeCall call words = only (isPlacing words) (call (numberIn 1 words) (numberIn 2 words) (placeIn words))
 
+-- FAVOUR: the shape that a word names; where it names none, nothing is said.
+unfoldable pub favourIn : List ℕ → Favour
+favourIn w = choose (same w (text "lower")) Favour.Lower (choose (same w (text "upper")) Favour.Upper Favour.Unsaid)
+
+-- So many words, or one more that is `lower` or `upper`.
+unfoldable pub endsInFavour : ℕ → List (List ℕ) → Bool
+endsInFavour n words =
+    either (eqb (length words) n)
+    (both (eqb (length words) (n + 1)) (either (same (word n words) (text "lower")) (same (word n words) (text "upper"))))
+
 -- open SEAT JOB MAP.
 unfoldable pub openCall : List (List ℕ) → Said
 openCall words =
@@ -68,11 +79,18 @@ openCall words =
     (both (eqb (length words) 4) (both (isNumber mostNumber (word 1 words)) (both (isNumber mostJob (word 2 words)) (isMap (word 3 words)))))
     (Said.Open (numberIn 1 words) (numberIn 2 words))
 
--- bare ROOM XS YS.
+-- wire SEAT ROOM [FAVOUR].
+unfoldable pub wireCall : List (List ℕ) → Said
+wireCall words =
+    only
+    (both (endsInFavour 3 words) (both (isNumber mostNumber (word 1 words)) (isNumber mostLegsLent (word 2 words))))
+    (Said.Wire (numberIn 1 words) (numberIn 2 words))
+
+-- bare ROOM XS YS [FAVOUR].
 unfoldable pub bareCall : List (List ℕ) → Said
 bareCall words =
     only
-    (both (eqb (length words) 4) (both (isNumber mostLegsLent (word 1 words)) (both (isList (word 2 words)) (isList (word 3 words)))))
+    (both (endsInFavour 4 words) (both (isNumber mostLegsLent (word 1 words)) (both (isList (word 2 words)) (isList (word 3 words)))))
     (Said.Bare (numberIn 1 words))
 
 -- The calls: the name of each, and what the words of such a line say.
@@ -86,7 +104,7 @@ calls =
     ∷ ("undo", seatCall Said.Undo)
     ∷ ("redo", seatCall Said.Redo)
     ∷ ("write", pairCall mostRoom Said.Write)
-    ∷ ("wire", pairCall mostLegsLent Said.Wire)
+    ∷ ("wire", wireCall)
     ∷ ("bare", bareCall)
     ∷ ("pins", seatCall Said.Pins)
     ∷ []
@@ -131,3 +149,7 @@ xsGiven line = listed (word 2 (wordsIn line))
 -- and its y.
 unfoldable pub ysGiven : List ℕ → List ℤ
 ysGiven line = listed (word 3 (wordsIn line))
+
+-- What the line says of the shape to favour, in the word after so many.
+unfoldable pub favourGiven : ℕ → List ℕ → Favour
+favourGiven n line = favourIn (word n (wordsIn line))

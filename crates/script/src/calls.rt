@@ -3,6 +3,7 @@ use crate::Pair;
 use crate::Placing;
 use crate::Said;
 use board::Place;
+use copper::Favour;
 use text::Coordinate;
 use text::MOST_ROOM;
 use text::Number;
@@ -16,11 +17,11 @@ use text::words::same;
 use text::words::word;
 ghost use mathlib.Core.Path.{_≡_};
 ghost use Prim.Native.Nat.{_≤_};
-ghost use Rattle.text.specs.Text.{mostRoom};
-ghost use Rattle.text.specs.Words.{wordsOf};
-ghost use Rattle.text.specs.Numbers.{mostNumber};
-ghost use Rattle.basics.specs.Tests.{choose};
-ghost use Rattle.script.specs.Said.{mostLegsLent, numberIn, placeIn, isSeatAlone, isPair, isPlacing, seatCall, pairCall, placeCall, openCall, bareCall, callIn, isSkipped as skipped};
+ghost use Rattle.text.specs.Text.{text as bytesOf, same as sameBytes, mostRoom};
+ghost use Rattle.text.specs.Words.{wordsOf, word as wordIn};
+ghost use Rattle.text.specs.Numbers.{mostNumber, isNumber};
+ghost use Rattle.basics.specs.Tests.{both, either, choose};
+ghost use Rattle.script.specs.Said.{mostLegsLent, numberIn, placeIn, isSeatAlone, isPair, isPlacing, seatCall, pairCall, placeCall, favourIn, endsInFavour, openCall, wireCall, bareCall, callIn, isSkipped as skipped};
 
 // The most legs that a call lends.
 const MOST_LEGS_LENT: usize = 64;
@@ -38,6 +39,20 @@ fn seat_alone(text: &[u8]) -> Number
     number(word(text, 1), MOST)
 }
 
+// The seat that is the word after the name, and the number after it, from 0 to `top`.
+fn two_numbers(text: &[u8], top: usize) -> Pair
+    requires { ⌜ top ≤ mostNumber ⌝ }
+    ensures { λ r. ⌜ r ≡ choose (both (isNumber mostNumber (wordIn 1 (wordsOf (now (text .entry))))) (isNumber top (wordIn 2 (wordsOf (now (text .entry)))))) (Pair.Of (numberIn 1 (wordsOf (now (text .entry)))) (numberIn 2 (wordsOf (now (text .entry))))) Pair.Unread ⌝ }
+{
+    let Number::Of(seat) = number(word(text, 1), MOST) else {
+        return Pair::Unread;
+    };
+    let Number::Of(n) = number(word(text, 2), top) else {
+        return Pair::Unread;
+    };
+    Pair::Of(seat, n)
+}
+
 // NAME SEAT and one number more, from 0 to `top`.
 fn pair(text: &[u8], top: usize) -> Pair
     requires { ⌜ top ≤ mostNumber ⌝ }
@@ -46,13 +61,7 @@ fn pair(text: &[u8], top: usize) -> Pair
     if count_words(text) != 3 {
         return Pair::Unread;
     }
-    let Number::Of(seat) = number(word(text, 1), MOST) else {
-        return Pair::Unread;
-    };
-    let Number::Of(n) = number(word(text, 2), top) else {
-        return Pair::Unread;
-    };
-    Pair::Of(seat, n)
+    two_numbers(text, top)
 }
 
 // NAME SEAT PIN X Y
@@ -75,6 +84,37 @@ fn placing(text: &[u8]) -> Placing
         return Placing::Unread;
     };
     Placing::Of(seat, pin, Place { x, y })
+}
+
+// FAVOUR: the shape that a word names; where it names none, nothing is said.
+pub(crate) fn favour_in(name: &[u8]) -> Favour
+    ensures { λ r. ⌜ r ≡ favourIn (now (name .entry)) ⌝ }
+{
+    if same(name, b"lower") {
+        return Favour::Lower;
+    }
+    if same(name, b"upper") {
+        return Favour::Upper;
+    }
+    Favour::Unsaid
+}
+
+// Whether a word is `lower` or `upper`.
+fn is_favour(name: &[u8]) -> bool
+    ensures { λ r. ⌜ r ≡ either (sameBytes (now (name .entry)) (bytesOf "lower")) (sameBytes (now (name .entry)) (bytesOf "upper")) ⌝ }
+{
+    same(name, b"lower") || same(name, b"upper")
+}
+
+// So many words, or one more that is `lower` or `upper`.
+fn ends_in_favour(text: &[u8], words: usize) -> bool
+    ensures { λ r. ⌜ r ≡ endsInFavour words (wordsOf (now (text .entry))) ⌝ }
+{
+    let count = count_words(text);
+    if count <= words {
+        return count == words;
+    }
+    count - words == 1 && is_favour(word(text, words))
 }
 
 // open SEAT JOB MAP
@@ -169,21 +209,24 @@ fn read_write(text: &[u8]) -> Said
     Said::Write { seat, room }
 }
 
-// wire SEAT ROOM
+// wire SEAT ROOM [FAVOUR]
 fn read_wire(text: &[u8]) -> Said
-    ensures { λ r. ⌜ r ≡ pairCall mostLegsLent Said.Wire (wordsOf (now (text .entry))) ⌝ }
+    ensures { λ r. ⌜ r ≡ wireCall (wordsOf (now (text .entry))) ⌝ }
 {
-    let Pair::Of(seat, room) = pair(text, MOST_LEGS_LENT) else {
+    if !ends_in_favour(text, 3) {
+        return Said::NotACall;
+    }
+    let Pair::Of(seat, room) = two_numbers(text, MOST_LEGS_LENT) else {
         return Said::NotACall;
     };
     Said::Wire { seat, room }
 }
 
-// bare ROOM XS YS
+// bare ROOM XS YS [FAVOUR]
 fn read_bare(text: &[u8]) -> Said
     ensures { λ r. ⌜ r ≡ bareCall (wordsOf (now (text .entry))) ⌝ }
 {
-    if count_words(text) != 4 {
+    if !ends_in_favour(text, 4) {
         return Said::NotACall;
     }
     let Number::Of(room) = number(word(text, 1), MOST_LEGS_LENT) else {

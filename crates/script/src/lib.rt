@@ -2,8 +2,10 @@
 mod calls;
 
 use board::Place;
+use calls::favour_in;
 use calls::is_skipped;
 use calls::read_call;
+use copper::Favour;
 use text::MOST_NUMBERS;
 use text::MOST_PAIRS;
 use text::numbers::fill_list;
@@ -15,7 +17,7 @@ ghost use Prim.Native.Nat.{_≤_};
 ghost use lib.ListN.{length};
 ghost use Rattle.text.specs.Text.{over};
 ghost use Rattle.text.specs.Numbers.{mostPairs, mostNumbers};
-ghost use Rattle.script.specs.Said.{saidBy, mapGiven, xsGiven, ysGiven};
+ghost use Rattle.script.specs.Said.{saidBy, mapGiven, xsGiven, ysGiven, favourGiven};
 
 // A line of more bytes is not a call.
 const MOST_LINE: usize = 16384;
@@ -32,8 +34,8 @@ pub enum Placing {
     Of(usize, usize, Place),
 }
 
-// What a line says: nothing, no call, or a call with its numbers. The map of an opening and the lists of a bare wiring are
-// read from the line by functions of their own, into lent buffers.
+// What a line says: nothing, no call, or a call with its numbers. The map of an opening, the lists of a bare wiring and the shape
+// that a wiring favours are read from the line by functions of their own, map and lists into lent buffers.
 pub enum Said {
     Skip,
     NotACall,
@@ -86,4 +88,11 @@ pub fn given_ys(line: &[u8], ys: &mut [i32; MOST_NUMBERS]) -> usize
     ensures { λ _. ⌜ now (ys .exit) ≡ over (ysGiven (now (line .entry))) (now (ys .entry)) ⌝ }
 {
     fill_list(word(without_return(line), 3), ys)
+}
+
+// What the line says of the shape to favour, in the word of a number, counted from 0.
+pub fn given_favour(line: &[u8], at: usize) -> Favour
+    ensures { λ r. ⌜ r ≡ favourGiven at (now (line .entry)) ⌝ }
+{
+    favour_in(word(without_return(line), at))
 }

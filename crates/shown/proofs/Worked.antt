@@ -17,6 +17,7 @@ use Rattle.tree.specs.Growth.{pairAt, sooner, keptIf, pinsFrom, without, runsFr
 use Rattle.tree.specs.Boxes.{belowBoth, under, overlap, boxesShare, isEnd, common, clash}
 use Rattle.tree.specs.Bends.{bent}
 use Rattle.basics.specs.Sums.{howMany}
+use Rattle.copper.specs.declared.Favour.{Favour}
 use Rattle.copper.specs.Shapes.{lowerCorner, upperCorner, legsOf}
 use Rattle.copper.specs.Length.{sameStep, stepsAcross, stepsUp, stepsOf, stepsOfAll, different, lengthOf}
 use Rattle.board.specs.Place.{smaller}
@@ -30,7 +31,7 @@ use Rattle.shown.specs.Shown.{entryLine, lineForEach, legText, pinText, 
 
 -- W3: (0,0), (4,2), (4,-2).
 abbrev w3 : Laid
-w3 = wiringOf (At (record { x = pos 0; y = pos 0 }) ∷ At (record { x = pos 4; y = pos 2 }) ∷ At (record { x = pos 4; y = negsuc 1 }) ∷ []) 62
+w3 = wiringOf (At (record { x = pos 0; y = pos 0 }) ∷ At (record { x = pos 4; y = pos 2 }) ∷ At (record { x = pos 4; y = negsuc 1 }) ∷ []) 62 Favour.Lower
 
 -- W3 as a map of job 7.
 pub map-of-w3 : mapText 7 (w3 .wiring) ≡ text "job 7 length 8 runs 2 weighed 5\n0 1 lower\n1 2 straight\n"

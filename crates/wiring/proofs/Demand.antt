@@ -3,7 +3,7 @@ use mathlib.Core.Path.{_≡_, refl, sym, ap, _∙_, subst}
 use mathlib.Core.Bool.{Bool, true, false}
 use mathlib.Core.List.{List, [], _∷_, map}
 use Prim.Native.Nat.{ℕ, suc, _-_, _*_, _≤_}
-use lib.ListN.{length, take, drop, replicate}
+use lib.ListN.{length, take, drop, replicate, length-map}
 use lib.Seq.{drop-append-seam}
 use Rattle.basics.specs.Tests.{choose}
 use Rattle.basics.proofs.Tests.{opposite}
@@ -18,7 +18,6 @@ use Rattle.tree.specs.declared.Run.{Run}
 use Rattle.tree.specs.Growth.{run, pinsOf, runsOf}
 use Rattle.tree.specs.Spanning.{Among, first, later}
 use Rattle.tree.specs.Trees.{mostRuns}
-use Rattle.tree.proofs.Membership.{in-back}
 use Rattle.spanning.proofs.Spanning.{none-among}
 use Rattle.spanning.proofs.TheTree.{runs-are-the-tree}
 use Rattle.copper.specs.declared.Shape.{Shape}
@@ -34,7 +33,7 @@ use Rattle.wiring.specs.Demand.{listedIn, runsIn, shapesIn, legsIn, Best
 use Rattle.wiring.proofs.Masks.{bends}
 use Rattle.wiring.proofs.Ordered.{choice-told}
 use Rattle.wiring.proofs.Weighed.{weighed-most}
-use Rattle.wiring.proofs.Shortest.{best-first, none-shorter}
+use Rattle.wiring.proofs.Shortest.{best-first, best-among, none-shorter}
 use Rattle.wiring.proofs.Lines.{choice-in-line, told-as-long}
 
 -- ---- what an accepted wiring is
@@ -113,9 +112,17 @@ module _ (feed : List Spot) (c : List Shape) where
 
   module _ (upper : ℕ → Bool) (told : c ≡ shapesBy feed upper runs) where
     -- The runs are those of the feed,
-    runs-are : runsIn (laid .wiring) ≡ runs
+    pub runs-are : runsIn (laid .wiring) ≡ runs
     unfolding runsIn
     runs-are = ap (map (λ (e : RunEntry). run (e .near) (e .far))) (listed-are ∙ ap (shapedRuns runs) told) ∙ shaped-runs feed upper runs
+
+    -- and so many,
+    pub runs-many : laid .wiring .runs ≡ length runs
+    unfolding answerWith
+    runs-many =
+        ap (λ (s : List Shape). length (shapedRuns runs s)) told
+        ∙ sym (length-map (shapedRuns runs (shapesBy feed upper runs)) (λ (e : RunEntry). run (e .near) (e .far)))
+        ∙ ap length (shaped-runs feed upper runs)
 
     -- the shapes those of the choice.
     shapes-are : shapesIn (laid .wiring) ≡ c
@@ -131,16 +138,11 @@ module _ (favoured : Bool) (feed : List Spot) (full : length feed ≡ mostPins) 
   abbrev best : List Shape
   best = bestChoice favoured feed (runsOf feed)
 
-  -- The best choice is one of the choices.
-  best-in : Among best (choicesOf favoured feed (runsOf feed))
-  best-in =
-      let h = best-first feed (runsOf feed) favoured in
-      subst (λ (l : List (List Shape)). Among best l) (sym (h .listed)) (in-back (h .before) (first refl))
-
   -- The answer with the best choice of shapes is what is demanded.
   answer-best : (f : ℕ) (left : List ℕ) → pinsOf feed ≡ f ∷ left → BestWiring favoured feed (answerWith feed best)
   answer-best f left e =
-      let told = choice-told favoured feed (runsOf feed) best best-in in
+      let i = best-among feed (runsOf feed) favoured in
+      let told = choice-told favoured feed (runsOf feed) best i in
       let r : runsIn (answerWith feed best .wiring) ≡ runsOf feed = runs-are feed best (bends best) told in
       let s : shapesIn (answerWith feed best .wiring) ≡ best = shapes-are feed best (bends best) told in
       record {
@@ -154,7 +156,7 @@ module _ (favoured : Bool) (feed : List Spot) (full : length feed ≡ mostPins) 
         least = rw r shortest;
         weighed = rw r many;
         weighed-few = few;
-        in-line = rw (legs-are feed best) (λ l i. choice-in-line favoured feed (runsOf feed) best best-in l i);
+        in-line = rw (legs-are feed best) (λ l m. choice-in-line favoured feed (runsOf feed) best i l m);
         run-long = runs-long feed best (bends best) told;
       }
     where

@@ -10,3 +10,4 @@ pub mod Refusing
 pub mod Shortest
 pub mod Lines
 pub mod Demand
+pub mod Either

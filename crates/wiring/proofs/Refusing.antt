@@ -9,6 +9,8 @@ use Rattle.refusal.specs.Rows.{Row, firstOf}
 use Rattle.refusal.proofs.Rows.{distinct, unlike, Apart, apart-by, behind}
 use Rattle.board.specs.declared.Spot.{Spot}
 use Rattle.tree.specs.Growth.{runsOf}
+use Rattle.copper.specs.declared.Favour.{Favour}
+use Rattle.copper.specs.Shapes.{favoursUpper}
 use Rattle.copper.specs.declared.Shape.{Shape}
 use Rattle.wiring.specs.declared.Laid.{Laid}
 use Rattle.wiring.specs.Choices.{bestChoice}
@@ -26,8 +28,8 @@ unfolding distinct unlike both accepted
 wiring-apart feed shapes room = apart-by (wiringRows feed shapes room) refl
 
 -- The wiring of a feed is answered by the first of its rows that holds.
-pub wiring-verdict : (feed : List Spot) (room : ℕ) → wiringOf feed room .wiring .verdict ≡ firstOf (feedRows feed room)
+pub wiring-verdict : (feed : List Spot) (room : ℕ) (favour : Favour) → wiringOf feed room favour .wiring .verdict ≡ firstOf (feedRows feed room favour)
 unfolding wiringOf wiringFavouring wiringWith
-wiring-verdict feed room =
-    let shapes = bestChoice false feed (runsOf feed) in
-    laid-behind (feedRows feed room) [] (wiring-apart feed shapes room) (answerWith feed shapes) (unfold answerWith firstOf in refl)
+wiring-verdict feed room favour =
+    let shapes = bestChoice (favoursUpper favour) feed (runsOf feed) in
+    laid-behind (feedRows feed room favour) [] (wiring-apart feed shapes room) (answerWith feed shapes) (unfold answerWith firstOf in refl)

@@ -18,7 +18,7 @@ use Rattle.board.specs.declared.Spot.{Spot}
 use Rattle.tree.specs.declared.Run.{Run}
 use Rattle.board.specs.Spots.{mostPins, allWithin}
 use Rattle.tree.specs.Growth.{pinsOf, runsOf}
-use Rattle.tree.proofs.Membership.{Among, first, later, in-either}
+use Rattle.tree.proofs.Membership.{Among, first, later, in-back, in-either}
 use Rattle.spanning.proofs.Spanning.{none-among}
 use Rattle.copper.specs.declared.Shape.{Shape}
 use Rattle.copper.specs.declared.Leg.{Leg}
@@ -92,7 +92,13 @@ module _ (feed : List Spot) (runs : List Run) where
   unfolding bestChoice
   best-first favoured = of-some (choicesOf favoured feed runs) (shapesBy feed (λ r. false) runs) (told-choice favoured feed runs (λ r. false))
 
-  -- None is shorter.
+  -- It is one of them,
+  pub best-among : (favoured : Bool) → Among (bestChoice favoured feed runs) (choicesOf favoured feed runs)
+  best-among favoured =
+      let h = best-first favoured in
+      subst (λ (l : List (List Shape)). Among (bestChoice favoured feed runs) l) (sym (h .listed)) (in-back (h .before) (first refl))
+
+  -- and none is shorter.
   pub none-shorter : (favoured : Bool) (c : List Shape) → Among c (choicesOf favoured feed runs) → long (bestChoice favoured feed runs) ≤ long c
   none-shorter favoured c m =
       let h = best-first favoured in

@@ -1,5 +1,5 @@
 -- The wiring of a feed: its refusals and its answer, with the legs.
-use mathlib.Core.Bool.{Bool, false}
+use mathlib.Core.Bool.{Bool}
 use mathlib.Core.List.{List, [], _∷_, _++_}
 use Prim.Native.Nat.{ℕ, _*_}
 use lib.Dec.{ltb}
@@ -17,7 +17,9 @@ use Rattle.tree.specs.Growth.{pinsOf, runsOf}
 use Rattle.tree.specs.Trees.{mostRuns, treeRows}
 use Rattle.copper.specs.declared.Shape.{Shape}
 use Rattle.copper.specs.declared.Shape.the-variants.{Straight}
+use Rattle.copper.specs.declared.Favour.{Favour}
 use Rattle.copper.specs.declared.Leg.{Leg}
+use Rattle.copper.specs.Shapes.{favoursUpper}
 use Rattle.wiring.specs.declared.RunEntry.{RunEntry}
 use Rattle.wiring.specs.declared.Laid.{Laid}
 use Rattle.wiring.specs.Choices.{bestChoice, legsOfChoice, lengthOfChoice, weighedOf}
@@ -84,10 +86,10 @@ wiringWith feed shapes room =
 unfoldable pub wiringFavouring : Bool → List Spot → ℕ → Laid
 wiringFavouring favoured feed room = wiringWith feed (bestChoice favoured feed (runsOf feed)) room
 
--- The wiring of a feed, lower before upper.
-unfoldable pub wiringOf : List Spot → ℕ → Laid
-wiringOf = wiringFavouring false
+-- The wiring of a feed, where this is said of the shape to favour.
+unfoldable pub wiringOf : List Spot → ℕ → Favour → Laid
+wiringOf feed room favour = wiringFavouring (favoursUpper favour) feed room
 
 -- Its rows.
-abbrev pub feedRows : List Spot → ℕ → List Row
-feedRows feed room = wiringRows feed (bestChoice false feed (runsOf feed)) room
+abbrev pub feedRows : List Spot → ℕ → Favour → List Row
+feedRows feed room favour = wiringRows feed (bestChoice (favoursUpper favour) feed (runsOf feed)) room

@@ -92,3 +92,18 @@ pub record BestWiring (favoured : Bool) (feed : List Spot) (laid : Laid) : Type 
   -- and the legs of each run are together as long as its distance.
   pub run-long : (e : RunEntry) → Among e (listedIn (laid .wiring))
       → length (stepsOfAll (legsOf (e .shape) (placeAt feed (e .near)) (placeAt feed (e .far)))) ≡ distanceOf (placeAt feed (e .near)) (placeAt feed (e .far))
+
+-- Two answers are the same but for the shapes of their runs and where their legs bend.
+pub record SameButShapes (v w : Wiring) : Type 0 where
+  -- They have the same verdict,
+  pub verdict-same : v .verdict ≡ w .verdict
+  -- the same length,
+  pub length-same : v .length ≡ w .length
+  -- as many runs,
+  pub runs-same : v .runs ≡ w .runs
+  -- with the same near and far ends, in run order,
+  pub ends-same : runsIn v ≡ runsIn w
+  -- as many legs,
+  pub legs-same : v .legs ≡ w .legs
+  -- and as many choices weighed.
+  pub weighed-same : v .weighed ≡ w .weighed

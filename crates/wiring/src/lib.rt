@@ -1,6 +1,7 @@
 // Wiring: the best shapes of the runs, the answer with its legs, and the choices weighed.
 use board::PINS;
 use board::spots;
+use copper::Favour;
 use copper::Leg;
 use copper::Shape;
 use least::Least;
@@ -268,10 +269,17 @@ fn wire_favouring(
     Laid { wiring, list }
 }
 
-// The wiring of a feed whose pins stand on the board, no two of them too near, with room for so many legs.
-pub fn wire_feed(xs: &[i32; PINS], ys: &[i32; PINS], there: &[bool; PINS], room: usize) -> Laid
+// The wiring of a feed whose pins stand on the board, no two of them too near, with room for so many legs, where this is said of the shape to favour.
+pub fn wire_feed(
+    xs: &[i32; PINS],
+    ys: &[i32; PINS],
+    there: &[bool; PINS],
+    room: usize,
+    favour: Favour,
+) -> Laid
     requires { ⌜ (allWithin (spotsFrom (now xs) (now ys) (now there)) ≡ true) × (allApart (spotsFrom (now xs) (now ys) (now there)) ≡ true) ⌝ }
-    ensures { λ r. ⌜ r ≡ wiringOf (spotsFrom (now (xs .entry)) (now (ys .entry)) (now (there .entry))) room ⌝ }
+    ensures { λ r. ⌜ r ≡ wiringOf (spotsFrom (now (xs .entry)) (now (ys .entry)) (now (there .entry))) room favour ⌝ }
 {
-    wire_favouring(xs, ys, there, room, false)
+    let favoured = copper::favours_upper(favour);
+    wire_favouring(xs, ys, there, room, favoured)
 }

@@ -1,10 +1,10 @@
 -- W1 to W8 and D1 to D3 of document 01, as one statement over a table: the boards by the definition of bare wiring, the desks by the
 -- definition of a call from the empty desk. Assumes nothing.
-use mathlib.Core.Path.{_≡_, refl}
+use mathlib.Core.Path.{_≡_, refl, ap}
 use mathlib.Core.List.{List, [], _∷_, _++_, map}
 use Prim.Native.Nat.{ℕ}
 use lib.IntN.{pos, negsuc}
-use lib.ListN.{replicate}
+use lib.ListN.{take, drop, replicate}
 use Rattle.basics.specs.Lists.{numbered}
 use Rattle.basics.specs.Tests.{both, either, choose, anyOf, eachOf, noTwo}
 use Rattle.refusal.specs.Refusals.{accepted}
@@ -12,7 +12,7 @@ use Rattle.refusal.specs.Rows.{firstOf}
 use Rattle.refusal.specs.declared.Verdict.{Verdict}
 use Rattle.refusal.specs.declared.Verdict.the-variants.{Accepted, NothingStands, NothingTakenBack}
 use Rattle.board.specs.declared.Place.{Place}
-use Rattle.board.specs.Boards.{boards}
+use Rattle.board.specs.Boards.{W2, boards}
 use Rattle.pinmap.specs.Number.{firstByte, secondByte, thirdByte, fourthByte}
 use Rattle.board.specs.Place.{place, onBoard, inside, difference, closer, tooNear, sameNumber, samePlace}
 use Rattle.drawing.specs.declared.Pin.{Pin}
@@ -25,21 +25,22 @@ use Rattle.journal.specs.Journal.{own, kept, filled, inTurn}
 use Rattle.rows.specs.Calls.{Call, opening, undoing, redoing}
 use Rattle.seats.specs.Seats.{sameJob}
 use Rattle.desk.specs.Desk.{seatOf, jobOf, soundOpen, soundClosed, soundSeat, soundTo, sound, edited, effect, answerOf, step, emptyDesk, writtenOf, bufferOf}
+use Rattle.copper.specs.declared.Favour.{Favour}
 use Rattle.wiring.specs.declared.Wiring.{Wiring}
 use Rattle.bare.proofs.Worked as bare
 use Rattle.history.specs.History.{after, answers}
 use Rattle.worked.proofs.Cases.{pinAt, drawn, placing, moving}
 
--- A case: boards with their answers; calls from the empty desk with what they are answered and the pins that they leave at seats 0 and 1;
+-- A case: boards with what is said of the shape to favour and their answers; calls from the empty desk with what they are answered and the pins that they leave at seats 0 and 1;
 -- or calls, a buffer lent for writing seat 0 then, how many bytes are written, and what the buffer holds afterwards.
 pub data Case : Type 0 where
-  wired : List (List Place) → List Wiring → Case
+  wired : Favour → List (List Place) → List Wiring → Case
   session : List Call → List Verdict → List Pin → List Pin → Case
   writes : List Call → List ℕ → ℕ → List ℕ → Case
 
 -- What a case says.
 unfoldable pub Holds : Case → Type 0
-Holds (wired l w) = map bare.wiringOfBoard l ≡ w
+Holds (wired favour l w) = map (bare.wiringOfBoard favour) l ≡ w
 Holds (session calls verdicts first second) =
     (answers emptyDesk calls ≡ verdicts) × (seatOf (after emptyDesk calls) 0 .pins ≡ first) × (seatOf (after emptyDesk calls) 1 .pins ≡ second)
 Holds (writes calls buffer bytes later) =
@@ -64,10 +65,12 @@ D2 = opening 0 7 [] ∷ placing 0 0 (place (pos 1) (pos 1)) ∷ moving 0 0 (plac
 abbrev D3 : List Call
 D3 = opening 0 7 [] ∷ placing 0 0 (place (pos 1) (negsuc 0)) ∷ []
 
--- The table: the boards, D1 up to its first undo and to its end, D2, D3.
+-- The table: the boards with lower asked for, W2 with upper and with nothing said, D1 up to its first undo and to its end, D2, D3.
 abbrev pub table : List Case
 table =
-    wired boards bare.answers
+    wired Favour.Lower boards bare.answers
+    ∷ wired Favour.Upper (W2 ∷ []) (bare.upperAnswer ∷ [])
+    ∷ wired Favour.Unsaid (W2 ∷ []) (bare.upperAnswer ∷ [])
     ∷ session D1 (Accepted ∷ Accepted ∷ Accepted ∷ Accepted ∷ Accepted ∷ []) (drawn []) (drawn (pinAt (pos 2) (pos 2) ∷ []))
     ∷ session (D1 ++ (undoing 0 ∷ redoing 0 ∷ [])) (Accepted ∷ Accepted ∷ Accepted ∷ Accepted ∷ Accepted ∷ NothingStands ∷ Accepted ∷ [])
     (drawn (pinAt (pos 1) (pos 1) ∷ [])) (drawn (pinAt (pos 2) (pos 2) ∷ []))
@@ -82,4 +85,4 @@ unfolding Holds AllHold after answers both either choose accepted firstOf onBoar
     recordsIn withPinsOf rowsFrom wrongLength readMap own kept filled inTurn sameJob
     jobOf soundOpen soundClosed soundSeat soundTo sound edited effect answerOf step emptyDesk mapFrom mapOf recordBytes pinBytes
     firstByte secondByte thirdByte fourthByte written writtenOf bufferOf anyOf eachOf noTwo
-worked = (bare.worked, ((refl, refl, refl), ((refl, refl, refl), ((refl, refl, refl), ((refl, refl, refl), tt)))))
+worked = (bare.worked .0, (ap (take 1) (bare.worked .1), (ap (drop 1) (bare.worked .1), ((refl, refl, refl), ((refl, refl, refl), ((refl, refl, refl), ((refl, refl, refl), tt)))))))

@@ -1,8 +1,12 @@
 -- `answer::wire` meets its contract. Assumes nothing.
+use Rattle.script.specs.Said.{favourGiven}
 use Rattle.answer.proofs.Telling.{wire-done}
 use borrow.Author.Needs.{needs}
 use Rattle.answer.proofs.wire.Statement.{statement}
 use Rattle.answer.proofs.wire.Tie as tie
+
+given-favour-requires : tie.Need-given-favour-requires
+given-favour-requires c κs = search needs
 
 wire-requires : tie.Need-wire-requires
 wire-requires c κs = search needs
@@ -13,8 +17,10 @@ print-laid-requires c κs = search needs
 returns : tie.Need-returns
 returns c =
     let w = c .before .before .before in
-    let s = w .before in
-    wire-done (s .args .desk) (s .args .out .now) (s .args .seat) (s .args .room) (w .wire .ensures) (c .print-laid .ensures)
+    let g = w .before in
+    let s = g .before .before in
+    wire-done (s .args .desk) (s .args .out .now) (s .args .seat) (s .args .room) (favourGiven 3 (s .args .line .now))
+    (rw (g .given-favour .ensures) at (w .wire .ensures)) (c .print-laid .ensures)
 
 pub wire-spec : {M : Type 1} → statement M
-wire-spec = tie.close (tie.spec wire-requires print-laid-requires returns)
+wire-spec = tie.close (tie.spec given-favour-requires wire-requires print-laid-requires returns)

@@ -23,14 +23,14 @@ returns : tie.Need-returns
 unfolding accepted
 returns c =
     let d = c .before in
-    c .refused .ensures ∙ turned _ _ _ ListLengths refl (lengths-wrong _ _ (sym (d .before .wrong-lengths .ensures) ∙ d .if1 .taken))
+    c .refused .ensures ∙ turned _ _ _ _ ListLengths refl (lengths-wrong _ _ (sym (d .before .wrong-lengths .ensures) ∙ d .if1 .taken))
 
 refused-requires-2 : tie.Need-refused-requires-2
 refused-requires-2 c κs = search needs
 
 returns-2 : tie.Need-returns-2
 unfolding accepted
-returns-2 c = let d = c .before in c .refused2 .ensures ∙ turned _ _ _ NoPins refl (no-pins _ _ (right (d .before)) (d .if2 .taken))
+returns-2 c = let d = c .before in c .refused2 .ensures ∙ turned _ _ _ _ NoPins refl (no-pins _ _ (right (d .before)) (d .if2 .taken))
 
 wire-listed-requires : tie.Need-wire-listed-requires
 wire-listed-requires c κs = (right (c .before), c .if2 .left)

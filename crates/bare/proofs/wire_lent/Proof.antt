@@ -29,6 +29,7 @@ use denote.Ref.{RefT}
 use denote.Slice.{sliceVal, slice-vals, mut-slice-tells, shr-slice-tells, MutSlice, ShrSlice, Room, finally}
 use denote.Steps.{owned, peeks, heard, nothing}
 use denote.Struct.Laws as LL
+use denote.Enum.Laws as EL
 use denote.Signature.{plain, shrSliceOf}
 use denote.Triple.Statement.{Contract, Triple}
 use denote.Triple.Call.{calls-at}
@@ -38,7 +39,10 @@ use denote.Triple.Table.{entered, cited}
 use denote.Triple.Walked.{says, Stays, stay-dropped, gave-slice, walkOf, goes-dropped, goes-gave-slice, Walks, ends-at, walked, walk-meets}
 use denote.Triple.Clauses.{ensured, lasts}
 use denote.Exit.{yes}
+use Rattle.copper.specs.declared.Favour.{Favour}
 use Rattle.copper.specs.declared.Leg.{Leg}
+use Rattle.copper.proofs.Favour as K
+use Rattle.copper.proofs.Favour.Laws as K′
 use Rattle.copper.proofs.Leg as T
 use Rattle.wiring.specs.declared.Laid.{Laid}
 use Rattle.wiring.specs.declared.Wiring.{Wiring}
@@ -67,10 +71,15 @@ use Rattle.bare.proofs.wire_lent as f
 use Rattle.bare.proofs.wire_lent.Statement as stated
 use Rattle.bare.proofs.wire_lent.Code as code
 
--- what is left of the arguments: of the lists of x and y nothing, of the list of legs its last legs
+-- what is left of the arguments: of the lists of x and y and of what is favoured nothing, of the list of legs its last legs
 abbrev stayed : Stays (f.ended .signature .params) (f.ended .kept)
-stayed =
-    (stay-dropped (shrSliceOf (0 ∷ []) tt (plain (λ _. i32))) yes, (stay-dropped (shrSliceOf (1 ∷ []) tt (plain (λ _. i32))) yes, (gave-slice (2 ∷ []) tt (plain (λ _. T.the-row)), tt)))
+stayed = (
+  stay-dropped (shrSliceOf (0 ∷ []) tt (plain (λ _. i32))) yes,
+  (
+    stay-dropped (shrSliceOf (1 ∷ []) tt (plain (λ _. i32))) yes,
+    (gave-slice (2 ∷ []) tt (plain (λ _. T.the-row)), (stay-dropped (plain (λ _. K.the-row)) yes, tt)),
+  ),
+)
 
 module _ {M : Type 1} (𝓤 : URA M) (H : Heap 𝓤) (A : Atoms 𝓤) (mem : Memory → SProp 𝓤) (run : Routine → Fun 𝓤) where
   -- the contracts of the functions called: of `wire_bare`
@@ -89,8 +98,10 @@ module _ {M : Type 1} (𝓤 : URA M) (H : Heap 𝓤) (A : Atoms 𝓤) (mem : Mem
   parted : (d : Laid) (r : Wiring) → ent 𝓤 (ensured 𝓤 H A part.ended (part.clauses 𝓤 H A mem run) tt (d, tt) tt r) (fact 𝓤 (r ≡ d .wiring))
   parted d r = exE 𝓤 _ (λ ws. snd∗ 𝓤 (sem 𝓤 H A (lasts part.ended tt (d, tt) ws)) (fact 𝓤 (r ≡ d .wiring)))
 
-module _ {M : Type 1} (𝓤 : URA M) (H : Heap 𝓤) (A : Atoms 𝓤) (W : Given 𝓤 H A) (mem : Memory → SProp 𝓤) (run : Routine → Fun 𝓤) (κ κ′ κ″ : Lft) (q q′ q″ : Share) (x y : RefT (List ℤ)) (z : RefT (List Leg))
-    (room-x : Room i32 (length (x .now))) (room-y : Room i32 (length (y .now))) (room : Room T.the-row (length (z .now))) where
+module _ {M : Type 1} (𝓤 : URA M) (H : Heap 𝓤) (A : Atoms 𝓤) (W : Given 𝓤 H A) (mem : Memory → SProp 𝓤) (run : Routine → Fun 𝓤)
+    (κ κ′ κ″ : Lft) (q q′ q″ : Share) (x y : RefT (List ℤ)) (z : RefT (List Leg)) (favour : Favour)
+    (room-x : Room i32 (length (x .now))) (room-y : Room i32 (length (y .now))) (room : Room T.the-row (length (z .now)))
+    (gk : Is K.the-row favour (EL.vals K.the-type K′.the-laws favour)) where
   -- the list that was lent
   abbrev lent : List Leg
   lent = z .now
@@ -101,7 +112,7 @@ module _ {M : Type 1} (𝓤 : URA M) (H : Heap 𝓤) (A : Atoms 𝓤) (W : Given
 
   -- the answer with its legs
   abbrev answer : Laid
-  answer = bareOf (x .now) (y .now) n
+  answer = bareOf (x .now) (y .now) n favour
 
   -- the list of x in memory
   abbrev sx : Val
@@ -111,9 +122,13 @@ module _ {M : Type 1} (𝓤 : URA M) (H : Heap 𝓤) (A : Atoms 𝓤) (W : Given
   abbrev sy : Val
   sy = sliceVal (y .ptr) (length (y .now))
 
-  -- and the lent list
+  -- the lent list
   abbrev sz : Val
   sz = sliceVal (z .ptr) n
+
+  -- and what is favoured
+  abbrev sk : Val
+  sk = EL.val K.the-type K′.the-laws favour
 
   -- the list of x is had
   abbrev X : Fml
@@ -129,15 +144,15 @@ module _ {M : Type 1} (𝓤 : URA M) (H : Heap 𝓤) (A : Atoms 𝓤) (W : Given
 
   -- the type of the arguments
   abbrev Arg : Type 0
-  Arg = RefT (List ℤ) × (RefT (List ℤ) × (RefT (List Leg) × Unit {0}))
+  Arg = RefT (List ℤ) × (RefT (List ℤ) × (RefT (List Leg) × (Favour × Unit {0})))
 
   -- the arguments
   abbrev a : Arg
-  a = (x, (y, (z, tt)))
+  a = (x, (y, (z, (favour, tt))))
 
   -- and they in memory
-  abbrev at : List Val × (List Val × (List Val × Unit {0}))
-  at = (sx ∷ [], (sy ∷ [], (sz ∷ [], tt)))
+  abbrev at : List Val × (List Val × (List Val × (List Val × Unit {0})))
+  at = (sx ∷ [], (sy ∷ [], (sz ∷ [], (sk ∷ [], tt))))
 
   -- the lifetimes of the three lists
   abbrev κs : Lfts 3
@@ -160,29 +175,32 @@ module _ {M : Type 1} (𝓤 : URA M) (H : Heap 𝓤) (A : Atoms 𝓤) (W : Given
       → ent 𝓤 (⋆ 𝓤 H A (Two ∷ One ∷ ‵ (finally T.the-row (z .name) zs) ∷ ‵ (R.the-row .own r (w ∷ [])) ∷ [])) (Post w)
   exits r w zs e l =
       qed W (Two ∷ One ∷ ‵ (finally T.the-row (z .name) zs) ∷ ‵ (R.the-row .own r (w ∷ [])) ∷ []) ∵
-      suffices ! _ (ends-at 𝓤 H A f.ended stayed (f.clauses 𝓤 H A mem run) W ((κs, (q, (q′, (q″, tt))), tt, a, at), tt) w r (tt, (tt, (zs, tt))) (tt, (tt, (l, tt)))) $ says ! e $
+      suffices ! _ (ends-at 𝓤 H A f.ended stayed (f.clauses 𝓤 H A mem run) W ((κs, (q, (q′, (q″, tt))), tt, a, at), tt) w r
+      (tt, (tt, (zs, (tt, tt)))) (tt, (tt, (l, (tt, tt))))) $ says ! e $
       split ! $ move ! (1 ∷ []) $ split ! $ move ! (0 ∷ 3 ∷ []) $ join ! $ move ! (2 ∷ 0 ∷ []) $ join ! $ frame ! $ drop ! $
-      nothing ! $ move ! (1 ∷ 0 ∷ []) $ fjoin ! $ nothing ! $ fjoin ! $ nothing ! $ fjoin ! $ done !
+      nothing ! $ nothing ! $ fjoin ! $ move ! (1 ∷ 0 ∷ []) $ fjoin ! $ nothing ! $ fjoin ! $ nothing ! $ fjoin ! $ done !
 
   -- ---- `wire_bare`
 
   -- its arguments in memory
   abbrev passed : Vals wire.signature (κ, (κ′, tt))
-  passed = (sx ∷ [], (sy ∷ [], (vint w64 n ∷ [], tt)))
+  passed = (sx ∷ [], (sy ∷ [], (vint w64 n ∷ [], (sk ∷ [], tt))))
 
   -- what it is called with
   abbrev to-wire : Wire 𝓤 H A mem run .Ghost
-  to-wire = (((κ, (κ′, tt)), (q, (q′, tt)), tt, (x, (y, (n, tt))), passed), tt)
+  to-wire = (((κ, (κ′, tt)), (q, (q′, tt)), tt, (x, (y, (n, (favour, tt)))), passed), tt)
 
   -- and it may be called so
   goes-wire : ent 𝓤 (⋆ 𝓤 H A (Two ∷ ‵ X ∷ ‵ Y ∷ [])) (Wire 𝓤 H A mem run .pre to-wire)
-  goes-wire = qed W (Two ∷ ‵ X ∷ ‵ Y ∷ []) ∵ nothing ! $ owned ! usize (Is usize) (uint-makes 𝓤 H A W w64) n _ (refl, room .0) $ fjoin ! $
+  goes-wire = qed W (Two ∷ ‵ X ∷ ‵ Y ∷ []) ∵ nothing ! $ owned ! K.the-row (Is K.the-row) ((EL.makes K.the-type K′.the-plain) 𝓤 H A) favour _ gk $ fjoin ! $
+      owned ! usize (Is usize) (uint-makes 𝓤 H A W w64) n _ (refl, room .0) $ fjoin ! $
       move ! (3 ∷ 0 ∷ []) $ fjoin ! $ move ! (2 ∷ 0 ∷ []) $ fjoin ! $ move ! (1 ∷ 0 ∷ []) $ join ! $ frame ! $ done !
 
   -- what is had at entry: what `wire_bare` asks, and what `fill` will ask
   apart : ent 𝓤 (onEntry 𝓤 H A f.signature κs (q, (q′, (q″, tt))) a at) (sep 𝓤 (Wire 𝓤 H A mem run .pre to-wire) (sep 𝓤 (sep 𝓤 (A .lft κ″ q″) (sem 𝓤 H A ftrue)) (sem 𝓤 H A Z)))
   apart =
-      qed W ((‵ (flft κ q) ⊛ ‵ (flft κ′ q′) ⊛ ‵ (flft κ″ q″) ⊛ ‵ ftrue) ∷ ‵ (owns (ShrSlice (named 0) κ i32 ∷ ShrSlice (named 1) κ′ i32 ∷ MutSlice (named 2) κ″ T.the-row ∷ []) a at) ∷ []) ∵
+      qed W ((‵ (flft κ q) ⊛ ‵ (flft κ′ q′) ⊛ ‵ (flft κ″ q″) ⊛ ‵ ftrue)
+      ∷ ‵ (owns (ShrSlice (named 0) κ i32 ∷ ShrSlice (named 1) κ′ i32 ∷ MutSlice (named 2) κ″ T.the-row ∷ K.the-row ∷ []) a at) ∷ []) ∵
       split ! $ move ! (1 ∷ []) $ split ! $ nothing ! $ move ! (1 ∷ 0 ∷ []) $ join ! $ move ! (2 ∷ 0 ∷ []) $ join ! $
       -- [the two tokens; the one; what the lists own]
       move ! (2 ∷ []) $ fsplit ! $ move ! (1 ∷ []) $ fsplit ! $ move ! (1 ∷ []) $ fsplit ! $
@@ -190,8 +208,8 @@ module _ {M : Type 1} (𝓤 : URA M) (H : Heap 𝓤) (A : Atoms 𝓤) (W : Given
       move ! (4 ∷ 3 ∷ 2 ∷ []) $ use3 W (raw (Wire 𝓤 H A mem run .pre to-wire)) goes-wire $ frame ! $ move ! (2 ∷ 0 ∷ []) $ join ! $ keep ! (0 ∷ []) $ done !
 
   -- what it says of its result
-  said : (d : Laid) → ent 𝓤 (ensured 𝓤 H A wire.ended (wire.clauses 𝓤 H A mem run) (κ, (κ′, tt)) (x, (y, (n, tt))) tt d) (fact 𝓤 (d ≡ answer))
-  said d = exE 𝓤 _ (λ ws. snd∗ 𝓤 (sem 𝓤 H A (lasts wire.ended (κ, (κ′, tt)) (x, (y, (n, tt))) ws)) (fact 𝓤 (d ≡ answer)))
+  said : (d : Laid) → ent 𝓤 (ensured 𝓤 H A wire.ended (wire.clauses 𝓤 H A mem run) (κ, (κ′, tt)) (x, (y, (n, (favour, tt)))) tt d) (fact 𝓤 (d ≡ answer))
+  said d = exE 𝓤 _ (λ ws. snd∗ 𝓤 (sem 𝓤 H A (lasts wire.ended (κ, (κ′, tt)) (x, (y, (n, (favour, tt)))) ws)) (fact 𝓤 (d ≡ answer)))
 
   -- ---- `fill` and `wiring_of`, of the answer d that stands in memory as w
   module _ (d : Laid) (w : Val) (e : d ≡ answer) (is : Is S.the-row d (w ∷ [])) where
@@ -201,7 +219,7 @@ module _ {M : Type 1} (𝓤 : URA M) (H : Heap 𝓤) (A : Atoms 𝓤) (W : Given
 
     -- the legs fit
     fits : (d .wiring .legs ≤ mostLegs) × (d .wiring .legs ≤ n)
-    fits = rw e (bare-fits (x .now) (y .now) n)
+    fits = rw e (bare-fits (x .now) (y .now) n favour)
 
     -- and it may be called so
     goes-fill : ent 𝓤 (sep 𝓤 (sep 𝓤 (A .lft κ″ q″) (sem 𝓤 H A ftrue)) (sem 𝓤 H A Z)) (Fill 𝓤 H A mem run .pre to-fill)
@@ -219,22 +237,32 @@ module _ {M : Type 1} (𝓤 : URA M) (H : Heap 𝓤) (A : Atoms 𝓤) (W : Given
   module _ (C : Calls 𝓤 H) (Λ : Loops 𝓤 H) (fm : FmC 𝓤 H (W .laws) C) (known-wire : Triple 𝓤 (C #wire-bare) (Wire 𝓤 H A mem run)) (known-fill : Triple 𝓤 (C #fill) (Fill 𝓤 H A mem run))
       (known-part : Triple 𝓤 (C #wiring-of) (Part 𝓤 H A mem run)) where
     -- the whole function, from its entry to its return
-    walk : ent 𝓤 (onEntry 𝓤 H A f.signature κs (q, (q′, (q″, tt))) a at) (WpFn 𝓤 H C Λ code.function (sx ∷ sy ∷ sz ∷ []) Post)
+    walk : ent 𝓤 (onEntry 𝓤 H A f.signature κs (q, (q′, (q″, tt))) a at) (WpFn 𝓤 H C Λ code.function (sx ∷ sy ∷ sz ∷ sk ∷ []) Post)
     walk =
-        qed W (raw (onEntry 𝓤 H A f.signature κs (q, (q′, (q″, tt))) a at) ∷ []) ∵ enter ! C Λ code.function (sx ∷ sy ∷ sz ∷ []) _ $
-        alloc1 ! (λ l₀. alloc1 ! (λ l₁. alloc1 ! (λ l₂. alloc1 ! (λ l₃. alloc1 ! (λ l₄. alloc1 ! (λ l₅. alloc1 ! (λ l₆. alloc1 ! (λ l₇. alloc1 ! (λ l₈. alloc0 ! $ params1 ! $
-        pass1 ! (init ! 14 refl (tt, (tt, (record { fits = room-x .0 }, tt)))) $ pass1 ! (init ! 12 refl (tt, (tt, (record { fits = room-y .0 }, tt)))) $ pass1 ! (init ! 10 refl (tt, (tt, (record { fits = room .0 }, tt)))) $ pass0 ! $
-        assigns ! (of-opd ! (load ! (from ! (fld ! refl (stop !))) (look-in ! 10 (sub ! 1 refl (whole !))))) (from ! (stop !)) (init ! 6 refl (tt, record { fits = room .0 })) $
+        qed W (raw (onEntry 𝓤 H A f.signature κs (q, (q′, (q″, tt))) a at) ∷ []) ∵ enter ! C Λ code.function (sx ∷ sy ∷ sz ∷ sk ∷ []) _ $
+        alloc1 ! (λ l₀. alloc1 ! (λ l₁. alloc1 ! (λ l₂. alloc1 ! (λ l₃. alloc1 ! (λ l₄. alloc1 ! (λ l₅.
+        alloc1 ! (λ l₆. alloc1 ! (λ l₇. alloc1 ! (λ l₈. alloc1 ! (λ l₉. alloc0 ! $ params1 ! $
+        pass1 ! (init ! 16 refl (tt, (tt, (record { fits = room-x .0 }, tt)))) $ pass1 ! (init ! 14 refl (tt, (tt, (record { fits = room-y .0 }, tt)))) $
+        pass1 ! (init ! 12 refl (tt, (tt, (record { fits = room .0 }, tt)))) $
+        pass1 ! (init ! 10 refl (EL.lawful K.the-type K′.the-laws 𝓤 H A W tt .typed favour _ gk .0)) $ pass0 ! $
+        assigns ! (of-opd ! (load ! (from ! (fld ! refl (stop !))) (look-in ! 12 (sub ! 1 refl (whole !))))) (from ! (stop !)) (init ! 6 refl
+        (tt, record { fits = room .0 })) $
         -- `wire_bare`
-        move ! (18 ∷ []) $ use1 W (raw (Wire 𝓤 H A mem run .pre to-wire) ⊛ (One ⊛ ‵ Z)) apart $ split ! $
-        calls-at ! fm (Wire 𝓤 H A mem run) known-wire to-wire (and-then ! (load ! (from ! (stop !)) (look ! 16 refl)) (and-then ! (load ! (from ! (stop !)) (look ! 14 refl)) (and-then ! (load ! (from ! (stop !)) (look ! 8 refl)) (no-more !)))) (λ w.
-        use1 W (later (some (λ (d : Laid). (Two ⊛ ‵ (S.the-row .own d (w ∷ []))) ⊛ raw (ensured 𝓤 H A wire.ended (wire.clauses 𝓤 H A mem run) (κ, (κ′, tt)) (x, (y, (n, tt))) tt d)))) (id⊢ 𝓤 _) $ await ! tt $ pick ! (λ d.
+        move ! (20 ∷ []) $ use1 W (raw (Wire 𝓤 H A mem run .pre to-wire) ⊛ (One ⊛ ‵ Z)) apart $ split ! $
+        calls-at ! fm (Wire 𝓤 H A mem run) known-wire to-wire (and-then ! (load ! (from ! (stop !)) (look ! 18 refl))
+        (and-then ! (load ! (from ! (stop !)) (look ! 16 refl))
+        (and-then ! (load ! (from ! (stop !)) (look ! 8 refl)) (and-then ! (load ! (from ! (stop !)) (look ! 12 refl)) (no-more !))))) (λ w.
+        use1 W (later (some (λ (d : Laid).
+        (Two ⊛ ‵ (S.the-row .own d (w ∷ []))) ⊛ raw (ensured 𝓤 H A wire.ended (wire.clauses 𝓤 H A mem run) (κ, (κ′, tt)) (x, (y, (n, (favour, tt)))) tt d))))
+        (id⊢ 𝓤 _) $ await ! tt $ pick ! (λ d.
         split ! $ move ! (1 ∷ []) $ use1 W (raw (fact 𝓤 (d ≡ answer))) (said d) $ heard ! (d ≡ answer) (λ e. split ! $ move ! (1 ∷ []) $
         peeks ! S.the-row (Is S.the-row) (shows 𝓤 H A S.the-row) d (w ∷ []) (λ is.
         land ! (from ! (stop !)) (init ! 11 refl (LL.lawful S.the-type S′.the-laws 𝓤 H A W .typed d _ is .0)) $ drop ! $
         -- [the two tokens; what `fill` asks; _8; …]
-        assigns ! (addr ! (from ! (fld ! refl (hop ! (look-in ! 12 (sub ! 0 refl (whole !))) (stop !))))) (from ! (stop !)) (init ! 4 refl (tt, tt)) $
-        assigns ! (agg ! (and-then ! (load ! (from ! (stop !)) (look ! 4 refl)) (and-then ! (load ! (from ! (fld ! refl (stop !))) (look-in ! 12 (sub ! 1 refl (whole !)))) (no-more !)))) (from ! (stop !)) (init ! 2 refl (tt, (tt, (record { fits = room .0 }, tt)))) $
+        assigns ! (addr ! (from ! (fld ! refl (hop ! (look-in ! 14 (sub ! 0 refl (whole !))) (stop !))))) (from ! (stop !)) (init ! 4 refl (tt, tt)) $
+        assigns ! (agg ! (and-then ! (load ! (from ! (stop !)) (look ! 4 refl))
+        (and-then ! (load ! (from ! (fld ! refl (stop !))) (look-in ! 14 (sub ! 1 refl (whole !)))) (no-more !))))
+        (from ! (stop !)) (init ! 2 refl (tt, (tt, (record { fits = room .0 }, tt)))) $
         -- `fill`
         move ! (1 ∷ []) $ use1 W (raw (Fill 𝓤 H A mem run .pre (to-fill d w e is))) (goes-fill d w e is) $
         calls-at ! fm (Fill 𝓤 H A mem run) known-fill (to-fill d w e is) (and-then ! (load ! (from ! (stop !)) (look ! 10 refl)) (and-then ! (load ! (from ! (stop !)) (look ! 2 refl)) (no-more !))) (λ u.
@@ -249,29 +277,47 @@ module _ {M : Type 1} (𝓤 : URA M) (H : Heap 𝓤) (A : Atoms 𝓤) (W : Given
         use1 W (later (some (λ (s : Wiring). (‵ ftrue ⊛ ‵ (R.the-row .own s (v ∷ []))) ⊛ raw (ensured 𝓤 H A part.ended (part.clauses 𝓤 H A mem run) tt (d, tt) tt s)))) (id⊢ 𝓤 _) $ await ! tt $ pick ! (λ s.
         split ! $ move ! (1 ∷ []) $ use1 W (raw (fact 𝓤 (s ≡ d .wiring))) (parted 𝓤 H A mem run d s) $ heard ! (s ≡ d .wiring) (λ h. split ! $ drop ! $
         peeks ! R.the-row (Is R.the-row) (shows 𝓤 H A R.the-row) s (v ∷ []) (λ iv.
-        land ! (from ! (stop !)) (init ! 21 refl (LL.lawful R.the-type R′.the-laws 𝓤 H A W .typed s _ iv .0)) $
+        land ! (from ! (stop !)) (init ! 23 refl (LL.lawful R.the-type R′.the-laws 𝓤 H A W .typed s _ iv .0)) $
         -- [the result; the one token; the last list; …; the two tokens; _8; …; _0; …]
-        returns ! (look ! 21 refl) $ forget ! 5 refl $ forget ! 7 refl $ forget ! 9 refl $ forget ! 11 refl $ forget ! 13 refl $ forget ! 15 refl $ forget ! 17 refl $ forget ! 19 refl $ forget ! 21 refl $
-        move ! (21 ∷ 22 ∷ []) $ free1 ! $ move ! (19 ∷ 20 ∷ []) $ free1 ! $ move ! (17 ∷ 18 ∷ []) $ free1 ! $ move ! (15 ∷ 16 ∷ []) $ free1 ! $ move ! (13 ∷ 14 ∷ []) $ free1 ! $ move ! (11 ∷ 12 ∷ []) $ free1 ! $
+        returns ! (look ! 23 refl) $ forget ! 5 refl $ forget ! 7 refl $ forget ! 9 refl $ forget ! 11 refl $ forget ! 13 refl $
+        forget ! 15 refl $ forget ! 17 refl $ forget ! 19 refl $ forget ! 21 refl $ forget ! 23 refl $
+        move ! (23 ∷ 24 ∷ []) $ free1 ! $ move ! (21 ∷ 22 ∷ []) $ free1 ! $ move ! (19 ∷ 20 ∷ []) $ free1 ! $ move ! (17 ∷ 18 ∷ []) $ free1 ! $
+        move ! (15 ∷ 16 ∷ []) $ free1 ! $ move ! (13 ∷ 14 ∷ []) $ free1 ! $ move ! (11 ∷ 12 ∷ []) $ free1 ! $
         move ! (9 ∷ 10 ∷ []) $ free1 ! $ move ! (7 ∷ 8 ∷ []) $ free1 ! $ move ! (5 ∷ 6 ∷ []) $ free1 ! $ free0 ! $
-        keep ! (4 ∷ 1 ∷ 2 ∷ 0 ∷ []) $ by ! (exits s v (zs .1 .0) (h ∙ ap (λ (t : Laid). t .wiring) e, g ∙ ap (λ (t : Laid). filledWith t lent) e) l))))))))))))))))))))))))
+        keep ! (4 ∷ 1 ∷ 2 ∷ 0 ∷ []) $ by ! (exits s v (zs .1 .0) (
+          h ∙ ap (λ (t : Laid). t .wiring) e,
+          g ∙ ap (λ (t : Laid). filledWith t lent) e,
+        ) l)))))))))))))))))))))))))
 
 module _ {M : Type 1} (𝓤 : URA M) (H : Heap 𝓤) (A : Atoms 𝓤) (W : Given 𝓤 H A) (mem : Memory → SProp 𝓤) (run : Routine → Fun 𝓤) where
   -- so for any arguments
   lent-walks : (C : Calls 𝓤 H) (Λ : Loops 𝓤 H) → FmC 𝓤 H (W .laws) C → Triple 𝓤 (C #wire-bare) (Wire 𝓤 H A mem run) → Triple 𝓤 (C #fill) (Fill 𝓤 H A mem run) → Triple 𝓤 (C #wiring-of) (Part 𝓤 H A mem run)
       → Walks 𝓤 H A f.ended stayed (WpFn 𝓤 H C Λ code.function) (f.clauses 𝓤 H A mem run)
   lent-walks C Λ fm known-wire known-fill known-part = walked 𝓤 H A f.ended stayed (f.clauses 𝓤 H A mem run) (WpFn 𝓤 H C Λ code.function)
-      (λ κs. (slice-vals, (slice-vals, (slice-vals, tt)))) (λ κs. (shr-slice-tells (named 0) (κs .0) i32, (shr-slice-tells (named 1) (κs .1 .0) i32, (mut-slice-tells (named 2) (κs .1 .1 .0) T.the-row, tt))))
+      (λ κs. (slice-vals, (slice-vals, (slice-vals, (EL.vals K.the-type K′.the-laws, tt)))))
+      (λ κs. (
+        shr-slice-tells (named 0) (κs .0) i32,
+        (
+          shr-slice-tells (named 1) (κs .1 .0) i32,
+          (mut-slice-tells (named 2) (κs .1 .1 .0) T.the-row, (EL.tells K.the-type K′.the-laws, tt)),
+        ),
+      ))
       (λ κs qs bounds a g are. via 𝓤 _ (fst∗ 𝓤 _ (emp 𝓤))
-      (walk 𝓤 H A W mem run (κs .0) (κs .1 .0) (κs .1 .1 .0) (qs .0) (qs .1 .0) (qs .1 .1 .0) (a .0) (a .1 .0) (a .1 .1 .0) (are .0 .0 .1) (are .1 .0 .0 .1) (are .1 .1 .0 .0 .1) C Λ fm known-wire known-fill known-part))
+      (walk 𝓤 H A W mem run (κs .0) (κs .1 .0) (κs .1 .1 .0) (qs .0) (qs .1 .0) (qs .1 .1 .0) (a .0) (a .1 .0) (a .1 .1 .0) (a .1 .1 .1 .0)
+      (are .0 .0 .1) (are .1 .0 .0 .1) (are .1 .1 .0 .0 .1) (are .1 .1 .1 .0) C Λ fm known-wire known-fill known-part))
 
 -- and the function meets its contract, where the functions called meet theirs
 lent-meets : {M : Type 1} (𝓤 : URA M) (H : Heap 𝓤) (A : Atoms 𝓤) → Given 𝓤 H A → (mem : Memory → SProp 𝓤) (run : Routine → Fun 𝓤) (𝓣 : Tables 𝓤 H)
     → Triple 𝓤 (𝓣 .C #wire-bare) (Wire 𝓤 H A mem run) → Triple 𝓤 (𝓣 .C #fill) (Fill 𝓤 H A mem run) → Triple 𝓤 (𝓣 .C #wiring-of) (Part 𝓤 H A mem run)
     → Meets 𝓤 H A f.signature (WpFn 𝓤 H (𝓣 .C) (𝓣 .Λ) code.function) (f.spec 𝓤 H A mem run)
 lent-meets 𝓤 H A W mem run 𝓣 known-wire known-fill known-part =
-    walk-meets 𝓤 H A f.ended stayed W
-    (goes-dropped 𝓤 H A W 3 (shrSliceOf (0 ∷ []) tt (plain (λ _. i32))) yes (λ κs x f. refl), (goes-dropped 𝓤 H A W 3 (shrSliceOf (1 ∷ []) tt (plain (λ _. i32))) yes (λ κs x f. refl), (goes-gave-slice 𝓤 H A W 3 2 tt (plain (λ _. T.the-row)), tt)))
+    walk-meets 𝓤 H A f.ended stayed W (
+      goes-dropped 𝓤 H A W 3 (shrSliceOf (0 ∷ []) tt (plain (λ _. i32))) yes (λ κs x f. refl),
+      (
+        goes-dropped 𝓤 H A W 3 (shrSliceOf (1 ∷ []) tt (plain (λ _. i32))) yes (λ κs x f. refl),
+        (goes-gave-slice 𝓤 H A W 3 2 tt (plain (λ _. T.the-row)), (goes-dropped 𝓤 H A W 3 (plain (λ _. K.the-row)) yes (λ κs x f. refl), tt)),
+      ),
+    )
     (f.clauses 𝓤 H A mem run) (WpFn 𝓤 H (𝓣 .C) (𝓣 .Λ) code.function) (WpFn-mono 𝓤 H (W .laws) 𝓣 code.function) (lent-walks 𝓤 H A W mem run (𝓣 .C) (𝓣 .Λ) (fmOf 𝓤 H (W .laws) 𝓣) known-wire known-fill known-part)
 
 pub wire-lent-spec : {M : Type 1} → stated.statement M

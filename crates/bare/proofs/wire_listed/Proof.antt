@@ -24,10 +24,10 @@ use Rattle.bare.proofs.wire_listed.Statement.{statement}
 use Rattle.bare.proofs.wire_listed.Tie as tie
 
 abbrev Inv-loop : tie.InvT-loop
-Inv-loop xs ys room across₀ up₀ there₀ pin₀ across up there pin = Laid xs ys across up there pin
+Inv-loop xs ys room favour across₀ up₀ there₀ pin₀ across up there pin = Laid xs ys across up there pin
 
 abbrev μ-loop : tie.MeasureT-loop
-μ-loop xs ys room across₀ up₀ there₀ pin₀ across up there pin = length xs - pin
+μ-loop xs ys room favour across₀ up₀ there₀ pin₀ across up there pin = length xs - pin
 
 -- What is laid when the loop ends is the feed of the lists,
 feed-is : (c : tie.After-loop Inv-loop μ-loop)
@@ -117,7 +117,7 @@ unfolding accepted
 returns c =
     let w = c .before .before in
     let o = w .before .before .before .before .before .before in
-    c .refused .ensures ∙ turned _ _ _ Outside refl (one-outside _ _ (o .pre .0) (o .pre .1) (within w ∙ not-true _ (c .before .if1 .taken)))
+    c .refused .ensures ∙ turned _ _ _ _ Outside refl (one-outside _ _ (o .pre .0) (o .pre .1) (within w ∙ not-true _ (c .before .if1 .taken)))
 
 are-apart-requires : tie.Need-are-apart-requires Inv-loop μ-loop
 are-apart-requires c κs = search needs
@@ -133,7 +133,7 @@ returns-2 c =
     let w = i .before in
     let o = w .before .before .before .before .before .before in
     c .refused2 .ensures
-    ∙ turned _ _ _ PlaceTaken refl
+    ∙ turned _ _ _ _ PlaceTaken refl
     (two-near _ _ (o .pre .0) (o .pre .1) (within w ∙ not-false _ (i .if1 .left)) (near n ∙ not-true _ (c .before .if2 .taken)))
 
 wire-feed-requires : tie.Need-wire-feed-requires Inv-loop μ-loop
@@ -153,7 +153,7 @@ returns-3 c =
     let k = w .before .before .before .before in
     let o = k .before .before in
     let well = all-well _ _ (o .pre .0) (o .pre .1) (within w ∙ not-false _ (i .if1 .left)) (near n ∙ not-false _ (j .if2 .left)) in
-    c .wire-feed .ensures ∙ ap (λ (feed : List Spot). wiringOf feed (o .args .room)) (feed-is k) ∙ wired _ _ _ (ap accepted (sym well))
+    c .wire-feed .ensures ∙ ap (λ (feed : List Spot). wiringOf feed (o .args .room) (o .args .favour)) (feed-is k) ∙ wired _ _ _ _ (ap accepted (sym well))
 
 pub wire-listed-spec : {M : Type 1} → statement M
 wire-listed-spec =

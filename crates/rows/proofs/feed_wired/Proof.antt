@@ -44,7 +44,7 @@ returns c =
     let n = naming-passed (t .before .args .found) (t .turned-naming .ensures) i in
     let h = lawful-parts _ (t .before .pre (n .unbroken) (n .shown)) in
     let e = told-lists _ (h .long) (m .lists-of .ensures) .spots in
-    c .wire-feed .ensures ∙ ap (λ (f : List Spot). wiringOf f (t .before .args .room)) (sym e)
+    c .wire-feed .ensures ∙ ap (λ (f : List Spot). wiringOf f (t .before .args .room) (t .before .args .favour)) (sym e)
     ∙ sym (choose-yes _ _ (ap accepted (sym (t .turned-naming .ensures)) ∙ i))
 
 returns-2 : tie.Need-returns-2

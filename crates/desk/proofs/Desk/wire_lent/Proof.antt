@@ -31,6 +31,7 @@ use denote.Ref.{RefT}
 use denote.Slice.{sliceTy, sliceVal, slice-vals, mut-slice-tells, MutSlice, Room, finally}
 use denote.Steps.{only, owned, peeks, heard, nothing}
 use denote.Struct.Laws as LL
+use denote.Enum.Laws as EL
 use denote.Signature.{plain}
 use denote.Triple.Statement.{Contract, Triple}
 use denote.Triple.Call.{calls-at}
@@ -40,7 +41,10 @@ use denote.Triple.Table.{entered, cited}
 use denote.Triple.Walked.{says, Stays, stay-none, gave-slice, walkOf, goes-none, goes-gave-slice, onExit, Walks, ends-at, walked, walk-meets}
 use denote.Triple.Clauses.{ensured, lasts}
 use denote.Exit.{yes}
+use Rattle.copper.specs.declared.Favour.{Favour}
 use Rattle.copper.specs.declared.Leg.{Leg}
+use Rattle.copper.proofs.Favour as K
+use Rattle.copper.proofs.Favour.Laws as K′
 use Rattle.copper.proofs.Leg as T
 use Rattle.wiring.specs.declared.Laid.{Laid}
 use Rattle.lent.specs.Lent.{filledWith}
@@ -72,9 +76,9 @@ use Rattle.desk.proofs.Desk.wire_lent as f
 use Rattle.desk.proofs.Desk.wire_lent.Statement as stated
 use Rattle.desk.proofs.Desk.wire_lent.Code as code
 
--- what is left of the arguments: of the desk and the seat nothing, of the list its last legs
+-- what is left of the arguments: of the desk, the seat and what is favoured nothing, of the list its last legs
 abbrev stayed : Stays (f.ended .signature .params) (f.ended .kept)
-stayed = (stay-none (λ _. D.the-row) yes, (stay-none (λ _. usize) yes, (gave-slice (0 ∷ []) tt (plain (λ _. T.the-row)), tt)))
+stayed = (stay-none (λ _. D.the-row) yes, (stay-none (λ _. usize) yes, (gave-slice (0 ∷ []) tt (plain (λ _. T.the-row)), (stay-none (λ _. K.the-row) yes, tt))))
 
 -- a usize
 abbrev word : Ty
@@ -97,45 +101,56 @@ abbrev both : Val → Val → Val
 both u v = vstruct (ofList (u ∷ v ∷ []))
 
 -- ---- what is done whatever types the parts of the structs have
--- Between the calls: _5 is the second part of _4, and the list is passed on.
-module _ {M : Type 1} (𝓤 : URA M) (H : Heap 𝓤) (A : Atoms 𝓤) (W : Given 𝓤 H A) (C : Calls 𝓤 H) (Λ : Loops 𝓤 H) (Q : Val → SProp 𝓤) (Γ : List (Item 𝓤)) (ν : Sym) (α β τ₀ τ₁ τ₂ : Ty) (off b o n : ℕ)
-    (l₀ l₁ l₂ l₃ l₄ l₅ l₆ l₇ l₈ l₉ : ℕ) (first second v₆ : Val) where
+-- Between the calls: _6 is the second part of _5, and the list is passed on.
+module _ {M : Type 1} (𝓤 : URA M) (H : Heap 𝓤) (A : Atoms 𝓤) (W : Given 𝓤 H A) (C : Calls 𝓤 H) (Λ : Loops 𝓤 H) (Q : Val → SProp 𝓤) (Γ : List (Item 𝓤)) (ν : Sym)
+    (α β τ₀ τ₁ τ₂ τ₄ : Ty) (off b o n : ℕ)
+    (l₀ l₁ l₂ l₃ l₄ l₅ l₆ l₇ l₈ l₉ l₁₀ : ℕ) (first second v₄ v₇ : Val) where
   -- the locals
   abbrev Between : Env 𝓤 H
-  Between = (τ₀, l₀) ∷ (τ₁, l₁) ∷ (τ₂, l₂) ∷ (slice, l₃) ∷ (two ν α β, l₄) ∷ (β, l₅) ∷ (word, l₆) ∷ (tyUnit, l₇) ∷ (again, l₈) ∷ (sliceTy again, l₉) ∷ []
+  Between = (τ₀, l₀) ∷ (τ₁, l₁) ∷ (τ₂, l₂) ∷ (slice, l₃) ∷ (τ₄, l₄) ∷ (two ν α β, l₅) ∷ (β, l₆) ∷ (word, l₇) ∷ (tyUnit, l₈) ∷ (again, l₉) ∷ (sliceTy again, l₁₀) ∷ []
 
-  -- what is had below the value of _5
+  -- what is had below the value of _6
   abbrev Below : List (Item 𝓤)
-  Below = ‵ (fdies β l₅) ∷ ‵ (fat fullShare (two ν α β) l₄ 0 (both first second)) ∷ ‵ (fdies (two ν α β) l₄) ∷ ‵ (fat fullShare slice l₃ 0 (sliceVal (b, o) n)) ∷ Γ
+  Below = ‵ (fdies β l₆) ∷ ‵ (fat fullShare (two ν α β) l₅ 0 (both first second)) ∷ ‵ (fdies (two ν α β) l₅)
+      ∷ ‵ (fat fullShare τ₄ l₄ 0 v₄) ∷ ‵ (fdies τ₄ l₄) ∷ ‵ (fat fullShare slice l₃ 0 (sliceVal (b, o) n)) ∷ Γ
 
   -- the second part is taken, and the list passed on
   passes : fieldAt zero (tcons α (tcons β tnil)) 1 ≡ just (β, off) → Holds (hasTy β second) × WT second → n < 2 ^ 64
-      → Sq W (‵ (fat fullShare (sliceTy again) l₉ 0 (sliceVal (b, o) n)) ∷ ‵ (fdies (sliceTy again) l₉) ∷ ‵ (fat fullShare again l₈ 0 (vptr b o)) ∷ ‵ (fdies again l₈) ∷ ‵ (froom tyUnit l₇ 0) ∷ ‵ (fdies tyUnit l₇)
-      ∷ ‵ (fat fullShare word l₆ 0 v₆) ∷ ‵ (fdies word l₆) ∷ ‵ (fat fullShare β l₅ 0 second) ∷ Below) (runs C Λ Between code.Mir.t-6 (atRet Between Q))
-      → Sq W (‵ (froom (sliceTy again) l₉ 0) ∷ ‵ (fdies (sliceTy again) l₉) ∷ ‵ (froom again l₈ 0) ∷ ‵ (fdies again l₈) ∷ ‵ (froom tyUnit l₇ 0) ∷ ‵ (fdies tyUnit l₇)
-      ∷ ‵ (fat fullShare word l₆ 0 v₆) ∷ ‵ (fdies word l₆) ∷ ‵ (froom β l₅ 0) ∷ Below) (runs C Λ Between code.Mir.t-3 (atRet Between Q))
+      → Sq W (‵ (fat fullShare (sliceTy again) l₁₀ 0 (sliceVal (b, o) n)) ∷ ‵ (fdies (sliceTy again) l₁₀) ∷ ‵ (fat fullShare again l₉ 0 (vptr b o)) ∷ ‵ (fdies again l₉)
+      ∷ ‵ (froom tyUnit l₈ 0) ∷ ‵ (fdies tyUnit l₈)
+      ∷ ‵ (fat fullShare word l₇ 0 v₇) ∷ ‵ (fdies word l₇) ∷ ‵ (fat fullShare β l₆ 0 second) ∷ Below) (runs C Λ Between code.Mir.t-6 (atRet Between Q))
+      → Sq W (‵ (froom (sliceTy again) l₁₀ 0) ∷ ‵ (fdies (sliceTy again) l₁₀) ∷ ‵ (froom again l₉ 0) ∷ ‵ (fdies again l₉) ∷ ‵ (froom tyUnit l₈ 0) ∷ ‵ (fdies tyUnit l₈)
+      ∷ ‵ (fat fullShare word l₇ 0 v₇) ∷ ‵ (fdies word l₇) ∷ ‵ (froom β l₆ 0) ∷ Below) (runs C Λ Between code.Mir.t-3 (atRet Between Q))
   passes e typed fits next =
       assigns ! (of-opd ! (load ! (from ! (fld ! e (stop !))) (look-in ! 10 (sub ! 1 e (whole !))))) (from ! (stop !)) (init ! 8 refl typed) $
-      assigns ! (addr ! (from ! (fld ! refl (hop ! (look-in ! 12 (sub ! 0 refl (whole !))) (stop !))))) (from ! (stop !)) (init ! 2 refl (tt, tt)) $
-      assigns ! (agg ! (and-then ! (load ! (from ! (stop !)) (look ! 2 refl)) (and-then ! (load ! (from ! (fld ! refl (stop !))) (look-in ! 12 (sub ! 1 refl (whole !)))) (no-more !)))) (from ! (stop !)) (init ! 0 refl (tt, (tt, (record { fits = fits }, tt)))) $
+      assigns ! (addr ! (from ! (fld ! refl (hop ! (look-in ! 14 (sub ! 0 refl (whole !))) (stop !))))) (from ! (stop !)) (init ! 2 refl (tt, tt)) $
+      assigns ! (agg ! (and-then ! (load ! (from ! (stop !)) (look ! 2 refl)) (and-then ! (load ! (from ! (fld ! refl (stop !))) (look-in ! 14 (sub ! 1 refl (whole !))))
+      (no-more !)))) (from ! (stop !)) (init ! 0 refl (tt, (tt, (record { fits = fits }, tt)))) $
       next
 
--- At the end: the answer is made of the first parts of _4 and of _5 and returned, and the locals are freed. Two more things are in hand, from which it is shown.
-module _ {M : Type 1} (𝓤 : URA M) (H : Heap 𝓤) (A : Atoms 𝓤) (W : Given 𝓤 H A) (C : Calls 𝓤 H) (Λ : Loops 𝓤 H) (Q : Val → SProp 𝓤) (I J : Item 𝓤) (ν₀ ν₄ ν₅ : Sym) (α β δ ε τ₁ τ₂ τ₃ τ₆ τ₇ τ₈ τ₉ : Ty)
-    (l₀ l₁ l₂ l₃ l₄ l₅ l₆ l₇ l₈ l₉ : ℕ) (first second third fourth v₁ v₂ v₃ v₆ v₇ v₈ v₉ : Val) where
+-- At the end: the answer is made of the first parts of _5 and of _6 and returned, and the locals are freed. Two more things are in hand, from which it is shown.
+module _ {M : Type 1} (𝓤 : URA M) (H : Heap 𝓤) (A : Atoms 𝓤) (W : Given 𝓤 H A) (C : Calls 𝓤 H) (Λ : Loops 𝓤 H) (Q : Val → SProp 𝓤) (I J : Item 𝓤) (ν₀ ν₅ ν₆ : Sym)
+    (α β δ ε τ₁ τ₂ τ₃ τ₄ τ₇ τ₈ τ₉ τ₁₀ : Ty)
+    (l₀ l₁ l₂ l₃ l₄ l₅ l₆ l₇ l₈ l₉ l₁₀ : ℕ) (first second third fourth v₁ v₂ v₃ v₄ v₇ v₈ v₉ v₁₀ : Val) where
   -- the locals
   abbrev Locals : Env 𝓤 H
-  Locals = (two ν₀ α δ, l₀) ∷ (τ₁, l₁) ∷ (τ₂, l₂) ∷ (τ₃, l₃) ∷ (two ν₄ α β, l₄) ∷ (two ν₅ δ ε, l₅) ∷ (τ₆, l₆) ∷ (τ₇, l₇) ∷ (τ₈, l₈) ∷ (τ₉, l₉) ∷ []
+  Locals = (two ν₀ α δ, l₀) ∷ (τ₁, l₁) ∷ (τ₂, l₂) ∷ (τ₃, l₃) ∷ (τ₄, l₄) ∷ (two ν₅ α β, l₅) ∷ (two ν₆ δ ε, l₆) ∷ (τ₇, l₇) ∷ (τ₈, l₈) ∷ (τ₉, l₉) ∷ (τ₁₀, l₁₀) ∷ []
 
   -- the answer is made and returned, and the locals freed
   ends : Holds (hasTy (two ν₀ α δ) (both first third)) × WT (both first third) → ent 𝓤 (⋆ 𝓤 H A (I ∷ J ∷ [])) (Q (both first third))
-      → Sq W (I ∷ J ∷ ‵ (fat fullShare τ₉ l₉ 0 v₉) ∷ ‵ (fdies τ₉ l₉) ∷ ‵ (fat fullShare τ₈ l₈ 0 v₈) ∷ ‵ (fdies τ₈ l₈) ∷ ‵ (fat fullShare τ₇ l₇ 0 v₇) ∷ ‵ (fdies τ₇ l₇) ∷ ‵ (fat fullShare τ₆ l₆ 0 v₆) ∷ ‵ (fdies τ₆ l₆)
-      ∷ ‵ (fat fullShare (two ν₅ δ ε) l₅ 0 (both third fourth)) ∷ ‵ (fdies (two ν₅ δ ε) l₅) ∷ ‵ (fat fullShare (two ν₄ α β) l₄ 0 (both first second)) ∷ ‵ (fdies (two ν₄ α β) l₄) ∷ ‵ (fat fullShare τ₃ l₃ 0 v₃) ∷ ‵ (fdies τ₃ l₃)
+      → Sq W (I ∷ J ∷ ‵ (fat fullShare τ₁₀ l₁₀ 0 v₁₀) ∷ ‵ (fdies τ₁₀ l₁₀) ∷ ‵ (fat fullShare τ₉ l₉ 0 v₉) ∷ ‵ (fdies τ₉ l₉) ∷ ‵ (fat fullShare τ₈ l₈ 0 v₈)
+      ∷ ‵ (fdies τ₈ l₈) ∷ ‵ (fat fullShare τ₇ l₇ 0 v₇) ∷ ‵ (fdies τ₇ l₇)
+      ∷ ‵ (fat fullShare (two ν₆ δ ε) l₆ 0 (both third fourth)) ∷ ‵ (fdies (two ν₆ δ ε) l₆) ∷ ‵ (fat fullShare (two ν₅ α β) l₅ 0 (both first second))
+      ∷ ‵ (fdies (two ν₅ α β) l₅)
+      ∷ ‵ (fat fullShare τ₄ l₄ 0 v₄) ∷ ‵ (fdies τ₄ l₄) ∷ ‵ (fat fullShare τ₃ l₃ 0 v₃) ∷ ‵ (fdies τ₃ l₃)
       ∷ ‵ (fat fullShare τ₂ l₂ 0 v₂) ∷ ‵ (fdies τ₂ l₂) ∷ ‵ (fat fullShare τ₁ l₁ 0 v₁) ∷ ‵ (fdies τ₁ l₁) ∷ ‵ (froom (two ν₀ α δ) l₀ 0) ∷ ‵ (fdies (two ν₀ α δ) l₀) ∷ []) (runs C Λ Locals code.Mir.t-7 (atRet Locals Q))
   ends typed shown =
-      assigns ! (agg ! (and-then ! (load ! (from ! (fld ! refl (stop !))) (look-in ! 12 (sub ! 0 refl (whole !)))) (and-then ! (load ! (from ! (fld ! refl (stop !))) (look-in ! 10 (sub ! 0 refl (whole !)))) (no-more !)))) (from ! (stop !)) (init ! 20 refl typed) $
-      returns ! (look ! 20 refl) $ forget ! 2 refl $ forget ! 4 refl $ forget ! 6 refl $ forget ! 8 refl $ forget ! 10 refl $ forget ! 12 refl $ forget ! 14 refl $ forget ! 16 refl $ forget ! 18 refl $ forget ! 20 refl $
-      move ! (20 ∷ 21 ∷ []) $ free1 ! $ move ! (18 ∷ 19 ∷ []) $ free1 ! $ move ! (16 ∷ 17 ∷ []) $ free1 ! $ move ! (14 ∷ 15 ∷ []) $ free1 ! $ move ! (12 ∷ 13 ∷ []) $ free1 ! $
+      assigns ! (agg ! (and-then ! (load ! (from ! (fld ! refl (stop !))) (look-in ! 12 (sub ! 0 refl (whole !))))
+      (and-then ! (load ! (from ! (fld ! refl (stop !))) (look-in ! 10 (sub ! 0 refl (whole !)))) (no-more !)))) (from ! (stop !)) (init ! 22 refl typed) $
+      returns ! (look ! 22 refl) $ forget ! 2 refl $ forget ! 4 refl $ forget ! 6 refl $ forget ! 8 refl $ forget ! 10 refl $ forget ! 12 refl $ forget ! 14 refl $
+      forget ! 16 refl $ forget ! 18 refl $ forget ! 20 refl $ forget ! 22 refl $
+      move ! (22 ∷ 23 ∷ []) $ free1 ! $ move ! (20 ∷ 21 ∷ []) $ free1 ! $ move ! (18 ∷ 19 ∷ []) $ free1 ! $ move ! (16 ∷ 17 ∷ []) $ free1 ! $
+      move ! (14 ∷ 15 ∷ []) $ free1 ! $ move ! (12 ∷ 13 ∷ []) $ free1 ! $
       move ! (10 ∷ 11 ∷ []) $ free1 ! $ move ! (8 ∷ 9 ∷ []) $ free1 ! $ move ! (6 ∷ 7 ∷ []) $ free1 ! $ move ! (4 ∷ 5 ∷ []) $ free1 ! $ move ! (2 ∷ 3 ∷ []) $ free1 ! $ free0 ! $ by ! shown
 
 module _ {M : Type 1} (𝓤 : URA M) (H : Heap 𝓤) (A : Atoms 𝓤) (mem : Memory → SProp 𝓤) (run : Routine → Fun 𝓤) where
@@ -148,11 +163,14 @@ module _ {M : Type 1} (𝓤 : URA M) (H : Heap 𝓤) (A : Atoms 𝓤) (mem : Mem
   Fill = tripleOf 𝓤 H A fill.signature (fill.spec 𝓤 H A mem run)
 
   -- and what `wire` says of its result
-  answered : (d : Desk) (seat room : ℕ) (r : Wired) → ent 𝓤 (ensured 𝓤 H A wire.ended (wire.clauses 𝓤 H A mem run) tt (d, (seat, (room, tt))) tt r) (fact 𝓤 (r ≡ wiredOf d seat room))
-  answered d seat room r = exE 𝓤 _ (λ ws. snd∗ 𝓤 (sem 𝓤 H A (lasts wire.ended tt (d, (seat, (room, tt))) ws)) (fact 𝓤 (r ≡ wiredOf d seat room)))
+  answered : (d : Desk) (seat room : ℕ) (favour : Favour) (r : Wired) → ent 𝓤 (ensured 𝓤 H A wire.ended (wire.clauses 𝓤 H A mem run) tt
+      (d, (seat, (room, (favour, tt)))) tt r) (fact 𝓤 (r ≡ wiredOf d seat room favour))
+  answered d seat room favour r = exE 𝓤 _ (λ ws. snd∗ 𝓤 (sem 𝓤 H A (lasts wire.ended tt (d, (seat, (room, (favour, tt)))) ws)) (fact 𝓤 (r ≡ wiredOf d seat room favour)))
 
-module _ {M : Type 1} (𝓤 : URA M) (H : Heap 𝓤) (A : Atoms 𝓤) (W : Given 𝓤 H A) (mem : Memory → SProp 𝓤) (run : Routine → Fun 𝓤) (κ : Lft) (q : Share) (b o : ℕ) (γ : GName) (d : Desk) (seat : ℕ) (lent : List Leg)
-    (gd : Is D.the-row d (LL.vals D.the-type D′.the-laws d)) (small : seat < 2 ^ 64) (room : Room T.the-row (length lent)) where
+module _ {M : Type 1} (𝓤 : URA M) (H : Heap 𝓤) (A : Atoms 𝓤) (W : Given 𝓤 H A) (mem : Memory → SProp 𝓤) (run : Routine → Fun 𝓤) (κ : Lft) (q : Share) (b o : ℕ)
+    (γ : GName) (d : Desk) (seat : ℕ) (lent : List Leg) (favour : Favour)
+    (gd : Is D.the-row d (LL.vals D.the-type D′.the-laws d)) (small : seat < 2 ^ 64) (room : Room T.the-row (length lent))
+    (gk : Is K.the-row favour (EL.vals K.the-type K′.the-laws favour)) where
   -- the desk in memory
   abbrev desk : Val
   desk = LL.val D.the-type D′.the-laws d
@@ -161,48 +179,59 @@ module _ {M : Type 1} (𝓤 : URA M) (H : Heap 𝓤) (A : Atoms 𝓤) (W : Given
   abbrev x : RefT (List Leg)
   x = record { ptr = (b, o); name = γ; now = lent }
 
-  -- and it in memory
+  -- it in memory
   abbrev s : Val
   s = sliceVal (b, o) (length lent)
 
+  -- and what is favoured
+  abbrev sk : Val
+  sk = EL.val K.the-type K′.the-laws favour
+
   -- the type of the arguments
   abbrev Arg : Type 0
-  Arg = Desk × (ℕ × (RefT (List Leg) × Unit {0}))
+  Arg = Desk × (ℕ × (RefT (List Leg) × (Favour × Unit {0})))
 
   -- the arguments
   abbrev a : Arg
-  a = (d, (seat, (x, tt)))
+  a = (d, (seat, (x, (favour, tt))))
 
   -- and they in memory
-  abbrev at : List Val × (List Val × (List Val × Unit {0}))
-  at = (desk ∷ [], (vint w64 seat ∷ [], (s ∷ [], tt)))
+  abbrev at : List Val × (List Val × (List Val × (List Val × Unit {0})))
+  at = (desk ∷ [], (vint w64 seat ∷ [], (s ∷ [], (sk ∷ [], tt))))
 
   -- what the return has to show
   abbrev Post : Val → SProp 𝓤
   Post = walkOf 𝓤 H A f.ended stayed (f.clauses 𝓤 H A mem run) .post (((κ, tt), (q, tt), tt, a, at), tt)
 
   -- it is shown where the answer and the last legs are those of the contract
-  exits : (z : WiredSeat) → Is S.the-row z (LL.vals S.the-type S′.the-laws z) → (legs : List Leg) → z ≡ wiredSeatOf d seat lent → legs ≡ lentOf d seat lent → length legs ≡ length lent
+  exits : (z : WiredSeat) → Is S.the-row z (LL.vals S.the-type S′.the-laws z) → (legs : List Leg) → z ≡ wiredSeatOf d seat lent favour → legs ≡ lentOf d seat lent favour
+      → length legs ≡ length lent
       → ent 𝓤 (sep 𝓤 (sep 𝓤 (A .lft κ q) (sem 𝓤 H A ftrue)) (sem 𝓤 H A (finally T.the-row γ legs))) (Post (LL.val S.the-type S′.the-laws z))
   exits z gz legs e g l =
       qed W ((‵ (flft κ q) ⊛ ‵ ftrue) ∷ ‵ (finally T.the-row γ legs) ∷ []) ∵
-      suffices ! _ (ends-at 𝓤 H A f.ended stayed (f.clauses 𝓤 H A mem run) W (((κ, tt), (q, tt), tt, a, at), tt) (LL.val S.the-type S′.the-laws z) z (tt, (tt, (legs, tt))) (tt, (tt, (l, tt)))) $
-      suffices ! _ (assoc∗ 𝓤 (onExit 𝓤 H A f.ended stayed (κ, tt) (q, tt) at (LL.val S.the-type S′.the-laws z) z a (tt, (tt, (legs, tt)))) (fact 𝓤 (z ≡ wiredSeatOf d seat lent)) (fact 𝓤 (legs ≡ lentOf d seat lent))) $ says ! g $ says ! e $ frame ! $
-      nothing ! $ move ! (1 ∷ 0 ∷ []) $ fjoin ! $ owned ! usize (Is usize) (uint-makes 𝓤 H A W w64) seat _ (refl, small) $ fjoin ! $ owned ! D.the-row (Is D.the-row) ((LL.makes D.the-type D′.the-plain) 𝓤 H A) d _ gd $ fjoin ! $
+      suffices ! _ (ends-at 𝓤 H A f.ended stayed (f.clauses 𝓤 H A mem run) W (((κ, tt), (q, tt), tt, a, at), tt) (LL.val S.the-type S′.the-laws z) z
+      (tt, (tt, (legs, (tt, tt)))) (tt, (tt, (l, (tt, tt))))) $
+      suffices ! _ (assoc∗ 𝓤 (onExit 𝓤 H A f.ended stayed (κ, tt) (q, tt) at (LL.val S.the-type S′.the-laws z) z a (tt, (tt, (legs, (tt, tt)))))
+      (fact 𝓤 (z ≡ wiredSeatOf d seat lent favour)) (fact 𝓤 (legs ≡ lentOf d seat lent favour))) $ says ! g $ says ! e $ frame ! $
+      nothing ! $ owned ! K.the-row (Is K.the-row) ((EL.makes K.the-type K′.the-plain) 𝓤 H A) favour _ gk $ fjoin ! $ move ! (1 ∷ 0 ∷ []) $ fjoin ! $
+      owned ! usize (Is usize) (uint-makes 𝓤 H A W w64) seat _ (refl, small) $ fjoin ! $
+      owned ! D.the-row (Is D.the-row) ((LL.makes D.the-type D′.the-plain) 𝓤 H A) d _ gd $ fjoin ! $
       owned ! S.the-row (Is S.the-row) ((LL.makes S.the-type S′.the-plain) 𝓤 H A) z _ gz $ move ! (1 ∷ 0 ∷ []) $ done !
 
   -- what `wire` is called with
   abbrev to-wire : Wire 𝓤 H A mem run .Ghost
-  to-wire = ((tt, tt, tt, (d, (seat, (length lent, tt))), (desk ∷ [], (vint w64 seat ∷ [], (vint w64 (length lent) ∷ [], tt)))), tt)
+  to-wire = ((tt, tt, tt, (d, (seat, (length lent, (favour, tt)))), (desk ∷ [], (vint w64 seat ∷ [], (vint w64 (length lent) ∷ [], (sk ∷ [], tt))))), tt)
 
   -- and it may be called so
   goes-wire : ent 𝓤 (emp 𝓤) (Wire 𝓤 H A mem run .pre to-wire)
-  goes-wire = qed W [] ∵ nothing ! $ owned ! usize (Is usize) (uint-makes 𝓤 H A W w64) (length lent) _ (refl, room .0) $ fjoin ! $ owned ! usize (Is usize) (uint-makes 𝓤 H A W w64) seat _ (refl, small) $ fjoin ! $
+  goes-wire = qed W [] ∵ nothing ! $ owned ! K.the-row (Is K.the-row) ((EL.makes K.the-type K′.the-plain) 𝓤 H A) favour _ gk $ fjoin ! $
+      owned ! usize (Is usize) (uint-makes 𝓤 H A W w64) (length lent) _ (refl, room .0) $ fjoin ! $
+      owned ! usize (Is usize) (uint-makes 𝓤 H A W w64) seat _ (refl, small) $ fjoin ! $
       owned ! D.the-row (Is D.the-row) ((LL.makes D.the-type D′.the-plain) 𝓤 H A) d _ gd $ fjoin ! $ nothing ! $ join ! $ nothing ! $ move ! (1 ∷ 0 ∷ []) $ done !
 
   module _ (C : Calls 𝓤 H) (Λ : Loops 𝓤 H) (fm : FmC 𝓤 H (W .laws) C) (known-wire : Triple 𝓤 (C #wire) (Wire 𝓤 H A mem run)) (known-fill : Triple 𝓤 (C #fill) (Fill 𝓤 H A mem run)) where
     -- once `wire` has answered r
-    module _ (r : Wired) (e : r ≡ wiredOf d seat (length lent)) (gr : Is R.the-row r (LL.vals R.the-type R′.the-laws r)) where
+    module _ (r : Wired) (e : r ≡ wiredOf d seat (length lent) favour) (gr : Is R.the-row r (LL.vals R.the-type R′.the-laws r)) where
       -- the wiring with its legs
       abbrev laid : Laid
       laid = r .laid
@@ -225,7 +254,7 @@ module _ {M : Type 1} (𝓤 : URA M) (H : Heap 𝓤) (A : Atoms 𝓤) (W : Given
 
       -- the legs fit
       fits : (laid .wiring .legs ≤ 62) × (laid .wiring .legs ≤ length lent)
-      fits = rw e (seat-fits d seat (length lent))
+      fits = rw e (seat-fits d seat (length lent) favour)
 
       -- what `fill` is called with
       abbrev to-fill : Fill 𝓤 H A mem run .Ghost
@@ -236,71 +265,99 @@ module _ {M : Type 1} (𝓤 : URA M) (H : Heap 𝓤) (A : Atoms 𝓤) (W : Given
       goes-fill = qed W ((‵ (flft κ q) ⊛ ‵ ftrue) ∷ ‵ (MutSlice (named 0) κ T.the-row .own x (s ∷ [])) ∷ []) ∵ says ! fits $ frame ! $
           nothing ! $ move ! (1 ∷ 0 ∷ []) $ fjoin ! $ owned ! L.the-row (Is L.the-row) ((LL.makes L.the-type L′.the-plain) 𝓤 H A) laid _ gl $ fjoin ! $ done !
 
-      module _ (l₀ l₁ l₂ l₃ l₄ l₅ l₆ l₇ l₈ l₉ : ℕ) where
+      module _ (l₀ l₁ l₂ l₃ l₄ l₅ l₆ l₇ l₈ l₉ l₁₀ : ℕ) where
         -- the locals
         abbrev En : Env 𝓤 H
-        En = (S′.mir, l₀) ∷ (D′.mir, l₁) ∷ (word, l₂) ∷ (slice, l₃) ∷ (R′.mir, l₄) ∷ (L′.mir, l₅) ∷ (word, l₆) ∷ (tyUnit, l₇) ∷ (again, l₈) ∷ (sliceTy again, l₉) ∷ []
+        En = (S′.mir, l₀) ∷ (D′.mir, l₁) ∷ (word, l₂) ∷ (slice, l₃) ∷ (K′.mir, l₄) ∷ (R′.mir, l₅) ∷ (L′.mir, l₆) ∷ (word, l₇) ∷ (tyUnit, l₈) ∷ (again, l₉)
+            ∷ (sliceTy again, l₁₀) ∷ []
 
-        -- _4 to _0, the token and what the arguments own
-        abbrev Below-5 : List (Item 𝓤)
-        Below-5 = ‵ (fat fullShare R′.mir l₄ 0 (LL.val R.the-type R′.the-laws r)) ∷ ‵ (fdies R′.mir l₄) ∷ ‵ (fat fullShare slice l₃ 0 s) ∷ ‵ (fdies slice l₃) ∷ ‵ (fat fullShare word l₂ 0 (vint w64 seat)) ∷ ‵ (fdies word l₂)
-            ∷ ‵ (fat fullShare D′.mir l₁ 0 desk) ∷ ‵ (fdies D′.mir l₁) ∷ ‵ (froom S′.mir l₀ 0) ∷ ‵ (fdies S′.mir l₀) ∷ (‵ (flft κ q) ⊛ ‵ ftrue) ∷ ‵ (owns (D.the-row ∷ usize ∷ MutSlice (named 0) κ T.the-row ∷ []) a at) ∷ []
+        -- _5 to _0, the token and what the arguments own
+        abbrev Below-6 : List (Item 𝓤)
+        Below-6 = ‵ (fat fullShare R′.mir l₅ 0 (LL.val R.the-type R′.the-laws r)) ∷ ‵ (fdies R′.mir l₅) ∷ ‵ (fat fullShare K′.mir l₄ 0 sk) ∷ ‵ (fdies K′.mir l₄)
+            ∷ ‵ (fat fullShare slice l₃ 0 s) ∷ ‵ (fdies slice l₃) ∷ ‵ (fat fullShare word l₂ 0 (vint w64 seat)) ∷ ‵ (fdies word l₂)
+            ∷ ‵ (fat fullShare D′.mir l₁ 0 desk) ∷ ‵ (fdies D′.mir l₁) ∷ ‵ (froom S′.mir l₀ 0) ∷ ‵ (fdies S′.mir l₀) ∷ (‵ (flft κ q) ⊛ ‵ ftrue)
+            ∷ ‵ (owns (D.the-row ∷ usize ∷ MutSlice (named 0) κ T.the-row ∷ K.the-row ∷ []) a at) ∷ []
 
         -- `fill`
-        filling : Sq W (‵ (fat fullShare (sliceTy again) l₉ 0 s) ∷ ‵ (fdies (sliceTy again) l₉) ∷ ‵ (fat fullShare again l₈ 0 (vptr b o)) ∷ ‵ (fdies again l₈) ∷ ‵ (froom tyUnit l₇ 0) ∷ ‵ (fdies tyUnit l₇)
-            ∷ ‵ (fat fullShare word l₆ 0 (vint w64 (length lent))) ∷ ‵ (fdies word l₆) ∷ ‵ (fat fullShare L′.mir l₅ 0 laid-val) ∷ ‵ (fdies L′.mir l₅) ∷ Below-5) (runs C Λ En code.Mir.t-6 (atRet En Post))
+        filling : Sq W (‵ (fat fullShare (sliceTy again) l₁₀ 0 s) ∷ ‵ (fdies (sliceTy again) l₁₀) ∷ ‵ (fat fullShare again l₉ 0 (vptr b o)) ∷ ‵ (fdies again l₉)
+            ∷ ‵ (froom tyUnit l₈ 0) ∷ ‵ (fdies tyUnit l₈)
+            ∷ ‵ (fat fullShare word l₇ 0 (vint w64 (length lent))) ∷ ‵ (fdies word l₇) ∷ ‵ (fat fullShare L′.mir l₆ 0 laid-val) ∷ ‵ (fdies L′.mir l₆) ∷ Below-6)
+            (runs C Λ En code.Mir.t-6 (atRet En Post))
         filling =
-            move ! (21 ∷ []) $ fsplit ! $ drop ! $ fsplit ! $ drop ! $ fsplit ! $ move ! (22 ∷ 0 ∷ []) $ use2 W (raw (Fill 𝓤 H A mem run .pre to-fill)) goes-fill $
+            move ! (23 ∷ []) $ fsplit ! $ drop ! $ fsplit ! $ drop ! $ fsplit ! $ move ! (24 ∷ 0 ∷ []) $ use2 W (raw (Fill 𝓤 H A mem run .pre to-fill)) goes-fill $
             calls-at ! fm (Fill 𝓤 H A mem run) known-fill to-fill (and-then ! (load ! (from ! (stop !)) (look ! 10 refl)) (and-then ! (load ! (from ! (stop !)) (look ! 2 refl)) (no-more !))) (λ w.
             use1 W (later (some (λ (u : Unit {0}). ((‵ (flft κ q) ⊛ ‵ ftrue) ⊛ ‵ (unit .own u (w ∷ []))) ⊛ raw (ensured 𝓤 H A fill.ended (fill.clauses 𝓤 H A mem run) (κ, tt) (laid, (x, tt)) tt u)))) (id⊢ 𝓤 _) $ await ! tt $ pick ! (λ u.
             split ! $ move ! (1 ∷ []) $ use1 W (some (λ (zs : Unit {0} × (List Leg × Unit {0})). ‵ (lasts fill.ended (κ, tt) (laid, (x, tt)) zs) ⊛ raw (fact 𝓤 (zs .1 .0 ≡ filledWith laid lent)))) (id⊢ 𝓤 _) $ pick ! (λ zs.
             split ! $ move ! (1 ∷ []) $ heard ! (zs .1 .0 ≡ filledWith laid lent) (λ g. fsplit ! $ drop ! $ fsplit ! $ fsplit ! $ move ! (1 ∷ []) $ feqL ! (λ l.
             move ! (2 ∷ []) $ split ! $ move ! (1 ∷ []) $ peeks ! unit (Is unit) (shows 𝓤 H A unit) u (w ∷ []) (λ is.
-            -- [the result; the token; the last list; …; _9 at 5; …; _0 at 23; …]
+            -- [the result; the token; the last list; …; _10 at 5; …; _0 at 25; …]
             land ! (from ! (stop !)) (init ! 9 refl (nothing-lawful 𝓤 H A W .typed u _ is .0)) $
-            keep ! (1 ∷ 2 ∷ 5 ∷ 6 ∷ 7 ∷ 8 ∷ 9 ∷ 10 ∷ 11 ∷ 12 ∷ 13 ∷ 14 ∷ 15 ∷ 16 ∷ 17 ∷ 18 ∷ 19 ∷ 20 ∷ 21 ∷ 22 ∷ 23 ∷ 24 ∷ []) $
-            ends 𝓤 H A W C Λ Post (‵ (flft κ q) ⊛ ‵ ftrue) (‵ (finally T.the-row γ (zs .1 .0))) _ _ _ D′.mir L′.mir G′.mir _ D′.mir word slice word tyUnit again (sliceTy again) l₀ l₁ l₂ l₃ l₄ l₅ l₆ l₇ l₈ l₉
-            (LL.val D.the-type D′.the-laws (r .desk)) laid-val (LL.val G.the-type G′.the-laws (laid .wiring)) _ desk (vint w64 seat) s (vint w64 (length lent)) w (vptr b o) s
-            (LL.lawful S.the-type S′.the-laws 𝓤 H A W .typed z _ gz .0) (exits z gz (zs .1 .0) (seat-answered d seat lent e) (legs-lent d seat lent e g) l)))))))
+            keep ! (1 ∷ 2 ∷ 5 ∷ 6 ∷ 7 ∷ 8 ∷ 9 ∷ 10 ∷ 11 ∷ 12 ∷ 13 ∷ 14 ∷ 15 ∷ 16 ∷ 17 ∷ 18 ∷ 19 ∷ 20 ∷ 21 ∷ 22 ∷ 23 ∷ 24 ∷ 25 ∷ 26 ∷ []) $
+            ends 𝓤 H A W C Λ Post (‵ (flft κ q) ⊛ ‵ ftrue) (‵ (finally T.the-row γ (zs .1 .0))) _ _ _ D′.mir L′.mir G′.mir _ D′.mir word slice K′.mir word tyUnit again
+            (sliceTy again) l₀ l₁ l₂ l₃ l₄ l₅ l₆ l₇ l₈ l₉ l₁₀
+            (LL.val D.the-type D′.the-laws (r .desk)) laid-val (LL.val G.the-type G′.the-laws (laid .wiring)) _ desk (vint w64 seat) s sk (vint w64 (length lent)) w
+            (vptr b o) s
+            (LL.lawful S.the-type S′.the-laws 𝓤 H A W .typed z _ gz .0) (exits z gz (zs .1 .0) (seat-answered d seat lent favour e)
+            (legs-lent d seat lent favour e g) l)))))))
 
         -- from `laid` on
-        rest : Sq W (‵ (froom (sliceTy again) l₉ 0) ∷ ‵ (fdies (sliceTy again) l₉) ∷ ‵ (froom again l₈ 0) ∷ ‵ (fdies again l₈) ∷ ‵ (froom tyUnit l₇ 0) ∷ ‵ (fdies tyUnit l₇)
-            ∷ ‵ (fat fullShare word l₆ 0 (vint w64 (length lent))) ∷ ‵ (fdies word l₆) ∷ ‵ (froom L′.mir l₅ 0) ∷ ‵ (fdies L′.mir l₅) ∷ Below-5) (runs C Λ En code.Mir.t-3 (atRet En Post))
-        rest = passes 𝓤 H A W C Λ Post _ _ D′.mir L′.mir S′.mir D′.mir word _ b o (length lent) l₀ l₁ l₂ l₃ l₄ l₅ l₆ l₇ l₈ l₉ (LL.val D.the-type D′.the-laws (r .desk)) laid-val (vint w64 (length lent))
+        rest : Sq W (‵ (froom (sliceTy again) l₁₀ 0) ∷ ‵ (fdies (sliceTy again) l₁₀) ∷ ‵ (froom again l₉ 0) ∷ ‵ (fdies again l₉) ∷ ‵ (froom tyUnit l₈ 0)
+            ∷ ‵ (fdies tyUnit l₈)
+            ∷ ‵ (fat fullShare word l₇ 0 (vint w64 (length lent))) ∷ ‵ (fdies word l₇) ∷ ‵ (froom L′.mir l₆ 0) ∷ ‵ (fdies L′.mir l₆) ∷ Below-6)
+            (runs C Λ En code.Mir.t-3 (atRet En Post))
+        rest = passes 𝓤 H A W C Λ Post _ _ D′.mir L′.mir S′.mir D′.mir word K′.mir _ b o (length lent) l₀ l₁ l₂ l₃ l₄ l₅ l₆ l₇ l₈ l₉ l₁₀
+            (LL.val D.the-type D′.the-laws (r .desk)) laid-val sk (vint w64 (length lent))
             refl (LL.lawful L.the-type L′.the-laws 𝓤 H A W .typed laid _ gl .0) (room .0) filling
 
     -- the whole function, from its entry to its return
-    walk : ent 𝓤 (onEntry 𝓤 H A f.signature (κ, tt) (q, tt) a at) (WpFn 𝓤 H C Λ code.function (desk ∷ vint w64 seat ∷ s ∷ []) Post)
+    walk : ent 𝓤 (onEntry 𝓤 H A f.signature (κ, tt) (q, tt) a at) (WpFn 𝓤 H C Λ code.function (desk ∷ vint w64 seat ∷ s ∷ sk ∷ []) Post)
     walk =
-        qed W ((‵ (flft κ q) ⊛ ‵ ftrue) ∷ ‵ (owns (D.the-row ∷ usize ∷ MutSlice (named 0) κ T.the-row ∷ []) a at) ∷ []) ∵ enter ! C Λ code.function (desk ∷ vint w64 seat ∷ s ∷ []) _ $
-        alloc1 ! (λ l₀. alloc1 ! (λ l₁. alloc1 ! (λ l₂. alloc1 ! (λ l₃. alloc1 ! (λ l₄. alloc1 ! (λ l₅. alloc1 ! (λ l₆. alloc1 ! (λ l₇. alloc1 ! (λ l₈. alloc1 ! (λ l₉. alloc0 ! $ params1 ! $
-        pass1 ! (init ! 16 refl (LL.lawful D.the-type D′.the-laws 𝓤 H A W .typed d _ gd .0)) $ pass1 ! (init ! 14 refl (tt, record { fits = small })) $ pass1 ! (init ! 12 refl (tt, (tt, (record { fits = room .0 }, tt)))) $ pass0 ! $
-        assigns ! (of-opd ! (load ! (from ! (fld ! refl (stop !))) (look-in ! 12 (sub ! 1 refl (whole !))))) (from ! (stop !)) (init ! 6 refl (tt, record { fits = room .0 })) $
+        qed W ((‵ (flft κ q) ⊛ ‵ ftrue) ∷ ‵ (owns (D.the-row ∷ usize ∷ MutSlice (named 0) κ T.the-row ∷ K.the-row ∷ []) a at) ∷ []) ∵
+        enter ! C Λ code.function (desk ∷ vint w64 seat ∷ s ∷ sk ∷ []) _ $
+        alloc1 ! (λ l₀. alloc1 ! (λ l₁. alloc1 ! (λ l₂. alloc1 ! (λ l₃. alloc1 ! (λ l₄.
+        alloc1 ! (λ l₅. alloc1 ! (λ l₆. alloc1 ! (λ l₇. alloc1 ! (λ l₈. alloc1 ! (λ l₉. alloc1 ! (λ l₁₀. alloc0 ! $ params1 ! $
+        pass1 ! (init ! 18 refl (LL.lawful D.the-type D′.the-laws 𝓤 H A W .typed d _ gd .0)) $ pass1 ! (init ! 16 refl (tt, record { fits = small })) $
+        pass1 ! (init ! 14 refl (tt, (tt, (record { fits = room .0 }, tt)))) $
+        pass1 ! (init ! 12 refl (EL.lawful K.the-type K′.the-laws 𝓤 H A W tt .typed favour _ gk .0)) $ pass0 ! $
+        assigns ! (of-opd ! (load ! (from ! (fld ! refl (stop !))) (look-in ! 14 (sub ! 1 refl (whole !))))) (from ! (stop !))
+        (init ! 6 refl (tt, record { fits = room .0 })) $
         -- `wire`
         use0 W (raw (Wire 𝓤 H A mem run .pre to-wire)) goes-wire $
-        calls-at ! fm (Wire 𝓤 H A mem run) known-wire to-wire (and-then ! (load ! (from ! (stop !)) (look ! 17 refl)) (and-then ! (load ! (from ! (stop !)) (look ! 15 refl)) (and-then ! (load ! (from ! (stop !)) (look ! 7 refl)) (no-more !)))) (λ w.
-        use1 W (later (some (λ (r : Wired). (‵ ftrue ⊛ ‵ (R.the-row .own r (w ∷ []))) ⊛ raw (ensured 𝓤 H A wire.ended (wire.clauses 𝓤 H A mem run) tt (d, (seat, (length lent, tt))) tt r)))) (id⊢ 𝓤 _) $ await ! tt $ pick ! (λ r.
-        split ! $ move ! (1 ∷ []) $ use1 W (raw (fact 𝓤 (r ≡ wiredOf d seat (length lent)))) (answered 𝓤 H A mem run d seat (length lent) r) $ heard ! (r ≡ wiredOf d seat (length lent)) (λ e. split ! $ drop ! $
+        calls-at ! fm (Wire 𝓤 H A mem run) known-wire to-wire (and-then ! (load ! (from ! (stop !)) (look ! 19 refl))
+        (and-then ! (load ! (from ! (stop !)) (look ! 17 refl))
+        (and-then ! (load ! (from ! (stop !)) (look ! 7 refl)) (and-then ! (load ! (from ! (stop !)) (look ! 13 refl)) (no-more !))))) (λ w.
+        use1 W (later (some (λ (r : Wired). (‵ ftrue ⊛ ‵ (R.the-row .own r (w ∷ []))) ⊛
+        raw (ensured 𝓤 H A wire.ended (wire.clauses 𝓤 H A mem run) tt (d, (seat, (length lent, (favour, tt)))) tt r)))) (id⊢ 𝓤 _) $ await ! tt $ pick ! (λ r.
+        split ! $ move ! (1 ∷ []) $ use1 W (raw (fact 𝓤 (r ≡ wiredOf d seat (length lent) favour))) (answered 𝓤 H A mem run d seat (length lent) favour r) $
+        heard ! (r ≡ wiredOf d seat (length lent) favour) (λ e. split ! $ drop ! $
         peeks ! R.the-row (Is R.the-row) (shows 𝓤 H A R.the-row) r (w ∷ []) (λ is.
         land ! (from ! (stop !)) (init ! 11 refl (LL.lawful R.the-type R′.the-laws 𝓤 H A W .typed r _ is .0)) $
-        rewrite ! 11 (λ (u : Val). ‵ (fat fullShare R′.mir l₄ 0 u)) (ap only (LL.tells R.the-type R′.the-laws r _ is)) refl $ drop ! $
-        rest r e (subst (Is R.the-row r) (LL.tells R.the-type R′.the-laws r _ is) is) l₀ l₁ l₂ l₃ l₄ l₅ l₆ l₇ l₈ l₉))))))))))))))
+        rewrite ! 11 (λ (u : Val). ‵ (fat fullShare R′.mir l₅ 0 u)) (ap only (LL.tells R.the-type R′.the-laws r _ is)) refl $ drop ! $
+        rest r e (subst (Is R.the-row r) (LL.tells R.the-type R′.the-laws r _ is) is) l₀ l₁ l₂ l₃ l₄ l₅ l₆ l₇ l₈ l₉ l₁₀)))))))))))))))
 
 module _ {M : Type 1} (𝓤 : URA M) (H : Heap 𝓤) (A : Atoms 𝓤) (W : Given 𝓤 H A) (mem : Memory → SProp 𝓤) (run : Routine → Fun 𝓤) where
   -- so for any arguments
   wire-lent-walks : (C : Calls 𝓤 H) (Λ : Loops 𝓤 H) → FmC 𝓤 H (W .laws) C → Triple 𝓤 (C #wire) (Wire 𝓤 H A mem run) → Triple 𝓤 (C #fill) (Fill 𝓤 H A mem run)
       → Walks 𝓤 H A f.ended stayed (WpFn 𝓤 H C Λ code.function) (f.clauses 𝓤 H A mem run)
   wire-lent-walks C Λ fm known-wire known-fill = walked 𝓤 H A f.ended stayed (f.clauses 𝓤 H A mem run) (WpFn 𝓤 H C Λ code.function)
-      (λ κs. (LL.vals D.the-type D′.the-laws, ((λ n. vint w64 n ∷ []), (slice-vals, tt)))) (λ κs. (LL.tells D.the-type D′.the-laws, (uint-tells w64, (mut-slice-tells (named 0) (κs .0) T.the-row, tt))))
+      (λ κs. (LL.vals D.the-type D′.the-laws, ((λ n. vint w64 n ∷ []), (slice-vals, (EL.vals K.the-type K′.the-laws, tt)))))
+      (λ κs. (LL.tells D.the-type D′.the-laws, (uint-tells w64, (mut-slice-tells (named 0) (κs .0) T.the-row, (EL.tells K.the-type K′.the-laws, tt)))))
       (λ κs qs bounds a g are. via 𝓤 _ (fst∗ 𝓤 _ (emp 𝓤))
-      (walk 𝓤 H A W mem run (κs .0) (qs .0) (a .1 .1 .0 .ptr .0) (a .1 .1 .0 .ptr .1) (a .1 .1 .0 .name) (a .0) (a .1 .0) (a .1 .1 .0 .now) (are .0) (are .1 .0 .1) (are .1 .1 .0 .0 .1) C Λ fm known-wire known-fill))
+      (walk 𝓤 H A W mem run (κs .0) (qs .0) (a .1 .1 .0 .ptr .0) (a .1 .1 .0 .ptr .1) (a .1 .1 .0 .name) (a .0) (a .1 .0) (a .1 .1 .0 .now) (a .1 .1 .1 .0) (are .0)
+      (are .1 .0 .1) (are .1 .1 .0 .0 .1) (are .1 .1 .1 .0) C Λ fm known-wire known-fill))
 
 -- and the function meets its contract, where the functions called meet theirs
 wire-lent-meets : {M : Type 1} (𝓤 : URA M) (H : Heap 𝓤) (A : Atoms 𝓤) → Given 𝓤 H A → (mem : Memory → SProp 𝓤) (run : Routine → Fun 𝓤) (𝓣 : Tables 𝓤 H)
     → Triple 𝓤 (𝓣 .C #wire) (Wire 𝓤 H A mem run) → Triple 𝓤 (𝓣 .C #fill) (Fill 𝓤 H A mem run)
     → Meets 𝓤 H A f.signature (WpFn 𝓤 H (𝓣 .C) (𝓣 .Λ) code.function) (f.spec 𝓤 H A mem run)
 wire-lent-meets 𝓤 H A W mem run 𝓣 known-wire known-fill =
-    walk-meets 𝓤 H A f.ended stayed W (goes-none 𝓤 H A W 1 (λ _. D.the-row) yes (λ κs x f. refl), (goes-none 𝓤 H A W 1 (λ _. usize) yes (λ κs x f. refl), (goes-gave-slice 𝓤 H A W 1 0 tt (plain (λ _. T.the-row)), tt)))
+    walk-meets 𝓤 H A f.ended stayed W (
+      goes-none 𝓤 H A W 1 (λ _. D.the-row) yes (λ κs x f. refl),
+      (
+        goes-none 𝓤 H A W 1 (λ _. usize) yes (λ κs x f. refl),
+        (goes-gave-slice 𝓤 H A W 1 0 tt (plain (λ _. T.the-row)), (goes-none 𝓤 H A W 1 (λ _. K.the-row) yes (λ κs x f. refl), tt)),
+      ),
+    )
     (f.clauses 𝓤 H A mem run) (WpFn 𝓤 H (𝓣 .C) (𝓣 .Λ) code.function) (WpFn-mono 𝓤 H (W .laws) 𝓣 code.function) (wire-lent-walks 𝓤 H A W mem run (𝓣 .C) (𝓣 .Λ) (fmOf 𝓤 H (W .laws) 𝓣) known-wire known-fill)
 
 pub wire-lent-spec : {M : Type 1} → stated.statement M

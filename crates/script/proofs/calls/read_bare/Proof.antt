@@ -6,11 +6,11 @@ use borrow.Author.Needs.{needs}
 use Rattle.script.proofs.calls.read_bare.Statement.{statement}
 use Rattle.script.proofs.calls.read_bare.Tie as tie
 
-count-words-requires : tie.Need-count-words-requires
-count-words-requires c κs = search needs
+ends-in-favour-requires : tie.Need-ends-in-favour-requires
+ends-in-favour-requires c κs = search needs
 
 returns : tie.Need-returns
-returns c = bare-few _ (c .before .count-words .ensures) (c .if1 .taken)
+returns c = bare-few _ (sym (c .before .ends-in-favour .ensures) ∙ not-true (c .before .ends-in-favour .result) (c .if1 .taken))
 
 word-requires : tie.Need-word-requires
 word-requires c κs = search needs
@@ -25,7 +25,10 @@ enum-told : tie.Need-enum-told
 enum-told c = search needs
 
 returns-2 : tie.Need-returns-2
-returns-2 c = bare-room _ (c .before .before .before .before .before .count-words .ensures) (c .before .before .before .before .if1 .left) (c .before .before .before .word .ensures) (sym (c .enum-told .given .1) ∙ c .before .before .number .ensures)
+returns-2 c =
+    let e = c .before .before .before .before in
+    let ended = sym (e .before .ends-in-favour .ensures) ∙ not-false (e .before .ends-in-favour .result) (e .if1 .left) in
+    bare-room _ ended (c .before .before .before .word .ensures) (sym (c .enum-told .given .1) ∙ c .before .before .number .ensures)
 
 word-requires-2 : tie.Need-word-requires-2
 word-requires-2 c κs = search needs
@@ -35,8 +38,12 @@ is-list-requires c κs = search needs
 
 returns-3 : tie.Need-returns-3
 returns-3 c =
-    let room = sym (c .before .before .before .before .room .given .1) ∙ c .before .before .before .before .before .before .number .ensures in
-    bare-across _ (c .before .before .before .before .before .before .before .before .before .count-words .ensures) (c .before .before .before .before .before .before .before .before .if1 .left) (c .before .before .before .before .before .before .before .word .ensures) room (c .before .before .word2 .ensures) (sym (c .before .is-list .ensures) ∙ not-true (c .before .is-list .result) (c .if2 .taken))
+    let k = c .before .before .before .before in
+    let e = k .before .before .before .before in
+    let ended = sym (e .before .ends-in-favour .ensures) ∙ not-false (e .before .ends-in-favour .result) (e .if1 .left) in
+    let room = sym (k .room .given .1) ∙ k .before .before .number .ensures in
+    bare-across _ ended (k .before .before .before .word .ensures) room (c .before .before .word2 .ensures)
+    (sym (c .before .is-list .ensures) ∙ not-true (c .before .is-list .result) (c .if2 .taken))
 
 word-requires-3 : tie.Need-word-requires-3
 word-requires-3 c κs = search needs
@@ -46,21 +53,31 @@ is-list-requires-2 c κs = search needs
 
 returns-4 : tie.Need-returns-4
 returns-4 c =
-    let room = sym (c .before .before .before .before .before .before .before .room .given .1) ∙ c .before .before .before .before .before .before .before .before .before .number .ensures in
-    let across = sym (c .before .before .before .before .is-list .ensures) ∙ not-false (c .before .before .before .before .is-list .result) (c .before .before .before .if2 .left) in
-    bare-up _ (c .before .before .before .before .before .before .before .before .before .before .before .before .count-words .ensures) (c .before .before .before .before .before .before .before .before .before .before .before .if1 .left) (c .before .before .before .before .before .before .before .before .before .before .word .ensures) room (c .before .before .before .before .before .word2 .ensures) across (c .before .before .word3 .ensures) (sym (c .before .is-list2 .ensures) ∙ not-true (c .before .is-list2 .result) (c .if3 .taken))
+    let l = c .before .before .before in
+    let k = l .before .before .before .before in
+    let e = k .before .before .before .before in
+    let ended = sym (e .before .ends-in-favour .ensures) ∙ not-false (e .before .ends-in-favour .result) (e .if1 .left) in
+    let room = sym (k .room .given .1) ∙ k .before .before .number .ensures in
+    let across = sym (l .before .is-list .ensures) ∙ not-false (l .before .is-list .result) (l .if2 .left) in
+    bare-up _ ended (k .before .before .before .word .ensures) room (l .before .before .word2 .ensures) across
+    (c .before .before .word3 .ensures) (sym (c .before .is-list2 .ensures) ∙ not-true (c .before .is-list2 .result) (c .if3 .taken))
 
 returns-5 : tie.Need-returns-5
 returns-5 c =
-    let room = sym (c .before .before .before .before .before .before .before .room .given .1) ∙ c .before .before .before .before .before .before .before .before .before .number .ensures in
-    let across = sym (c .before .before .before .before .is-list .ensures) ∙ not-false (c .before .before .before .before .is-list .result) (c .before .before .before .if2 .left) in
-    bare-yes _ (c .before .before .before .before .before .before .before .before .before .before .before .before .count-words .ensures) (c .before .before .before .before .before .before .before .before .before .before .before .if1 .left) (c .before .before .before .before .before .before .before .before .before .before .word .ensures) room (c .before .before .before .before .before .word2 .ensures) across (c .before .before .word3 .ensures) (sym (c .before .is-list2 .ensures) ∙ not-false (c .before .is-list2 .result) (c .if3 .left))
+    let l = c .before .before .before in
+    let k = l .before .before .before .before in
+    let e = k .before .before .before .before in
+    let ended = sym (e .before .ends-in-favour .ensures) ∙ not-false (e .before .ends-in-favour .result) (e .if1 .left) in
+    let room = sym (k .room .given .1) ∙ k .before .before .number .ensures in
+    let across = sym (l .before .is-list .ensures) ∙ not-false (l .before .is-list .result) (l .if2 .left) in
+    bare-yes _ ended (k .before .before .before .word .ensures) room (l .before .before .word2 .ensures) across
+    (c .before .before .word3 .ensures) (sym (c .before .is-list2 .ensures) ∙ not-false (c .before .is-list2 .result) (c .if3 .left))
 
 pub read-bare-spec : {M : Type 1} → statement M
 read-bare-spec =
     tie.close
     (tie.spec
-    count-words-requires
+    ends-in-favour-requires
     returns
     word-requires
     number-requires
