@@ -1,5 +1,5 @@
 #!/usr/bin/env python3
-"""Compares and measures the proved programs: bench.py agree [FIRST LAST] | calls | wire | stack. README.md beside it says what each does."""
+"""Compares and measures the proved programs: bench.py agree [FIRST LAST] | calls | wire | drops | stack. README.md beside it says what each does."""
 import os
 import random
 import resource
@@ -126,6 +126,17 @@ def full_boards():
     return {"a chain": chain, "at random": scattered}
 
 
+def map_of(places):
+    """The map of job 7 with pins at these places, numbered from 0."""
+    return b"".join(random_log.record(7, p, 0, x, y) for p, (x, y) in enumerate(places))
+
+
+def drops_call(seat):
+    """A line that asks for a seat's drops: 12 volts, a thousandth of an ohm a step, a load at each pin, amps and watts by turns."""
+    loads = ",".join(f"w{random_log.bits(7 * p)}" if p % 2 else f"a{random_log.bits(0.3 * p)}" for p in range(32))
+    return f"drops {seat} {random_log.bits(12)} {random_log.bits(0.001)} {loads}\n"
+
+
 def wire():
     """The time of 2,000 wirings of 32 pins, both programs by turns, the best of 25, less the time of reading the same lines: with one number left out they
     are refused with 16. Once with the whole answer printed, once with no room for a leg, where the wiring is found and 19 is printed."""
@@ -142,6 +153,27 @@ def wire():
             best = best_times(programs, logs)
             for how, log in (("printed", logs[1]), ("with no room", logs[2])):
                 ratio(f"2,000 wirings of 32 pins, {what}, {how}", {name: best[name, log] - best[name, logs[0]] for name in programs})
+
+
+def drops():
+    """The time of 2,000 calls for the drops of a seat and of 2,000 wirings of the same seat, printed; a full board of 32 pins, opened from a map by the log's
+    first line. Both programs by turns, the best of 25, less the time of reading the same lines: naming seat 8 they are refused with 1."""
+    asked = {"wirings": lambda seat: f"wire {seat} 64\n", "calls for drops": drops_call}
+    with tempfile.TemporaryDirectory() as folder:
+        programs = {"proved": proved("replay"), "plain C": plain(folder)}
+        for what, boards in full_boards().items():
+            opened = f"open 0 7 {map_of(boards[0]).hex()}\n"
+            logs = {name: [opened + call(seat) * 2000 for seat in (8, 0)] for name, call in asked.items()}
+            every = [log for pair in logs.values() for log in pair]
+            wrote = [[run(command, log.encode())[0] for log in every] for command in programs.values()]
+            assert wrote[0] == wrote[1] and all(wrote[0][i] == b"0\n" + b"refused 1\n" * 2000 for i in (0, 2))
+            assert wrote[0][1].count(b"\n0 length ") == wrote[0][3].count(b"\n0 ") == 2000
+            best = best_times(programs, every)
+            took = {call: {name: best[name, log] - best[name, read] for name in programs} for call, (read, log) in logs.items()}
+            for call, seconds in took.items():
+                ratio(f"2,000 {call} of a seat of 32 pins, {what}", seconds)
+            for name in programs:
+                print(f"{name}: drops take {took['calls for drops'][name] / took['wirings'][name]:.2f} of the time of wirings")
 
 
 def smallest(command, log):
@@ -164,11 +196,11 @@ def stack():
     """The smallest stack on which a full board is wired: 32 pins one behind the other, so that the asking goes deepest."""
     places = [(2 * p, p) for p in range(32)]
     xs, ys = (",".join(str(place[i]) for place in places) for i in (0, 1))
-    pin_map = b"".join((7).to_bytes(2, "big") + bytes([p, 0]) + x.to_bytes(4, "big") + y.to_bytes(4, "big") for p, (x, y) in enumerate(places))
+    pin_map = map_of(places)
     opened = f"open 0 7 {pin_map.hex()}\n"
     bare = f"bare 64 {xs} {ys}\n"
     wired = opened + "wire 0 64\n"
-    every = wired + "write 0 1024\nmove 0 0 0 9\nremove 0 0\nplace 0 0 0 0\nundo 0\nredo 0\npins 0\nclose 0\n" + bare
+    every = wired + drops_call(0) + "write 0 1024\nmove 0 0 0 9\nremove 0 0\nplace 0 0 0 0\nundo 0\nredo 0\npins 0\nclose 0\n" + bare
     replay = proved("replay")
     for what, log in (("no call", "#\n"), ("a drawing shown", "pins 0\n"), ("a map opened and wired", wired), ("bare wiring", bare), ("every call", every)):
         print(f"replay, {what}: {smallest(replay, log.encode())}")
@@ -176,7 +208,7 @@ def stack():
 
 
 if __name__ == "__main__":
-    tasks = {"agree": agree, "calls": calls, "wire": wire, "stack": stack}
+    tasks = {"agree": agree, "calls": calls, "wire": wire, "drops": drops, "stack": stack}
     if len(sys.argv) < 2 or sys.argv[1] not in tasks:
         sys.exit(__doc__)
     tasks[sys.argv[1]](*sys.argv[2:])

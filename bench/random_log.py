@@ -1,8 +1,10 @@
 #!/usr/bin/env python3
 """Writes a log of calls at random for `replay` to standard output: random_log.py SEED.
 
-Small boards, where ties and refusals are common; every call; lines that are not calls; maps with each kind of fault; journals that are full."""
+Small boards, where ties and refusals are common; every call; lines that are not calls; maps with each kind of fault; journals that are full; loads at the
+ends of their ranges and beyond."""
 import random
+import struct
 import sys
 
 pick = random.choice
@@ -38,9 +40,19 @@ def pin():
     return random.randrange(32) if chance(95) else pick([32, 33, 255, 256, 4294967295])
 
 
+def hanging(most):
+    """Places each a few steps from one before it, most often from the latest, so that pins hang on one another."""
+    far = random.randint(1, 200)
+    spots = [(0, 0)]
+    while len(spots) < most:
+        x, y = spots[-1] if chance(80) else pick(spots)
+        spots.append((x + far * random.randint(-1, 3), y + far * random.randint(-1, 2)))
+    return spots
+
+
 def board(spread, most):
     """Places for pins, no two the same, in one of several patterns."""
-    style = random.randrange(6)
+    style = random.randrange(7)
     if style == 0:
         spots = [(x, x + pick([0, 1])) for x in range(-spread, spread)]
     elif style == 1:
@@ -51,6 +63,8 @@ def board(spread, most):
         spots = [(x * far, y * far) for x in range(-3, 4) for y in range(-3, 4)]
     elif style == 3:
         spots = [(random.randint(-20000, 20000), random.randint(-20000, 20000)) for _ in range(most)]
+    elif style == 4:
+        spots = hanging(most)
     else:
         spots = [(random.randint(-spread, spread), random.randint(-spread, spread)) for _ in range(2 * most)]
     spots = list(dict.fromkeys(spots))
@@ -137,11 +151,76 @@ def edit(spread):
     return f"remove {at} {which}" if call == "remove" else f"{call} {at} {which} {number(part(spread))} {number(part(spread))}"
 
 
+def bits(value):
+    """The eight hex digits of the bits of the f32 nearest to a value."""
+    return struct.pack(">f", value).hex()
+
+
+def beside(digits, by):
+    """The digits of bits counted on: of a neighbour among the f32 where by is 1 or -1."""
+    return f"{int(digits, 16) + by:08x}"
+
+
+def inside(low, high):
+    """The bits of an f32 from low to high: anywhere, or at an end or next to it; where low is 0 also -0 and subnormals."""
+    if chance(70):
+        return bits(random.uniform(low, high))
+    small = ["80000000", "00000001", "007fffff", "00800000", bits(random.uniform(0, 2**-126))] if low == 0 else []
+    return pick([bits(low), beside(bits(low), 1), bits(high / 2), bits(high), bits(high), beside(bits(high), -1)] + small)
+
+
+def beyond(low, high):
+    """The bits of an f32 that is not from low to high: next to an end, of the other sign, NaNs, infinities, the largest."""
+    next_to_low = beside(bits(low), -1) if low else "80000001"
+    other_sign = bits(-random.uniform(max(low, high / 9), high))
+    return pick([beside(bits(high), 1), next_to_low, other_sign] * 2 + "7fc00000 ffc00000 7f800001 7f800000 ff800000 7f7fffff ff7fffff".split())
+
+
+def amount(low, high, percent):
+    """An f32 as the log has it: that often out of its range, seldom in capitals or no f32."""
+    if chance(1):
+        return pick(["", "4140000", "041400000", "4140000g", "-1400000", "0x414000", "12", "-"])
+    digits = beyond(low, high) if chance(percent) else inside(low, high)
+    return digits.upper() if chance(5) else digits
+
+
+def loads():
+    """Loads for the pins from 0 on: at times one of them out of its range, an entry that is no load, or more than 32."""
+    entries = []
+    for _ in range(pick([0, 1, 5, 31, 32, 32, 32, 32, random.randint(0, 32)])):
+        entries.append(pick(["s", f"a{inside(0, 500)}", f"w{inside(0, 12000)}"]))
+    if entries and chance(20):
+        entries[random.randrange(len(entries))] = pick([f"a{amount(0, 500, 90)}", f"w{amount(0, 12000, 90)}"])
+    if chance(3):
+        entries.insert(random.randrange(len(entries) + 1), pick(["", "a", "w", "A41400000", "b41400000", "41400000", "S", "ss", "s00000000", "-", "0"]))
+    if chance(3):
+        entries = (entries + ["s"] * 40)[: pick([32, 33, 33, 34, 40])]
+    return ",".join(entries) or "-"
+
+
+def drops(at):
+    """A call for a seat's drops, most often with all numbers in their ranges."""
+    return f"drops {at} {amount(1, 60, 5)} {amount(0, 0.01, 5)} {loads()}"
+
+
+def lamps(spread):
+    """A map opened, or a second one where the first is faulty; its drops asked for with several loads, at times an edit between them; the seat closed."""
+    at = random.randrange(8)
+    lines = [f"open {at} {100 + at} {pin_map(100 + at, spread)}" for _ in range(2)]
+    for _ in range(random.randint(1, 5)):
+        lines.append(drops(at))
+        if chance(30):
+            lines.append(f"{pick(['place', 'move'])} {at} {random.randrange(32)} {part(spread)} {part(spread)}")
+    return lines + [f"close {at}"]
+
+
 def look(spread):
     at = plain(seat())
-    call = pick(["pins", "pins", "wire", "wire", "wire", "write"])
+    call = pick(["pins", "pins", "wire", "wire", "wire", "write", "drops", "drops"])
     if call == "pins":
         return f"pins {at}"
+    if call == "drops":
+        return drops(at)
     if call == "wire":
         return f"wire {at} {plain(pick([64, 64, random.randint(0, 65)]))}{favour()}"
     return f"write {at} {plain(pick([0, 12, 24, 383, 384, 1024, 1025, random.randint(0, 400)]))}"
@@ -207,13 +286,15 @@ def spoiled(line):
 
 def log():
     spread = pick([1, 2, 3, 3, 5, 9, 30])
-    kind = random.randrange(8)
+    kind = random.randrange(9)
     if kind == 0:
         lines = full_journal(spread)
     elif kind == 1:
         lines = [bare(spread) for _ in range(120)]
     elif kind == 2:
         lines = [pick([opening(spread), opening(spread), f"close {seat()}", look(spread)]) for _ in range(150)]
+    elif kind == 3:
+        lines = [line for _ in range(40) for line in lamps(spread)]
     else:
         lines = [f"open {s} {100 + s} -" for s in range(8) if chance(60)] + [call(spread) for _ in range(300)]
     spoil = pick([0, 0, 0, 2, 10])

@@ -1,11 +1,16 @@
 // A second `replay`, in plain C, written from the rules: it plays a log of calls on one desk and prints each answer.
 // Nothing here is proved. The proved program is compared with it, for its answers and for its time.
 // Built with -DEVERY_CHOICE it finds the shapes by trying every choice, on boards of at most EVERY_CHOICE bent runs.
+#include <float.h>
 #include <stdbool.h>
 #include <stdint.h>
 #include <stdio.h>
 #include <stdlib.h>
 #include <string.h>
+
+// Every operation on floats is rounded once, to a float: a product and a sum are not made one, and nothing is kept in more digits.
+#pragma GCC optimize("fp-contract=off")
+_Static_assert(FLT_EVAL_METHOD == 0, "operations on floats give floats");
 
 enum { SEATS = 8, PINS = 32, RECORDS = 256, BOARD = 20000, RECORD_BYTES = 12, MAP_BYTES = 384, LEGS = 2 * (PINS - 1) };
 enum { LINE_BYTES = 16384, MAP_PAIRS = 4200, LIST_NUMBERS = 40, WRITE_ROOM = 1024, WIRE_ROOM = 64 };
@@ -267,9 +272,11 @@ typedef struct { int64_t distance, minus_dy, minus_x; int low, high; } Weight;
 
 static int64_t gap(int32_t a, int32_t b) { return llabs((int64_t)a - b); }
 
+static int64_t distance(Place a, Place b) { return gap(a.x, b.x) + gap(a.y, b.y); }
+
 static Weight weigh(const Pin *pins, int p, int q) {
     Place a = pins[p].at, b = pins[q].at;
-    return (Weight){gap(a.x, b.x) + gap(a.y, b.y), -gap(a.y, b.y), -(a.x > b.x ? a.x : b.x), p < q ? p : q, p < q ? q : p};
+    return (Weight){distance(a, b), -gap(a.y, b.y), -(a.x > b.x ? a.x : b.x), p < q ? p : q, p < q ? q : p};
 }
 
 static bool before(Weight v, Weight w) {
@@ -412,7 +419,7 @@ static uint64_t pin_cost(const Pin *pins, const Run *run, int n, Shape favoured,
             Arm a = arm(near, far, shape);
             int64_t shared = a.reach < longest[a.way] ? a.reach : longest[a.way];
             if (a.reach > longest[a.way]) longest[a.way] = a.reach;
-            sum += gap(near.x, far.x) + gap(near.y, far.y) - shared;
+            sum += distance(near, far) - shared;
             cost += below[on[i]][shape] + (shape == other_than(favoured) ? other_bit(on[i]) : 0);
         }
         cost += sum << CHOICE_BITS;
@@ -468,11 +475,17 @@ static int64_t choices_weighed(const Pin *pins, const Run *run, int n) {
     return sum;
 }
 
+// Joins the pins by runs: 17, 18.
+static Verdict join_pins(const Pin *pins, Run *run, int *runs) {
+    if (pins_there(pins) == 0) return refused(17);
+    *runs = grow(pins, run);
+    return boxes_meet(pins, run, *runs) ? refused(18) : accepted;
+}
+
 // Wires the pins: 17, 18, 19.
 static Verdict wire_pins(const Pin *pins, unsigned room, Shape favoured, Wiring *w) {
-    if (pins_there(pins) == 0) return refused(17);
-    w->runs = grow(pins, w->run);
-    if (boxes_meet(pins, w->run, w->runs)) return refused(18);
+    Verdict v = join_pins(pins, w->run, &w->runs);
+    if (v.number) return v;
     int64_t length = choose_shapes(pins, w->run, w->runs, favoured);
 #ifdef EVERY_CHOICE
     try_every_choice(pins, w->run, w->runs, favoured);
@@ -501,6 +514,66 @@ static Verdict wire_bare(const int32_t *xs, unsigned x_count, const int32_t *ys,
     return wire_pins(pins, room, favoured, w);
 }
 
+// ---- Volts lost to a lamp ----
+
+typedef enum { SPARE, AMPS, WATTS } LoadKind;
+typedef struct { LoadKind kind; float size; } Load;
+typedef struct { float volts, ohms; } Sheet;
+
+// From `low` to `high`, both ends included; a NaN is not.
+static bool from_to(float low, float high, float value) { return value >= low && value <= high; }
+
+// Amps from 0 to 500, watts from 0 to 12,000, or spare.
+static bool load_in_range(Load load) { return load.kind == SPARE || from_to(0, load.kind == AMPS ? 500 : 12000, load.size); }
+
+// Whether the sheet and the loads of the pins that are there can be worked with; loads of absent pins are not looked at.
+static bool all_in_range(const Pin *pins, Sheet sheet, const Load *loads) {
+    for (int p = 0; p < PINS; p++)
+        if (pins[p].there && !load_in_range(loads[p])) return false;
+    return from_to(1, 60, sheet.volts) && from_to(0, 0.01f, sheet.ohms);
+}
+
+// A load in amps: watts by one division, spare as 0.
+static float amps(Load load, float volts) {
+    if (load.kind == SPARE) return 0;
+    return load.kind == WATTS ? load.size / volts : load.size;
+}
+
+// Each run's current: its far pin's load plus the currents of the runs leading on from there, in run order; these are later runs, so the last is asked first.
+static void find_currents(const Run *run, int n, const Load *loads, float volts, float *current) {
+    for (int r = n - 1; r >= 0; r--) {
+        current[r] = amps(loads[run[r].far], volts);
+        for (int on = r + 1; on < n; on++)
+            if (run[on].near == run[r].far) current[r] += current[on];
+    }
+}
+
+// The drop of each pin that a run reaches: that of its near pin, which is known by then, plus the run's own. The feed's stays 0, as do those of absent pins.
+static void find_drops(const Pin *pins, const Run *run, int n, const float *current, float ohms, float *drop) {
+    for (int r = 0; r < n; r++) {
+        float steps = distance(pins[run[r].near].at, pins[run[r].far].at);
+        float lost = current[r] * ohms;
+        lost *= steps;
+        drop[run[r].far] = drop[run[r].near] + lost;
+    }
+}
+
+// The drops of a seat's pins, into 32 that are 0: 28, 1, 2, 17, 18, 20.
+static Verdict drops_of_seat(const Desk *desk, uint32_t seat, Sheet sheet, const Load *loads, float *drop) {
+    Run run[PINS - 1];
+    float current[PINS - 1];
+    int runs;
+    Verdict v = seat_refusal(desk, seat);
+    if (v.number) return v;
+    const Pin *pins = desk->seats[seat].pins;
+    v = join_pins(pins, run, &runs);
+    if (v.number) return v;
+    if (!all_in_range(pins, sheet, loads)) return refused(20);
+    find_currents(run, runs, loads, sheet.volts, current);
+    find_drops(pins, run, runs, current, sheet.ohms, drop);
+    return accepted;
+}
+
 // ---- Lines read ----
 
 typedef struct { const uint8_t *at; size_t bytes; } Word;
@@ -527,12 +600,19 @@ static bool read_signed(Word w, int32_t *value) {
     return true;
 }
 
+// The entry of a list that starts at byte `from`: what stands before the next comma, or the rest.
+static Word entry_from(Word list, size_t from) {
+    Word entry = {list.at + from, 0};
+    while (from + entry.bytes < list.bytes && entry.at[entry.bytes] != ',') entry.bytes++;
+    return entry;
+}
+
 static bool read_list(Word w, int32_t *list, unsigned *count) {
     *count = 0;
     if (is(w, "-")) return true;
     for (size_t i = 0; i <= w.bytes; i++) {
-        Word number = {w.at + i, 0};
-        while (i < w.bytes && w.at[i] != ',') i++, number.bytes++;
+        Word number = entry_from(w, i);
+        i += number.bytes;
         if (*count == LIST_NUMBERS || !read_signed(number, &list[*count])) return false;
         ++*count;
     }
@@ -553,6 +633,40 @@ static bool read_hex(Word w, uint8_t *map, size_t *bytes) {
         int high = hex_digit(w.at[2 * *bytes]), low = hex_digit(w.at[2 * *bytes + 1]);
         if (high < 0 || low < 0) return false;
         map[*bytes] = high << 4 | low;
+    }
+    return true;
+}
+
+// The eight hex digits of a float's bits.
+static bool read_float(Word w, float *value) {
+    uint32_t bits = 0;
+    if (w.bytes != 8) return false;
+    for (size_t i = 0; i < w.bytes; i++) {
+        int digit = hex_digit(w.at[i]);
+        if (digit < 0) return false;
+        bits = bits << 4 | (uint32_t)digit;
+    }
+    memcpy(value, &bits, sizeof *value);
+    return true;
+}
+
+// `s`, or `a` or `w` with the digits of its amps or watts.
+static bool read_load(Word w, Load *load) {
+    *load = (Load){SPARE, 0};
+    if (is(w, "s")) return true;
+    if (w.bytes == 0 || (w.at[0] != 'a' && w.at[0] != 'w')) return false;
+    load->kind = w.at[0] == 'a' ? AMPS : WATTS;
+    return read_float((Word){w.at + 1, w.bytes - 1}, &load->size);
+}
+
+// Loads by pin number, into 32 that are spare.
+static bool read_loads(Word w, Load *loads) {
+    int count = 0;
+    if (is(w, "-")) return true;
+    for (size_t i = 0; i <= w.bytes; i++) {
+        Word load = entry_from(w, i);
+        i += load.bytes;
+        if (count == PINS || !read_load(load, &loads[count++])) return false;
     }
     return true;
 }
@@ -581,6 +695,19 @@ static bool print_wiring(Verdict v, const Wiring *w) {
     printf("0 length %lld runs %d legs %d weighed %lld\n", (long long)w->length, w->runs, w->legs, (long long)w->weighed);
     for (int i = 0; i < w->runs; i++) printf("%d %d %s\n", w->run[i].near, w->run[i].far, word[w->run[i].shape]);
     for (int i = 0; i < w->legs; i++) printf("leg %d %d %d %d\n", w->leg[i].a.x, w->leg[i].a.y, w->leg[i].b.x, w->leg[i].b.y);
+    return true;
+}
+
+// The 32 drops, each as the eight hex digits of its bits.
+static bool print_drops(Verdict v, const float *drop) {
+    if (v.number) return print_verdict(v);
+    putchar('0');
+    for (int p = 0; p < PINS; p++) {
+        uint32_t bits;
+        memcpy(&bits, &drop[p], sizeof bits);
+        printf(" %08x", (unsigned)bits);
+    }
+    putchar('\n');
     return true;
 }
 
@@ -641,6 +768,16 @@ static bool play_wire(const Desk *desk, uint32_t seat, const Word *word, int wor
     return print_wiring(v, &w);
 }
 
+// Loads that are not said are spare, and drops are 0 until they are found.
+static bool play_drops(const Desk *desk, uint32_t seat, const Word *word, int words) {
+    Sheet sheet;
+    Load loads[PINS] = {0};
+    float drop[PINS] = {0};
+    if (words != 5 || !read_float(word[2], &sheet.volts) || !read_float(word[3], &sheet.ohms) || !read_loads(word[4], loads)) return false;
+    Verdict v = drops_of_seat(desk, seat, sheet, loads, drop);
+    return print_drops(v, drop);
+}
+
 // Plays a call and prints its answer; false where the words are not a call.
 static bool play_words(Desk *desk, const Word *word, int words) {
     uint64_t seat, n;
@@ -648,6 +785,7 @@ static bool play_words(Desk *desk, const Word *word, int words) {
     if (is(word[0], "bare")) return play_bare(word, words);
     if (words < 2 || !read_digits(word[1], UINT32_MAX, &seat)) return false;
     if (is(word[0], "wire")) return play_wire(desk, seat, word, words);
+    if (is(word[0], "drops")) return play_drops(desk, seat, word, words);
     if (words == 2) {
         if (is(word[0], "close")) return print_verdict(close_seat(desk, seat));
         if (is(word[0], "undo")) return print_verdict(undo(desk, seat));

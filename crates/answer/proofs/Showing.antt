@@ -18,9 +18,9 @@ use Rattle.desk.specs.Desk.{seatOf, editsOf, namingAt, answerOf}
 use Rattle.text.specs.Text.{answerBytes, Holds}
 use Rattle.desk.proofs.Sound.{used-within}
 use Rattle.desk.proofs.Found.{foundAt, found-answer, found-sound, found-seat}
+use Rattle.text.proofs.Printing.{held}
 use Rattle.printed.specs.Answers.{mostLineBytes, verdictLine, closedLine}
 use Rattle.shown.specs.Shown.{drawnText}
-use Rattle.shown.proofs.Lines.{held}
 use Rattle.answer.specs.Answered.{isNotOpen, seatText}
 
 module _ (d : Desk) (s : ℕ) {f : Found} (g : f ≡ foundAt d s) {v : Verdict} (e : v ≡ firstOf (namingFound f)) where

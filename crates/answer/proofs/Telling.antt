@@ -11,16 +11,19 @@ use Rattle.refusal.specs.Refusals.{accepted}
 use Rattle.copper.specs.declared.Favour.{Favour}
 use Rattle.wiring.specs.declared.Laid.{Laid}
 use Rattle.bare.specs.Bare.{bareOf}
+use Rattle.drops.specs.declared.Loaded.{Loaded}
+use Rattle.drops.specs.declared.Sheet.{Sheet}
 use Rattle.desk.specs.declared.Desk.{Desk}
 use Rattle.desk.specs.declared.Answered.{Answered}
 use Rattle.desk.specs.declared.Written.{Written}
 use Rattle.desk.specs.declared.Wired.{Wired}
+use Rattle.desk.specs.declared.Dropped.{Dropped}
 use Rattle.rows.specs.Calls.{Call}
-use Rattle.desk.specs.Desk.{step, writtenOf, bufferOf, wiredOf}
+use Rattle.desk.specs.Desk.{step, writtenOf, bufferOf, wiredOf, droppedOf}
 use Rattle.text.specs.Text.{mostRoom, answerBytes, Holds}
-use Rattle.printed.specs.Answers.{mostLineBytes, verdictLine, writtenLine}
+use Rattle.text.proofs.Printing.{held}
+use Rattle.printed.specs.Answers.{mostLineBytes, verdictLine, writtenLine, lostLine}
 use Rattle.shown.specs.Shown.{laidText}
-use Rattle.shown.proofs.Lines.{held}
 use Rattle.answer.specs.Answered.{callText, lentBytes, writingText}
 
 module _ (d : Desk) (old : List ℕ) {n : ℕ} {new : List ℕ} where
@@ -48,6 +51,11 @@ module _ (d : Desk) (old : List ℕ) {n : ℕ} {new : List ℕ} where
   pub wire-done : (s legs : ℕ) (favour : Favour) {w : Wired} → w ≡ wiredOf d s legs favour → Holds answerBytes (laidText (w .laid)) old n new
       → Holds answerBytes (laidText (wiredOf d s legs favour .laid)) old n new
   wire-done s legs favour e h = rw (← e) h
+
+  -- Drops, printed as they are answered.
+  pub drops-done : (s : ℕ) (loads : List Loaded) (sheet : Sheet) {w : Dropped} → w ≡ droppedOf d s loads sheet
+      → Holds answerBytes (lostLine (w .lost)) old n new → Holds answerBytes (lostLine (droppedOf d s loads sheet .lost)) old n new
+  drops-done s loads sheet e h = rw (← e) h
 
 -- A bare wiring is printed as it is laid.
 pub bare-done : (xs ys : List ℤ) (legs : ℕ) (favour : Favour) (old : List ℕ) {n : ℕ} {new : List ℕ} {l : Laid} → l ≡ bareOf xs ys legs favour

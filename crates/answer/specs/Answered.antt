@@ -15,13 +15,13 @@ use Rattle.bare.specs.Bare.{bareOf}
 use Rattle.rows.specs.Calls.{Call, opening, closing, making, undoing, redoing}
 use Rattle.rows.specs.Refusals.{Look}
 use Rattle.desk.specs.declared.Desk.{Desk}
-use Rattle.desk.specs.Desk.{lookAt, namingAt, step, writtenOf, bufferOf, wiredOf}
+use Rattle.desk.specs.Desk.{lookAt, namingAt, step, writtenOf, bufferOf, wiredOf, droppedOf}
 use Rattle.script.specs.declared.Said.{Said}
-use Rattle.script.specs.Said.{saidBy, mapGiven, xsGiven, ysGiven, favourGiven}
-use Rattle.printed.specs.Answers.{verdictLine, writtenLine, closedLine, notACallLine}
+use Rattle.script.specs.Said.{saidBy, mapGiven, xsGiven, ysGiven, favourGiven, sheetGiven, loadsGiven}
+use Rattle.printed.specs.Answers.{verdictLine, writtenLine, closedLine, lostLine, notACallLine}
 use Rattle.shown.specs.Shown.{laidText, drawnText}
 
--- What the desk is after what a line says. Writing, wiring and showing leave the desk as it is, and so does what is not a call.
+-- What the desk is after what a line says. Writing, wiring, drops and showing leave the desk as it is, and so does what is not a call.
 unfoldable pub followed : Desk → List ℕ → Said → Desk
 followed d line Said.Skip = d
 followed d line Said.NotACall = d
@@ -35,6 +35,7 @@ followed d line (Said.Redo s) = step d (redoing s) .desk
 followed d line (Said.Write s room) = d
 followed d line (Said.Wire s room) = d
 followed d line (Said.Bare room) = d
+followed d line (Said.Drops s) = d
 followed d line (Said.Pins s) = d
 
 -- What a line makes of the desk.
@@ -81,6 +82,7 @@ printed d number line (Said.Redo s) = callText d (redoing s)
 printed d number line (Said.Write s room) = writingText d s (lentBytes room)
 printed d number line (Said.Wire s room) = laidText (wiredOf d s room (favourGiven 3 line) .laid)
 printed d number line (Said.Bare room) = laidText (bareOf (xsGiven line) (ysGiven line) room (favourGiven 4 line))
+printed d number line (Said.Drops s) = lostLine (droppedOf d s (loadsGiven line) (sheetGiven line) .lost)
 printed d number line (Said.Pins s) = seatText d s
 
 -- What the line of that number prints.

@@ -2,6 +2,7 @@
 use desk::Answered;
 use desk::Desk;
 use printed::print_closed;
+use printed::print_drops;
 use printed::print_not_a_call;
 use printed::print_verdict;
 use printed::print_written;
@@ -18,10 +19,10 @@ ghost use Prim.Native.Nat.{_≤_};
 ghost use lib.ListN.{length};
 ghost use Rattle.bare.specs.Bare.{bareOf};
 ghost use Rattle.rows.specs.Calls.{opening};
-ghost use Rattle.desk.specs.Desk.{step, wiredOf};
+ghost use Rattle.desk.specs.Desk.{step, wiredOf, droppedOf};
 ghost use Rattle.text.specs.Text.{over, mostRoom, answerBytes, Holds};
-ghost use Rattle.script.specs.Said.{mapGiven, xsGiven, ysGiven, favourGiven};
-ghost use Rattle.printed.specs.Answers.{verdictLine};
+ghost use Rattle.script.specs.Said.{mapGiven, xsGiven, ysGiven, favourGiven, sheetGiven, loadsGiven};
+ghost use Rattle.printed.specs.Answers.{verdictLine, lostLine};
 ghost use Rattle.shown.specs.Shown.{laidText};
 ghost use Rattle.answer.specs.Answered.{played, callText, lentBytes, writingText, isNotOpen, seatText, answered};
 
@@ -103,6 +104,17 @@ fn wire_bare(line: &[u8], room: usize, out: &mut [u8; ANSWER_BYTES]) -> usize
     print_laid(laid, out)
 }
 
+// Asks for the drops of a seat, with the sheet and the loads that the line gives.
+fn drops(desk: Desk, seat: usize, line: &[u8], out: &mut [u8; ANSWER_BYTES]) -> usize
+    ensures { λ r. ⌜ Holds answerBytes (lostLine (droppedOf desk seat (loadsGiven (now (line .entry))) (sheetGiven (now (line .entry))) .lost)) (now (out .entry)) r (now (out .exit)) ⌝ }
+{
+    let loads = script::given_loads(line);
+    let sheet = script::given_sheet(line);
+    let dropped = desk.drops(seat, loads, sheet);
+    let lost = dropped.lost;
+    print_drops(lost, out)
+}
+
 // Whether a verdict is 2: the seat is not open.
 fn is_not_open(verdict: Verdict) -> bool
     ensures { λ r. ⌜ r ≡ isNotOpen verdict ⌝ }
@@ -162,6 +174,10 @@ pub fn answer_line(desk: Desk, number: usize, line: &[u8], out: &mut [u8; ANSWER
         }
         Said::Bare { room } => {
             let bytes = wire_bare(line, room, out);
+            Answer { desk, bytes }
+        }
+        Said::Drops { seat } => {
+            let bytes = drops(desk, seat, line, out);
             Answer { desk, bytes }
         }
         Said::Pins { seat } => {

@@ -1,5 +1,6 @@
 // Tries 28 on desks broken by hand, one or more for each way that the rules list: every call on each of them, on the whole desk that they were made from, and on it with its unused parts changed.
 use board::LIMIT;
+use board::PINS;
 use board::Place;
 use copper::Favour;
 use desk::Answered;
@@ -8,6 +9,9 @@ use drawing::Edit;
 use drawing::Held;
 use drawing::Pin;
 use drawing::Stand;
+use drops::Load;
+use drops::Loaded;
+use drops::Sheet;
 use journal::RECORDS;
 use journal::Record;
 use pinmap::MOST_BYTES;
@@ -218,7 +222,20 @@ fn try_changes(desk: Desk) {
     tell_answer(b" redo ", desk.redo(0));
 }
 
-// Writes and wires seat 0, and undoes at seat 8, where 28 comes before 1.
+// Asks for the volts lost at seat 0, with nothing to feed.
+fn try_drops(desk: Desk) {
+    let spare = Loaded { load: Load::Spare };
+    let sheet = Sheet {
+        volts: 12.0,
+        ohms: 0.001,
+    };
+    let dropped = desk.drops(0, [spare; PINS], sheet);
+    let lost = dropped.lost;
+    let verdict = lost.verdict;
+    tell(b" drops ", verdict);
+}
+
+// Writes and wires seat 0, asks for its volts lost, and undoes at seat 8, where 28 comes before 1.
 fn try_others(desk: Desk) {
     let mut buffer = [0u8; MOST_BYTES];
     let written = desk.write(0, &mut buffer);
@@ -229,6 +246,7 @@ fn try_others(desk: Desk) {
     let wiring = laid.wiring;
     let verdict = wiring.verdict;
     tell(b" wire ", verdict);
+    try_drops(desk);
     tell_answer(b" undo at 8 ", desk.undo(8));
 }
 

@@ -1,4 +1,4 @@
--- What writing a map and wiring a seat hand back: the answer, the number of bytes and the buffer, and the legs. From what is found; assumes nothing.
+-- What writing a map, wiring a seat and telling its volts lost hand back: the answer, the number of bytes and the buffer, the legs, the drops. From what is found; assumes nothing.
 use mathlib.Core.Path.{_≡_, refl, ap, _∙_}
 use mathlib.Core.Bool.{Bool, true, false, not, false≢true}
 use mathlib.Core.List.{List, _++_}
@@ -12,15 +12,20 @@ use Rattle.refusal.specs.Rows.{Row, firstOf}
 use Rattle.drawing.specs.Pins.{lawful, feedOf}
 use Rattle.pinmap.specs.declared.Writing.{Writing}
 use Rattle.pinmap.specs.Map.{mapOf, roomRows, writeBy, bufferBy}
+use Rattle.drops.specs.declared.Loaded.{Loaded}
+use Rattle.drops.specs.declared.Sheet.{Sheet}
+use Rattle.drops.specs.declared.Lost.{Lost}
+use Rattle.drops.specs.Drops.{dropRows, dropsOf, lostBy}
 use Rattle.wiring.specs.declared.Laid.{Laid}
 use Rattle.journal.specs.Journal.{mostSeats}
 use Rattle.rows.specs.declared.Found.{Found}
-use Rattle.rows.specs.Calls.{asking, writing}
+use Rattle.rows.specs.Calls.{asking, writing, dropping}
 use Rattle.rows.specs.Found.{namingFound, wiredBy}
 use Rattle.desk.specs.declared.Desk.{Desk}
 use Rattle.desk.specs.declared.Written.{Written}
 use Rattle.desk.specs.declared.Wired.{Wired}
-use Rattle.desk.specs.Desk.{closedSeat, seatOf, namingAt, rowsAt, mapAt, sound, writtenOf, bufferOf, wiredOf}
+use Rattle.desk.specs.declared.Dropped.{Dropped}
+use Rattle.desk.specs.Desk.{closedSeat, seatOf, namingAt, rowsAt, mapAt, sound, writtenOf, bufferOf, wiredOf, droppedOf}
 use Rattle.desk.proofs.Sound.{pins-lawful}
 use Rattle.desk.proofs.Found.{foundAt}
 use Rattle.copper.specs.declared.Favour.{Favour}
@@ -41,11 +46,15 @@ writeFound buffer f = writeBy (rowsFound f buffer) (mapFound f)
 abbrev bufferFound : List ℕ → Found → List ℕ
 bufferFound buffer f = bufferBy (rowsFound f buffer) (mapFound f) buffer
 
+-- the volts lost,
+abbrev lostFound : List Loaded → Sheet → Found → Lost
+lostFound loads sheet f = lostBy (namingFound f ++ dropRows (feedOf (f .state .pins)) loads sheet) (dropsOf (feedOf (f .state .pins)) loads sheet)
+
 -- and how it is wired.
 abbrev wireFound : ℕ → Favour → Found → Laid
 wireFound room favour f = wiredBy (namingFound f) (feedOf (f .state .pins)) room favour
 
--- Writing and wiring look at the seat only where neither 28 nor 1 applies.
+-- These look at the seat only where neither 28 nor 1 applies.
 module _ (d : Desk) (s : ℕ) where
   -- What is found writes what the seat does,
   written-by : (buffer : List ℕ) (b t : Bool) → not (sound d) ≡ b → leb mostSeats s ≡ t
@@ -55,6 +64,14 @@ module _ (d : Desk) (s : ℕ) where
   written-by buffer true t k e = (rw k, rw k)
   written-by buffer false true k e = (rw (k, e), rw (k, e))
   written-by buffer false false k e = (rw (k, e), rw (k, e))
+
+  -- loses what it does,
+  lost-by : (loads : List Loaded) (sheet : Sheet) (b t : Bool) → not (sound d) ≡ b → leb mostSeats s ≡ t
+      → lostFound loads sheet (foundAt d s) ≡ lostBy (rowsAt d (asking s (dropping loads sheet))) (dropsOf (feedOf (seatOf d s .pins)) loads sheet)
+  unfolding sound accepted firstOf choose
+  lost-by loads sheet true t k e = rw k
+  lost-by loads sheet false true k e = rw (k, e)
+  lost-by loads sheet false false k e = rw (k, e)
 
   -- and is wired as it is.
   wired-by : (room : ℕ) (favour : Favour) (b t : Bool) → not (sound d) ≡ b → leb mostSeats s ≡ t
@@ -71,6 +88,13 @@ module _ (d : Desk) (s : ℕ) {f : Found} (g : f ≡ foundAt d s) where
   wire-laid room favour e =
       let q = e ∙ ap (wireFound room favour) g ∙ wired-by d s room favour _ _ refl refl in
       λ i. record { desk = d; laid = q i }
+
+  -- Volts lost: the answer with its drops.
+  pub drops-told : (loads : List Loaded) (sheet : Sheet) {w : Lost} → w ≡ lostFound loads sheet f → _≡_ {A = Dropped} (record { desk = d; lost = w }) (droppedOf d s loads sheet)
+  unfolding droppedOf
+  drops-told loads sheet e =
+      let q = e ∙ ap (lostFound loads sheet) g ∙ lost-by d s loads sheet _ _ refl refl in
+      λ i. record { desk = d; lost = q i }
 
   -- Writing: the answer and the number of bytes,
   pub write-done : (b : List ℕ) {w : Writing} → w ≡ writeFound b f

@@ -14,12 +14,15 @@ use Rattle.pinmap.specs.declared.Writing.{Writing}
 use Rattle.pinmap.specs.Map.{readMap, mapOf, writeBy, bufferBy}
 use Rattle.copper.specs.declared.Favour.{Favour}
 use Rattle.copper.specs.declared.Leg.{Leg}
+use Rattle.drops.specs.declared.Loaded.{Loaded}
+use Rattle.drops.specs.declared.Sheet.{Sheet}
+use Rattle.drops.specs.Drops.{dropsOf, lostBy}
 use Rattle.lent.specs.Lent.{filledWith}
 use Rattle.journal.specs.declared.Record.{Record}
 use Rattle.journal.specs.Journal.{mostSeats, mostRecords, blank, own, kept, added, compacted}
 use Rattle.seats.specs.declared.Seat.{Seat}
 use Rattle.seats.specs.Seats.{editedSeat, undoneSeat, redoneSeat, takenBackCount}
-use Rattle.rows.specs.Calls.{Call, seatIn, opening, closing, making, undoing, redoing, asking, writing}
+use Rattle.rows.specs.Calls.{Call, seatIn, opening, closing, making, undoing, redoing, asking, writing, dropping}
 use Rattle.rows.specs.Refusals.{Look, namingRows, rowsOf}
 use Rattle.rows.specs.Found.{wiredBy}
 use Rattle.desk.specs.declared.Desk.{Desk}
@@ -27,6 +30,7 @@ use Rattle.desk.specs.declared.Answered.{Answered}
 use Rattle.desk.specs.declared.Written.{Written}
 use Rattle.desk.specs.declared.Wired.{Wired}
 use Rattle.desk.specs.declared.WiredSeat.{WiredSeat}
+use Rattle.desk.specs.declared.Dropped.{Dropped}
 pub use Rattle.seats.specs.Seats.{closedSeat, noSeat, openSeat, withPins, jobsIn, jobsApart}
 pub use Rattle.seats.specs.Sound.{standingAmong, takenBackAmong}
 unfoldable pub use Rattle.seats.specs.Seats.{jobOf}
@@ -160,3 +164,8 @@ wiredSeatOf d s lent favour = record { desk = d; wiring = wiredOf d s (length le
 -- The lent list of legs after wiring: filled with the legs, entries after these as they were; where it is refused, there are none.
 unfoldable pub lentOf : Desk → ℕ → List Leg → Favour → List Leg
 lentOf d s lent favour = filledWith (wiredOf d s (length lent) favour .laid) lent
+
+-- The volts lost to the pins of a seat, for these loads and this board sheet: the desk as it is, and the answer.
+unfoldable pub droppedOf : Desk → ℕ → List Loaded → Sheet → Dropped
+droppedOf d s loads sheet =
+    record { desk = d; lost = lostBy (rowsAt d (asking s (dropping loads sheet))) (dropsOf (feedOf (seatOf d s .pins)) loads sheet) }

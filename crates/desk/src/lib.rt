@@ -1,10 +1,14 @@
 // The desk: its seats and its journal, whether it is broken, and the calls that take it as it stands and hand back the desk that follows.
+use board::PINS;
 use board::Place;
 use copper::Favour;
 use copper::Leg;
 use drawing::Edit;
 use drawing::Held;
 use drawing::stated::Making;
+use drops::Loaded;
+use drops::Lost;
+use drops::Sheet;
 use journal::RECORDS;
 use journal::Record;
 use journal::SEATS;
@@ -22,7 +26,7 @@ ghost use Rattle.drawing.specs.Pins.{holding};
 ghost use Rattle.journal.specs.Journal.{mostSeats, mostRecords, recorded, kept};
 ghost use Rattle.rows.specs.Calls.{opening, closing, making, undoing, redoing};
 ghost use Rattle.rows.specs.Found.{foundIn};
-ghost use Rattle.desk.specs.Desk.{emptyDesk, seatOf, inUse, sound, refused, withSeat, withRecord, freed, edited, step, writtenOf, bufferOf, wiredOf, wiredSeatOf, lentOf};
+ghost use Rattle.desk.specs.Desk.{emptyDesk, seatOf, inUse, sound, refused, withSeat, withRecord, freed, edited, step, writtenOf, bufferOf, wiredOf, wiredSeatOf, lentOf, droppedOf};
 
 // A desk: its seats, and the journal that they share, of which the first `used` records are in use.
 pub struct Desk {
@@ -54,6 +58,12 @@ pub struct Wired {
 pub struct WiredSeat {
     pub desk: Desk,
     pub wiring: Wiring,
+}
+
+// What the call for volts lost hands back: the desk as it is, and the answer.
+pub struct Dropped {
+    pub desk: Desk,
+    pub lost: Lost,
 }
 
 impl Desk {
@@ -300,6 +310,15 @@ impl Desk {
         let found = self.find(seat);
         let laid = rows::feed_wired(found, room, favour);
         Wired { desk: self, laid }
+    }
+
+    // The volts lost to each pin of the drawing at `seat`, for these loads, one for each pin number, and this board sheet; or says why not. The desk stays as it is.
+    pub fn drops(self, seat: usize, loads: [Loaded; PINS], sheet: Sheet) -> Dropped
+        ensures { λ r. ⌜ r ≡ droppedOf self seat loads sheet ⌝ }
+    {
+        let found = self.find(seat);
+        let lost = rows::feed_dropped(found, loads, sheet);
+        Dropped { desk: self, lost }
     }
 
     // Wires the drawing at `seat` and fills a lent list with its legs, or says why not. Entries after the legs keep what they held.

@@ -15,3 +15,4 @@ pub mod Maps
 pub mod Leaving
 pub mod Best
 pub mod Standing
+pub mod Lost

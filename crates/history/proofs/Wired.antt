@@ -2,7 +2,7 @@
 -- as it was. From the rows of the calls, the tree's boxes and what a refused wiring of a feed is; assumes nothing.
 use mathlib.Core.Path.{_≡_, refl, sym, _∙_}
 use mathlib.Core.Bool.{true, false, not, true≢false}
-use mathlib.Core.List.{List, _++_}
+use mathlib.Core.List.{List, [], _∷_, _++_}
 use Prim.Native.Nat.{ℕ}
 use native.Mathlib.Omega.{arith}
 use borrow.Author.Tests.{not-false, leb-false}
@@ -21,13 +21,16 @@ use Rattle.pinmap.specs.Map.{mapRows}
 use Rattle.pinmap.proofs.Judging.{notOfMap, map-differs}
 use Rattle.journal.specs.Journal.{mostSeats}
 use Rattle.spanning.proofs.Apart.{never-meet}
+use Rattle.tree.specs.Trees.{treeRows}
+use Rattle.drops.specs.declared.Loaded.{Loaded}
+use Rattle.drops.specs.declared.Sheet.{Sheet}
 use Rattle.copper.specs.declared.Favour.{Favour}
 use Rattle.copper.specs.declared.Leg.{Leg}
 use Rattle.wiring.specs.Answer.{wiringOf, feedRows}
 use Rattle.wiring.proofs.Refusing.{laid-behind, wiring-verdict}
 use Rattle.wiring.specs.Demand.{Alone, Empty}
 use Rattle.lent.proofs.Untouched.{turned-by, wiring-turned, alone-empty, untouched}
-use Rattle.rows.specs.Calls.{Call, opening, closing, making, undoing, redoing, asking, writing, wiring}
+use Rattle.rows.specs.Calls.{Call, opening, closing, making, undoing, redoing, asking, writing, wiring, dropping}
 use Rattle.rows.specs.Refusals.{takingRows}
 use Rattle.rows.proofs.Rows.{naming-apart}
 use Rattle.desk.specs.declared.Desk.{Desk}
@@ -54,13 +57,21 @@ wired-exactly d s room favour = rw (wired-verdict d s room favour) (each-refusal
 
 -- ---- 18 never comes
 
--- Wiring a seat is never answered 18: past 28, 1 and 2 its pins are on the board, so that no boxes meet.
-wiring-never-18 : (d : Desk) (s room : ℕ) (favour : Favour) → step d (asking s (wiring room favour)) .verdict ≡ BoxesMeet → ⊥
+-- A call for a seat's runs, which 17 and 18 turn away after 28, 1 and 2, is never answered 18: past these its pins are on the board, so that no boxes meet.
+runs-never-18 : (d : Desk) (s : ℕ) (r : Row) (v : Verdict) → Exactly (namingAt d s ++ (treeRows (feedOf (seatOf d s .pins)) ++ (r ∷ []))) v → v ≡ BoxesMeet → ⊥
 unfolding refusalAt Given
-wiring-never-18 d s room favour e =
-    let g = each-refusal-exactly d (asking s (wiring room favour)) .refused 4 (omega arith) .0 e in
+runs-never-18 d s r v x e =
+    let g = x .refused 4 (omega arith) .0 e in
     let l : lawful (seatOf d s .pins) ≡ true = pins-lawful d (not-false _ (g .0)) s (leb-false mostSeats s (g .1 .0)) (not-false _ (g .1 .1 .0)) in
     true≢false (sym (g .1 .1 .1 .1) ∙ never-meet (spotsOf (seatOf d s .pins)) (feed-long _ l) (lawful-parts _ l .board))
+
+-- So it is with wiring a seat,
+wiring-never-18 : (d : Desk) (s room : ℕ) (favour : Favour) → step d (asking s (wiring room favour)) .verdict ≡ BoxesMeet → ⊥
+wiring-never-18 d s room favour e = runs-never-18 d s _ _ (each-refusal-exactly d (asking s (wiring room favour))) e
+
+-- and with the volts lost in it.
+dropping-never-18 : (d : Desk) (s : ℕ) (loads : List Loaded) (sheet : Sheet) → step d (asking s (dropping loads sheet)) .verdict ≡ BoxesMeet → ⊥
+dropping-never-18 d s loads sheet e = runs-never-18 d s _ _ (each-refusal-exactly d (asking s (dropping loads sheet))) e
 
 -- The rows of an edit have other refusals.
 edit-differs : (d : Desk) (s : ℕ) (m : Making) → Differs BoxesMeet (rowsAt d (making s m))
@@ -87,6 +98,7 @@ never-18 d (redoing s) e = other-rows (rowsAt d (redoing s)) (differs-by BoxesMe
 never-18 d (asking s (writing room)) e =
     other-rows (rowsAt d (asking s (writing room))) (differs-by BoxesMeet (rowsAt d (asking s (writing room))) refl) e
 never-18 d (asking s (wiring room favour)) e = wiring-never-18 d s room favour e
+never-18 d (asking s (dropping loads sheet)) e = dropping-never-18 d s loads sheet e
 
 -- nor does the answer of wiring a seat carry it.
 pub wired-never-18 : (d : Desk) (s room : ℕ) (favour : Favour) → wiredOf d s room favour .laid .wiring .verdict ≡ BoxesMeet → ⊥

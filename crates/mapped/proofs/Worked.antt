@@ -27,10 +27,10 @@ use Rattle.pinmap.specs.Record.{recordOf, faulty}
 use Rattle.pinmap.specs.Map.{recordsIn, withPinOf, withPinsOf, rowsFrom, wrongLength, readMap}
 use Rattle.seats.specs.Seats.{sameJob}
 use Rattle.desk.specs.Desk.{jobOf, soundOpen, soundClosed, soundSeat, soundTo, sound, effect, answerOf, step, emptyDesk, wiredOf}
-use Rattle.text.specs.Text.{text}
+use Rattle.text.specs.Text.{text, textForEach}
 use Rattle.text.specs.Digits.{digits}
 use Rattle.printed.specs.Answers.{carriedText, toldLine, jobLine, runLine}
-use Rattle.shown.specs.Shown.{entryLine, lineForEach, jobText, mapText}
+use Rattle.shown.specs.Shown.{entryLine, jobText, mapText}
 use Rattle.mapped.specs.Mapped.{jobOfMap, openedWith, wiredWith, mapAnswer}
 use Rattle.mapped.proofs.Opening.{opened, printed-refused}
 
@@ -49,7 +49,7 @@ W3 = placed 0 0 (0 ∷ 0 ∷ 0 ∷ 0 ∷ []) ++ placed 1 4 (0 ∷ 0 ∷ 0 ∷ 2 
 
 -- For W3 exactly these three lines are printed.
 W3-holds : mapAnswer W3 ≡ text "job 7 length 8 runs 2 weighed 5\n0 1 lower\n1 2 straight\n"
-unfolding jobOfMap openedWith wiredWith mapAnswer mapText jobText lineForEach entryLine runLine jobLine digits wiredOf step effect answerOf
+unfolding jobOfMap openedWith wiredWith mapAnswer mapText jobText textForEach entryLine runLine jobLine digits wiredOf step effect answerOf
     sameJob sound soundTo soundSeat soundOpen soundClosed jobOf emptyDesk readMap wrongLength rowsFrom recordsIn withPinsOf recordOf numberAt faulty
     withPinOf own filled inTurn isThere spotsTooNear tooNearOther crowded within spotOf spotsOf lawful wiringOf wiringFavouring wiringWith
     answerWith turnedAway legEntries runEntries shapedRuns weighedOf sum weighedAt howMany bent bestChoice shortestOf shortest lengthOfChoice legsOfChoice choicesOf

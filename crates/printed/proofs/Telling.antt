@@ -1,15 +1,19 @@
--- What a host is told, and the bytes that it lent, are printed as the definitions say. Assumes nothing.
-use mathlib.Core.Path.{_≡_, refl}
+-- What a host is told, the bytes that it lent, and drops are printed as the definitions say. Assumes nothing.
+use mathlib.Core.Path.{_≡_, refl, sym}
+use mathlib.Core.Bool.{true, false}
 use mathlib.Core.List.{List, [], _∷_, _++_}
 use Prim.Native.Nat.{ℕ}
 use native.Mathlib.Omega.{arith}
 use lib.ListN.{length}
 use borrow.Author.Tests.{eq-eqb, ne-eqb}
 use Rattle.basics.specs.Tests.{choose}
+use Rattle.basics.proofs.Tests.{choose-yes, choose-no}
+use Rattle.refusal.specs.Refusals.{accepted}
 use Rattle.refusal.specs.declared.Told.{Told}
-use Rattle.text.specs.Text.{text}
+use Rattle.drops.specs.declared.Lost.{Lost}
+use Rattle.text.specs.Text.{text, textForEach}
 use Rattle.text.specs.Digits.{field, hex}
-use Rattle.printed.specs.Answers.{hexPart, carriedText, toldLine}
+use Rattle.printed.specs.Answers.{hexPart, carriedText, toldLine, verdictLine, dropText, dropsLine, lostLine}
 
 -- An accepted call is told by 0,
 pub told-zero : (t : Told) → t .number ≡ 0 → text "0\n" ≡ toldLine t
@@ -32,3 +36,13 @@ pub lent-some : (l : List ℕ) → (length l ≡ 0 → ⊥) → text " " ++ hex 
 unfolding hexPart
 lent-some [] h = absurd (h refl)
 lent-some (b ∷ rest) h = refl
+
+-- Drops that are refused print the line of the verdict,
+pub lost-refused : (lost : Lost) → accepted (lost .verdict) ≡ false → verdictLine (lost .verdict) ≡ lostLine lost
+unfolding lostLine
+lost-refused lost h = sym (choose-no (dropsLine (lost .drops)) (verdictLine (lost .verdict)) h)
+
+-- and accepted ones every drop.
+pub lost-accepted : (lost : Lost) → accepted (lost .verdict) ≡ true → text "0" ++ textForEach dropText (lost .drops) ++ text "\n" ≡ lostLine lost
+unfolding lostLine dropsLine
+lost-accepted lost h = sym (choose-yes (dropsLine (lost .drops)) (verdictLine (lost .verdict)) h)

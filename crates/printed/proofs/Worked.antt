@@ -1,12 +1,15 @@
 -- Answers of each kind printed, by the definitions alone. Assumes nothing.
 use mathlib.Core.Path.{_≡_, refl}
+use mathlib.Core.Bool.{true, false}
 use mathlib.Core.List.{[], _∷_, _++_}
 use lib.IntN.{pos, negsuc}
+use lib.Ieee.{nan, inf, fin, toBits}
 use Rattle.basics.specs.Tests.{choose}
+use Rattle.refusal.specs.Refusals.{accepted}
 use Rattle.refusal.specs.declared.Verdict.{Verdict}
-use Rattle.text.specs.Text.{text}
-use Rattle.text.specs.Digits.{digits, integer, placeText, hexDigit, hex}
-use Rattle.printed.specs.Answers.{carriedText, toldLine, verdictLine, hexPart, writtenLine, wiredLine, jobLine, runLine, legLine, closedLine, drawingLine, pinLine, notACallLine}
+use Rattle.text.specs.Text.{text, textForEach}
+use Rattle.text.specs.Digits.{digits, integer, placeText, hexDigit, hex, floatText}
+use Rattle.printed.specs.Answers.{carriedText, toldLine, verdictLine, hexPart, writtenLine, wiredLine, jobLine, runLine, legLine, closedLine, drawingLine, pinLine, dropText, dropsLine, lostLine, notACallLine}
 
 -- Answers of each kind.
 pub printed :
@@ -19,3 +22,15 @@ pub printed :
     ++ text "job 65535 pins 32 standing 0 taken 256\npin 31 10 -1\n"
 unfolding choose digits integer placeText hexDigit hex carriedText toldLine hexPart writtenLine wiredLine jobLine runLine legLine drawingLine pinLine notACallLine
 printed = refl
+
+-- Drops: 0, 12, -0, the least above 0, an infinity and a NaN; and drops that are refused.
+pub printed-drops :
+    lostLine
+    (record {
+      verdict = Verdict.Accepted;
+      drops = fin false 0 (pos 0) ∷ fin false 3 (pos 2) ∷ fin true 0 (pos 0) ∷ fin false 1 (negsuc 148) ∷ inf true ∷ nan ∷ [];
+    })
+    ++ lostLine (record { verdict = Verdict.OutOfRange; drops = [] })
+    ≡ text "0 00000000 41400000 80000000 00000001 ff800000 7fc00000\nrefused 20\n"
+unfolding choose accepted digits toBits hexDigit hex floatText textForEach carriedText toldLine dropText dropsLine lostLine
+printed-drops = refl

@@ -3,17 +3,19 @@ use mathlib.Core.List.{List, [], _∷_, _++_}
 use Prim.Native.Nat.{ℕ}
 use lib.Dec.{eqb}
 use lib.ListN.{take}
+use lib.Ieee.{Float}
 use Rattle.basics.specs.Tests.{choose}
-use Rattle.refusal.specs.Refusals.{toldOf}
+use Rattle.refusal.specs.Refusals.{accepted, toldOf}
 use Rattle.refusal.specs.declared.Verdict.{Verdict}
 use Rattle.refusal.specs.declared.Carried.{Carried}
 use Rattle.refusal.specs.declared.Carried.the-variants.{Nothing, Record}
 use Rattle.refusal.specs.declared.Told.{Told}
 use Rattle.board.specs.declared.Place.{Place}
-use Rattle.text.specs.Text.{text, mostRoom}
-use Rattle.text.specs.Digits.{field, placeText, hex}
+use Rattle.drops.specs.declared.Lost.{Lost}
+use Rattle.text.specs.Text.{text, textForEach, mostRoom}
+use Rattle.text.specs.Digits.{field, placeText, hex, floatText}
 
--- The line of an answer, but that of a writing, has at most so many bytes.
+-- The line of an answer, but that of a writing or of drops, has at most so many bytes.
 abbrev pub mostLineBytes : ℕ
 mostLineBytes = 200
 
@@ -40,6 +42,10 @@ mostCarriedBytes = 30
 -- A lent buffer in hex, a space before it, has at most so many bytes.
 abbrev pub mostHexBytes : ℕ
 mostHexBytes = 2049
+
+-- A drop has so many bytes.
+abbrev pub mostDropBytes : ℕ
+mostDropBytes = 9
 
 -- What a refusal carries: nothing, or ` record R`.
 unfoldable pub carriedText : Carried → List ℕ
@@ -93,6 +99,18 @@ drawingLine job pins standing taken =
 -- A pin of a drawing: `pin P X Y`.
 unfoldable pub pinLine : ℕ → Place → List ℕ
 pinLine pin place = field "pin " pin ++ placeText (text " ") place ++ text "\n"
+
+-- A drop: a space and the bits of an f32 as eight hex digits.
+unfoldable pub dropText : Float → List ℕ
+dropText x = text " " ++ floatText x
+
+-- Accepted drops: `0`, then each of them, by pin number.
+unfoldable pub dropsLine : List Float → List ℕ
+dropsLine drops = text "0" ++ textForEach dropText drops ++ text "\n"
+
+-- The answer of a call that asks for drops; where it is refused, the line of its verdict.
+unfoldable pub lostLine : Lost → List ℕ
+lostLine lost = choose (accepted (lost .verdict)) (dropsLine (lost .drops)) (verdictLine (lost .verdict))
 
 -- What is not a call: `line K: not a call`.
 unfoldable pub notACallLine : ℕ → List ℕ

@@ -1,6 +1,8 @@
 // Answers printed into a lent buffer, a line each: from its start on, with the bytes printed told, or from a position on, with the position after them told.
 use basics::smaller;
+use board::PINS;
 use board::Place;
+use drops::Lost;
 use refusal::Carried;
 use refusal::Told;
 use refusal::Verdict;
@@ -9,14 +11,16 @@ use text::MOST_ROOM;
 use text::put::put;
 use text::put::put_decimal;
 use text::put::put_field;
+use text::put::put_float;
 use text::put::put_hex;
 use text::put::put_place;
 ghost use mathlib.Core.Path.{_≡_};
-ghost use Prim.Native.Nat.{_+_, _≤_};
+ghost use Prim.Native.Nat.{_+_, _*_, _≤_};
 ghost use lib.ListN.{length};
 ghost use lib.Seq.{sets};
-ghost use Rattle.text.specs.Text.{over, mostRoom, answerBytes, Holds};
-ghost use Rattle.printed.specs.Answers.{mostLineBytes, mostRunBytes, mostLegBytes, mostPinBytes, mostShapeBytes, mostCarriedBytes, mostHexBytes, hexPart, carriedText, toldLine, verdictLine, writtenLine, wiredLine, jobLine, runLine, legLine, closedLine, drawingLine, pinLine, notACallLine};
+ghost use Rattle.board.specs.Spots.{mostPins};
+ghost use Rattle.text.specs.Text.{textForEach, over, mostRoom, answerBytes, Holds};
+ghost use Rattle.printed.specs.Answers.{mostLineBytes, mostRunBytes, mostLegBytes, mostPinBytes, mostShapeBytes, mostCarriedBytes, mostHexBytes, mostDropBytes, hexPart, carriedText, toldLine, verdictLine, writtenLine, wiredLine, jobLine, runLine, legLine, closedLine, drawingLine, pinLine, dropText, lostLine, notACallLine};
 
 // What is not a call: its line, counted from 1.
 pub fn print_not_a_call(line: usize, out: &mut [u8; ANSWER_BYTES]) -> usize
@@ -177,5 +181,44 @@ pub fn print_written(bytes: usize, buffer: &[u8], out: &mut [u8; ANSWER_BYTES]) 
     let shown = smaller(buffer.len(), MOST_ROOM);
     let one = put_field(out, 0, b"0 ", bytes);
     let two = put_lent(out, one, &buffer[..shown]);
+    put(out, two, b"\n")
+}
+
+// A drop, from a position on.
+fn put_drop(drop: f32, out: &mut [u8; ANSWER_BYTES], at: usize) -> usize
+    requires { ⌜ at + mostDropBytes ≤ answerBytes ⌝ }
+    ensures { λ r. ⌜ (r ≡ at + length (dropText drop)) × (r ≤ at + mostDropBytes) ⌝ }
+    ensures { λ _. ⌜ now (out .exit) ≡ sets (now (out .entry)) at (dropText drop) ⌝ }
+{
+    let next = put(out, at, b" ");
+    put_float(out, next, drop)
+}
+
+// The drops of all pin numbers, from a position on.
+fn put_drops(drops: [f32; PINS], out: &mut [u8; ANSWER_BYTES], at: usize) -> usize
+    requires { ⌜ at + mostPins * mostDropBytes ≤ answerBytes ⌝ }
+    ensures { λ r. ⌜ (r ≡ at + length (textForEach dropText drops)) × (r ≤ at + mostPins * mostDropBytes) ⌝ }
+    ensures { λ _. ⌜ now (out .exit) ≡ sets (now (out .entry)) at (textForEach dropText drops) ⌝ }
+{
+    let mut next = at;
+    let mut pin = 0;
+    while pin < PINS {
+        next = put_drop(drops[pin], out, next);
+        pin += 1;
+    }
+    next
+}
+
+// Drops: each of them, by pin number, or the refusal.
+pub fn print_drops(lost: Lost, out: &mut [u8; ANSWER_BYTES]) -> usize
+    ensures { λ r. ⌜ ((r ≡ length (lostLine lost)) × (r ≤ answerBytes)) × (now (out .exit) ≡ over (lostLine lost) (now (out .entry))) ⌝ }
+{
+    let verdict = lost.verdict;
+    if !refusal::is_accepted(verdict) {
+        return print_verdict(verdict, out);
+    }
+    let drops = lost.drops;
+    let one = put(out, 0, b"0");
+    let two = put_drops(drops, out, one);
     put(out, two, b"\n")
 }

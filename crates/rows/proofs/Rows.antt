@@ -16,13 +16,16 @@ use Rattle.drawing.specs.declared.Pin.{Pin}
 use Rattle.drawing.specs.declared.stated.Making.{Making}
 use Rattle.drawing.specs.declared.stated.Making.the-variants.{Placing, Moving, Removing}
 use lib.ListN.{length}
+use lib.Ieee.{Float}
 use Rattle.drawing.specs.Pins.{noPins}
 use Rattle.pinmap.specs.declared.Reading.{Reading}
 use Rattle.pinmap.specs.declared.Writing.{Writing}
 use Rattle.pinmap.specs.Map.{recordsOf, withPinsOf, mapRows, readBy, written, writeBy, bufferBy}
 use Rattle.pinmap.proofs.Judging.{notOfMap, map-differs, map-apart}
+use Rattle.drops.specs.declared.Lost.{Lost}
+use Rattle.drops.specs.Drops.{noDrops, noneLost, lostBy}
 use Rattle.journal.specs.Journal.{mostSeats}
-use Rattle.rows.specs.Calls.{Call, opening, closing, making, undoing, redoing, asking, Asking, writing, wiring}
+use Rattle.rows.specs.Calls.{Call, opening, closing, making, undoing, redoing, asking, Asking, writing, wiring, dropping}
 use Rattle.rows.specs.declared.Found.{Found}
 use Rattle.rows.specs.Found.{namingFound}
 use Rattle.rows.specs.Refusals.{Look, namingRows, takingRows, makingRows, rowsOf}
@@ -60,6 +63,7 @@ rows-apart l (undoing s) = apart-by (rowsOf l (undoing s)) refl
 rows-apart l (redoing s) = apart-by (rowsOf l (redoing s)) refl
 rows-apart l (asking s (writing room)) = apart-by (rowsOf l (asking s (writing room))) refl
 rows-apart l (asking s (wiring room favour)) = apart-by (rowsOf l (asking s (wiring room favour))) refl
+rows-apart l (asking s (dropping loads sheet)) = apart-by (rowsOf l (asking s (dropping loads sheet))) refl
 
 -- ---- what was read first
 
@@ -155,3 +159,15 @@ module _ (rows more : List Row) (a : Apart rows) {v : Verdict} (e : v ≡ firstO
         ap (λ (x : Verdict). record { verdict = x; bytes = choose (accepted x) (length map) 0 }) w,
         ap (λ (x : Verdict). choose (accepted x) (written map buffer) buffer) w,
       )
+
+  -- So it is with volts lost that are not told,
+  pub lost-away : (drops : List Float) → accepted v ≡ false → noneLost v ≡ lostBy (rows ++ more) drops
+  unfolding noneLost
+  lost-away drops n =
+      let w = stops rows more a e n in
+      let f = ap accepted (sym w) ∙ n in
+      λ i. record { verdict = w i; drops = sym (choose-no drops noDrops f) i }
+
+  -- and with those that are.
+  pub lost-on : (drops : List Float) → accepted v ≡ true → lostBy more drops ≡ lostBy (rows ++ more) drops
+  lost-on drops y = ap (λ (x : Verdict). record { verdict = x; drops = choose (accepted x) drops noDrops }) (goes rows more a e y refl)

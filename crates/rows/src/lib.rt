@@ -5,6 +5,9 @@ use copper::Favour;
 use drawing::Held;
 use drawing::Pin;
 use drawing::stated::Making;
+use drops::Loaded;
+use drops::Lost;
+use drops::Sheet;
 use journal::RECORDS;
 use journal::Record;
 use journal::SEATS;
@@ -25,6 +28,7 @@ ghost use Rattle.pinmap.specs.Map.{mapRows, mapOf, readBy, roomRows, writeBy, b
 ghost use Rattle.journal.specs.Journal.{mostRecords, own};
 ghost use Rattle.seats.specs.Seats.{takenBackCount, jobsIn};
 ghost use Rattle.rows.specs.Refusals.{takingRows, makingRows, fullRow, undoingRow, redoingRow};
+ghost use Rattle.drops.specs.Drops.{dropRows, dropsOf, lostBy};
 ghost use Rattle.rows.specs.Found.{foundIn, namingFound, wiredBy};
 
 // What a call finds: whether the desk is broken, the seat that it names, and that seat's state, a closed one's where there is no such seat.
@@ -284,5 +288,24 @@ pub fn feed_wired(found: Found, room: usize, favour: Favour) -> Laid
         wiring::wire_feed(&xs, &ys, &there, room, favour)
     } else {
         wiring::refused(verdict)
+    }
+}
+
+// The volts lost to the pins of a seat: 28, 1, 2, then what is answered for the drawing's feed, 17, 18 or 20 among it.
+pub fn feed_dropped(found: Found, loads: [Loaded; PINS], sheet: Sheet) -> Lost
+    requires { ⌜ (found .broken ≡ false → found .state .opened ≡ true → lawful (found .state .pins) ≡ true) ⌝ }
+    ensures { λ r. ⌜ r ≡ lostBy (namingFound found ++ dropRows (feedOf (found .state .pins)) loads sheet) (dropsOf (feedOf (found .state .pins)) loads sheet) ⌝ }
+{
+    let verdict = turned_naming(found);
+    if refusal::is_accepted(verdict) {
+        let s = found.state;
+        let pins = s.pins;
+        let lists = drawing::lists_of(pins);
+        let xs = lists.xs;
+        let ys = lists.ys;
+        let there = lists.there;
+        drops::drops_of(&xs, &ys, &there, loads, sheet)
+    } else {
+        drops::refused(verdict)
     }
 }

@@ -15,14 +15,15 @@ use Rattle.board.specs.declared.Place.{Place}
 use Rattle.copper.specs.declared.Favour.{Favour}
 use Rattle.text.specs.Text.{text, same}
 use Rattle.text.specs.Words.{hash, withoutReturn, wordsOf, word}
-use Rattle.text.specs.Numbers.{mostNumber, mostJob, valueOf, isNumber, numberOf, isCoordinate, signed, coordinateOf, isList, isMap}
+use Rattle.text.specs.Numbers.{mostNumber, mostJob, valueOf, isNumber, numberOf, isCoordinate, signed, coordinateOf, isList, isMap, isBits}
 use Rattle.text.specs.declared.Number.{Number}
 use Rattle.text.specs.declared.Coordinate.{Coordinate}
 use Rattle.text.proofs.Steps.{picked, unpicked}
 use Rattle.text.proofs.Cutting.{same-is}
 use Rattle.text.proofs.Values.{number-read, number-unread, coordinate-read, coordinate-unread}
-use Rattle.script.specs.Said.{mostLine, mostLegsLent, only, numberIn, placeIn, isSeatAlone, isPair, isPlacing, seatCall, pairCall, placeCall, favourIn, endsInFavour, openCall, wireCall, bareCall, calls, saidAs, callIn, isSkipped, saidIn, isLong, saidBy}
+use Rattle.script.specs.Said.{mostLine, mostLegsLent, only, numberIn, placeIn, isSeatAlone, isPair, isPlacing, seatCall, pairCall, placeCall, favourIn, endsInFavour, openCall, wireCall, bareCall, dropsCall, calls, saidAs, callIn, isSkipped, saidIn, isLong, saidBy}
 use Rattle.script.specs.declared.Said.{Said}
+use Rattle.script.specs.Loads.{isLoads}
 use Rattle.script.specs.declared.Pair.{Pair}
 use Rattle.script.specs.declared.Placing.{Placing}
 
@@ -363,6 +364,51 @@ module _ (words : List (List ℕ)) where
             only-yes (both-by h (both-by (number-there mostLegsLent ea ps) (both-by (rw eb at pb) (rw ec at k))))
             (ap Said.Bare (number-value mostLegsLent ea ps))
 
+-- drops SEAT VOLTS OHMS LOADS.
+module _ (words : List (List ℕ)) {n : ℕ} (e : n ≡ length words) where
+  -- Fewer or more words ask for no drops,
+  pub drops-few : (n ≡ 5 → ⊥) → Said.NotACall ≡ dropsCall words
+  unfolding dropsCall
+  drops-few h = only-no _ (both-no _ (count-no words 5 e h))
+
+  module _ (h : n ≡ 5) {a : List ℕ} (ea : a ≡ word 1 words) where
+    -- nor does a seat that is no number,
+    pub drops-seat : Number.Unread ≡ numberOf mostNumber a → Said.NotACall ≡ dropsCall words
+    unfolding dropsCall
+    drops-seat k = only-no _ (both-by (count-yes words 5 e h) (both-no _ (number-not mostNumber ea k)))
+
+    module _ {s : ℕ} (ps : Number.Of s ≡ numberOf mostNumber a) {b : List ℕ} (eb : b ≡ word 2 words) where
+      -- nor volts that are no bits,
+      pub drops-volts : isBits b ≡ false → Said.NotACall ≡ dropsCall words
+      unfolding dropsCall
+      drops-volts k = only-no _ (both-by (count-yes words 5 e h) (both-by (number-there mostNumber ea ps) (both-no _ (rw eb at k))))
+
+      module _ (pb : isBits b ≡ true) {c : List ℕ} (ec : c ≡ word 3 words) where
+        -- nor ohms that are none,
+        pub drops-ohms : isBits c ≡ false → Said.NotACall ≡ dropsCall words
+        unfolding dropsCall
+        drops-ohms k =
+            only-no _
+            (both-by (count-yes words 5 e h) (both-by (number-there mostNumber ea ps) (both-by (rw eb at pb) (both-no _ (rw ec at k)))))
+
+        module _ (pc : isBits c ≡ true) {d : List ℕ} (ed : d ≡ word 4 words) where
+          drops-by : {t : Bool} → isLoads d ≡ t
+              → both (eqb (length words) 5)
+              (both (isNumber mostNumber (word 1 words)) (both (isBits (word 2 words)) (both (isBits (word 3 words)) (isLoads (word 4 words))))) ≡ t
+          drops-by k =
+              both-by (count-yes words 5 e h)
+              (both-by (number-there mostNumber ea ps) (both-by (rw eb at pb) (both-by (rw ec at pc) (rw ed at k))))
+
+          -- nor what is no list of loads;
+          pub drops-loads : isLoads d ≡ false → Said.NotACall ≡ dropsCall words
+          unfolding dropsCall
+          drops-loads k = only-no _ (drops-by k)
+
+          -- a seat, two f32 and loads do.
+          pub drops-yes : isLoads d ≡ true → Said.Drops s ≡ dropsCall words
+          unfolding dropsCall
+          drops-yes k = only-yes (drops-by k) (ap Said.Drops (number-value mostNumber ea ps))
+
 -- Words whose first has the name of a call say what that call says.
 pub named : (name : String) (words : List (List ℕ)) {w : List ℕ} → w ≡ word 0 words → same w (text name) ≡ true → saidAs calls (text name) words ≡ callIn words
 unfolding callIn
@@ -372,9 +418,10 @@ named name words e h = ap (λ (n : List ℕ). saidAs calls n words) (sym (same-i
 pub none-named : (words : List (List ℕ)) {w : List ℕ} → w ≡ word 0 words
     → same w (text "open") ≡ false → same w (text "close") ≡ false → same w (text "place") ≡ false → same w (text "move") ≡ false
     → same w (text "remove") ≡ false → same w (text "undo") ≡ false → same w (text "redo") ≡ false → same w (text "write") ≡ false
-    → same w (text "wire") ≡ false → same w (text "bare") ≡ false → same w (text "pins") ≡ false → Said.NotACall ≡ callIn words
+    → same w (text "wire") ≡ false → same w (text "bare") ≡ false → same w (text "drops") ≡ false → same w (text "pins") ≡ false
+    → Said.NotACall ≡ callIn words
 unfolding callIn saidAs choose
-none-named words e h1 h2 h3 h4 h5 h6 h7 h8 h9 h10 h11 = rw (← e, h1, h2, h3, h4, h5, h6, h7, h8, h9, h10, h11)
+none-named words e h1 h2 h3 h4 h5 h6 h7 h8 h9 h10 h11 h12 = rw (← e, h1, h2, h3, h4, h5, h6, h7, h8, h9, h10, h11, h12)
 
 -- A line without a first word is skipped;
 pub skipped-none : (name : List ℕ) → length name ≡ 0 → true ≡ isSkipped name

@@ -1,15 +1,20 @@
 -- Lines of each kind read, by the definitions alone. Assumes nothing.
 use mathlib.Core.Path.{_≡_, refl}
+use mathlib.Core.Bool.{true, false}
 use mathlib.Core.List.{List, [], _∷_, _++_}
 use Prim.Native.String.{String}
 use lib.IntN.{pos, negsuc}
+use lib.Ieee.{nan, inf, fin, ofBits}
 use lib.ListN.{replicate}
 use Rattle.basics.specs.Tests.{both, either, choose, eachOf}
 use Rattle.copper.specs.declared.Favour.{Favour}
+use Rattle.drops.specs.declared.Load.the-variants.{Amps, Watts}
+use Rattle.drops.specs.Loads.{hundredth, spare}
 use Rattle.text.specs.Text.{text, same}
 use Rattle.text.specs.Words.{endOf, beforeFirst, pieces, nonEmpty, wordsOf}
-use Rattle.text.specs.Numbers.{between, valueFrom, isNumber, hasMinus, isCoordinate, signed, listed, isRow, isList, isHex, hexValue, allPairs, bytesOf, isSpelled, isMap, spelled}
-use Rattle.script.specs.Said.{only, isSeatAlone, isPair, isPlacing, seatCall, pairCall, placeCall, favourIn, endsInFavour, openCall, wireCall, bareCall, saidAs, callIn, isSkipped, saidIn, isLong, saidBy, mapGiven, xsGiven, ysGiven, favourGiven}
+use Rattle.text.specs.Numbers.{between, valueFrom, isNumber, hasMinus, isCoordinate, signed, listed, isRowOf, isList, isHex, hexValue, allPairs, bytesOf, isSpelled, isMap, spelled, isBits, hexFrom, floatOf}
+use Rattle.script.specs.Said.{only, isSeatAlone, isPair, isPlacing, seatCall, pairCall, placeCall, favourIn, endsInFavour, openCall, wireCall, bareCall, dropsCall, saidAs, callIn, isSkipped, saidIn, isLong, saidBy, mapGiven, xsGiven, ysGiven, favourGiven, sheetGiven, loadsGiven}
+use Rattle.script.specs.Loads.{beginsWith, isLoad, loadOf, isLoads, loadsListed, allSpare, loadsIn}
 use Rattle.script.specs.declared.Said.{Said}
 
 -- What lines say.
@@ -22,7 +27,8 @@ pub each-call :
     saidByEach
     ("open 00 0007 -" ∷ "open 1 9 0009fF" ∷ "close 7" ∷ "  place   0 0 -0 007  " ∷ "move 3 31 -5 12" ∷ "remove 0 4294967295"
     ∷ "undo 0" ∷ "redo 0\r" ∷ "write 1 1024" ∷ "wire 1 64" ∷ "wire 2 0 lower" ∷ "wire 3 62  upper " ∷ "bare 64 0,-0 1,002" ∷ "bare 0 - 5"
-    ∷ "bare 1 5 - upper" ∷ "pins 8" ∷ [])
+    ∷ "bare 1 5 - upper"
+    ∷ "drops 0 41400000 3C23d70a -" ∷ "drops 4294967295 7fc00000 ffFFffFF a3f800000,w42c80000,s" ∷ "pins 8" ∷ [])
     ≡ Said.Open 0 7
     ∷ Said.Open 1 9
     ∷ Said.Close 7
@@ -38,11 +44,13 @@ pub each-call :
     ∷ Said.Bare 64
     ∷ Said.Bare 0
     ∷ Said.Bare 1
+    ∷ Said.Drops 0
+    ∷ Said.Drops 4294967295
     ∷ Said.Pins 8
     ∷ []
 unfolding saidByEach both either choose same endOf beforeFirst pieces nonEmpty wordsOf between eachOf valueFrom isNumber hasMinus isCoordinate signed
-    isRow isList isHex allPairs isSpelled isMap only isSeatAlone isPair isPlacing seatCall pairCall placeCall endsInFavour openCall wireCall bareCall
-    saidAs callIn isSkipped saidIn isLong saidBy
+    isRowOf isList isBits beginsWith isLoad isLoads isHex allPairs isSpelled isMap only isSeatAlone isPair isPlacing seatCall pairCall placeCall endsInFavour
+    openCall wireCall bareCall dropsCall saidAs callIn isSkipped saidIn isLong saidBy
 each-call = refl
 
 -- What such lines give: the bytes of a map, x and y, and the shape to favour.
@@ -51,12 +59,23 @@ pub given :
     × (xsGiven (text "bare 64 0,-7 -") ≡ pos 0 ∷ negsuc 6 ∷ []) × (ysGiven (text "bare 64 0,-7 -") ≡ [])
     × (favourGiven 3 (text "wire 1 64") ≡ Favour.Unsaid) × (favourGiven 3 (text "wire 1 64 lower\r") ≡ Favour.Lower)
     × (favourGiven 4 (text "bare 64 - - upper") ≡ Favour.Upper)
-unfolding both either choose endOf beforeFirst pieces nonEmpty wordsOf between eachOf valueFrom isNumber hasMinus isCoordinate signed isRow
+unfolding both either choose endOf beforeFirst pieces nonEmpty wordsOf between eachOf valueFrom isNumber hasMinus isCoordinate signed isRowOf
     listed isHex hexValue allPairs bytesOf isSpelled spelled same favourIn mapGiven xsGiven ysGiven favourGiven
 given = (refl, refl, refl, refl, refl, refl, refl)
 
+-- What a line gives that asks for drops: 12 volts and 0.01 ohms per step, an amp and 100 watts; an infinity and a NaN, and 32 loads that are spare.
+pub given-for-drops :
+    (sheetGiven (text "drops 0 41400000 3C23d70a a3f800000,w42c80000,s\r") ≡ record { volts = fin false 3 (pos 2); ohms = hundredth })
+    × (loadsGiven (text "drops 0 41400000 3C23d70a a3f800000,w42c80000,s\r")
+    ≡ record { load = Amps (fin false 1 (pos 0)) } ∷ record { load = Watts (fin false 25 (pos 2)) } ∷ replicate 30 spare)
+    × (sheetGiven (text "drops 0 ff800000 ffc12345 -") ≡ record { volts = inf true; ohms = nan })
+    × (loadsGiven (text "drops 0 ff800000 ffc12345 -") ≡ replicate 32 spare)
+unfolding both either choose same endOf beforeFirst pieces nonEmpty wordsOf between eachOf isHex hexValue isRowOf isBits hexFrom floatOf
+    ofBits beginsWith isLoad loadOf loadsListed allSpare loadsIn sheetGiven loadsGiven
+given-for-drops = (refl, refl, refl, refl)
+
 -- What is no call: signs where none may stand, numbers out of range, words missing, over or unknown, a word that is no shape to favour, tabs,
--- wrong or odd hex digits, lists with a gap.
+-- wrong, odd, missing or too few hex digits, lists with a gap, a capital before amps, 33 loads.
 pub no-calls :
     saidByEach
     ("place 0 1 +5 0" ∷ "place 0 1 - 0" ∷ "place 0 1 --5 0" ∷ "place -0 1 5 0"
@@ -64,11 +83,13 @@ pub no-calls :
     ∷ "place 4294967296 2 0 0" ∷ "open 2 65536 -" ∷ "undo 0 # x" ∷ "undo" ∷ "Undo 0" ∷ "\t" ∷ "place\t0 3 0 1"
     ∷ "open 1 9 0009Ff0" ∷ "open 1 9 0g" ∷ "open 1 9 --" ∷ "write 2 1025" ∷ "wire 1 65"
     ∷ "wire 1 64 Lower" ∷ "wire 1 64 straight" ∷ "wire 1 64 lower upper" ∷ "wire 1 upper" ∷ "bare 64 - - -" ∷ "bare 64 1,,2 1,2,3"
-    ∷ "bare 64 1, 2" ∷ "bare 64 , ," ∷ "bare 64 -,1 1,2" ∷ "bare 65 - -" ∷ [])
-    ≡ replicate 29 Said.NotACall
+    ∷ "bare 64 1, 2" ∷ "bare 64 , ," ∷ "bare 64 -,1 1,2" ∷ "bare 65 - -" ∷ "drops 0 41400000 3c23d70a" ∷ "drops 0 4140000 3c23d70a -"
+    ∷ "drops 0 41400000 3c23d70g -" ∷ "drops 0 41400000 3c23d70a A3f800000" ∷ "drops 0 41400000 3c23d70a a3f80000" ∷ "drops 0 41400000 3c23d70a s,"
+    ∷ "drops 0 41400000 3c23d70a s0" ∷ "drops 0 41400000 3c23d70a s,s,s,s,s,s,s,s,s,s,s,s,s,s,s,s,s,s,s,s,s,s,s,s,s,s,s,s,s,s,s,s,s" ∷ [])
+    ≡ replicate 37 Said.NotACall
 unfolding saidByEach both either choose same endOf beforeFirst pieces nonEmpty wordsOf between eachOf valueFrom isNumber hasMinus isCoordinate signed
-    isRow isList isHex allPairs isSpelled isMap only isSeatAlone isPair isPlacing seatCall pairCall placeCall endsInFavour openCall wireCall bareCall
-    saidAs callIn isSkipped saidIn isLong saidBy
+    isRowOf isList isBits beginsWith isLoad isLoads isHex allPairs isSpelled isMap only isSeatAlone isPair isPlacing seatCall pairCall placeCall endsInFavour
+    openCall wireCall bareCall dropsCall saidAs callIn isSkipped saidIn isLong saidBy
 no-calls = refl
 
 -- Lines with no word, and remarks.

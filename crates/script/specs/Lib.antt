@@ -1,2 +1,3 @@
 -- What the lines of a log mean.
+pub mod Loads
 pub mod Said

@@ -1,4 +1,4 @@
--- What a line says: nothing, no call, or a call with its numbers; and the map, the lists and the shape to favour that it gives.
+-- What a line says: nothing, no call, or a call with its numbers; and the map, the lists, the shape to favour, the board sheet and the loads that it gives.
 use mathlib.Core.Bool.{Bool}
 use mathlib.Core.List.{List, [], _∷_}
 use Prim.Native.Nat.{ℕ, _+_}
@@ -10,10 +10,13 @@ use Rattle.basics.specs.Tests.{both, either, choose}
 use Rattle.board.specs.Place.{place}
 use Rattle.board.specs.declared.Place.{Place}
 use Rattle.copper.specs.declared.Favour.{Favour}
+use Rattle.drops.specs.declared.Sheet.{Sheet}
+use Rattle.drops.specs.declared.Loaded.{Loaded}
 use Rattle.text.specs.Text.{text, same, mostRoom}
 use Rattle.text.specs.Words.{hash, withoutReturn, wordsOf, word}
-use Rattle.text.specs.Numbers.{mostNumber, mostJob, valueOf, isNumber, isCoordinate, signed, listed, isList, spelled, isMap}
+use Rattle.text.specs.Numbers.{mostNumber, mostJob, valueOf, isNumber, isCoordinate, signed, listed, isList, spelled, isMap, isBits, floatOf}
 use Rattle.script.specs.declared.Said.{Said}
+use Rattle.script.specs.Loads.{isLoads, loadsIn}
 
 -- A line of more bytes is not a call.
 abbrev pub mostLine : ℕ
@@ -93,6 +96,14 @@ bareCall words =
     (both (endsInFavour 4 words) (both (isNumber mostLegsLent (word 1 words)) (both (isList (word 2 words)) (isList (word 3 words)))))
     (Said.Bare (numberIn 1 words))
 
+-- drops SEAT VOLTS OHMS LOADS.
+unfoldable pub dropsCall : List (List ℕ) → Said
+dropsCall words =
+    only
+    (both (eqb (length words) 5)
+    (both (isNumber mostNumber (word 1 words)) (both (isBits (word 2 words)) (both (isBits (word 3 words)) (isLoads (word 4 words))))))
+    (Said.Drops (numberIn 1 words))
+
 -- The calls: the name of each, and what the words of such a line say.
 abbrev pub calls : List (String × (List (List ℕ) → Said))
 calls =
@@ -106,6 +117,7 @@ calls =
     ∷ ("write", pairCall mostRoom Said.Write)
     ∷ ("wire", wireCall)
     ∷ ("bare", bareCall)
+    ∷ ("drops", dropsCall)
     ∷ ("pins", seatCall Said.Pins)
     ∷ []
 
@@ -153,3 +165,11 @@ ysGiven line = listed (word 3 (wordsIn line))
 -- What the line says of the shape to favour, in the word after so many.
 unfoldable pub favourGiven : ℕ → List ℕ → Favour
 favourGiven n line = favourIn (word n (wordsIn line))
+
+-- The board sheet in a line that asks for drops: VOLTS, OHMS.
+unfoldable pub sheetGiven : List ℕ → Sheet
+sheetGiven line = record { volts = floatOf (word 2 (wordsIn line)); ohms = floatOf (word 3 (wordsIn line)) }
+
+-- The loads in such a line, by pin number.
+unfoldable pub loadsGiven : List ℕ → List Loaded
+loadsGiven line = loadsIn (word 4 (wordsIn line))

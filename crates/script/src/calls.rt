@@ -2,6 +2,7 @@
 use crate::Pair;
 use crate::Placing;
 use crate::Said;
+use crate::loads::is_loads;
 use board::Place;
 use copper::Favour;
 use text::Coordinate;
@@ -9,6 +10,7 @@ use text::MOST_ROOM;
 use text::Number;
 use text::numbers::MOST;
 use text::numbers::coordinate;
+use text::numbers::is_bits;
 use text::numbers::is_list;
 use text::numbers::is_map;
 use text::numbers::number;
@@ -21,7 +23,7 @@ ghost use Rattle.text.specs.Text.{text as bytesOf, same as sameBytes, mostRoom}
 ghost use Rattle.text.specs.Words.{wordsOf, word as wordIn};
 ghost use Rattle.text.specs.Numbers.{mostNumber, isNumber};
 ghost use Rattle.basics.specs.Tests.{both, either, choose};
-ghost use Rattle.script.specs.Said.{mostLegsLent, numberIn, placeIn, isSeatAlone, isPair, isPlacing, seatCall, pairCall, placeCall, favourIn, endsInFavour, openCall, wireCall, bareCall, callIn, isSkipped as skipped};
+ghost use Rattle.script.specs.Said.{mostLegsLent, numberIn, placeIn, isSeatAlone, isPair, isPlacing, seatCall, pairCall, placeCall, favourIn, endsInFavour, openCall, wireCall, bareCall, dropsCall, callIn, isSkipped as skipped};
 
 // The most legs that a call lends.
 const MOST_LEGS_LENT: usize = 64;
@@ -241,6 +243,28 @@ fn read_bare(text: &[u8]) -> Said
     Said::Bare { room }
 }
 
+// drops SEAT VOLTS OHMS LOADS
+fn read_drops(text: &[u8]) -> Said
+    ensures { λ r. ⌜ r ≡ dropsCall (wordsOf (now (text .entry))) ⌝ }
+{
+    if count_words(text) != 5 {
+        return Said::NotACall;
+    }
+    let Number::Of(seat) = number(word(text, 1), MOST) else {
+        return Said::NotACall;
+    };
+    if !is_bits(word(text, 2)) {
+        return Said::NotACall;
+    }
+    if !is_bits(word(text, 3)) {
+        return Said::NotACall;
+    }
+    if !is_loads(word(text, 4)) {
+        return Said::NotACall;
+    }
+    Said::Drops { seat }
+}
+
 // pins SEAT
 fn read_pins(text: &[u8]) -> Said
     ensures { λ r. ⌜ r ≡ seatCall Said.Pins (wordsOf (now (text .entry))) ⌝ }
@@ -285,6 +309,9 @@ pub(crate) fn read_call(text: &[u8]) -> Said
     }
     if same(name, b"bare") {
         return read_bare(text);
+    }
+    if same(name, b"drops") {
+        return read_drops(text);
     }
     if same(name, b"pins") {
         return read_pins(text);

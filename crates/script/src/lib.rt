@@ -1,15 +1,21 @@
 // The lines of a log read into calls, over bytes.
 mod calls;
+mod loads;
 
+use board::PINS;
 use board::Place;
 use calls::favour_in;
 use calls::is_skipped;
 use calls::read_call;
 use copper::Favour;
+use drops::Loaded;
+use drops::Sheet;
+use loads::loads_in;
 use text::MOST_NUMBERS;
 use text::MOST_PAIRS;
 use text::numbers::fill_list;
 use text::numbers::fill_map;
+use text::numbers::float;
 use text::words::without_return;
 use text::words::word;
 ghost use mathlib.Core.Path.{_≡_};
@@ -17,7 +23,7 @@ ghost use Prim.Native.Nat.{_≤_};
 ghost use lib.ListN.{length};
 ghost use Rattle.text.specs.Text.{over};
 ghost use Rattle.text.specs.Numbers.{mostPairs, mostNumbers};
-ghost use Rattle.script.specs.Said.{saidBy, mapGiven, xsGiven, ysGiven, favourGiven};
+ghost use Rattle.script.specs.Said.{saidBy, mapGiven, xsGiven, ysGiven, favourGiven, sheetGiven, loadsGiven};
 
 // A line of more bytes is not a call.
 const MOST_LINE: usize = 16384;
@@ -34,8 +40,8 @@ pub enum Placing {
     Of(usize, usize, Place),
 }
 
-// What a line says: nothing, no call, or a call with its numbers. The map of an opening, the lists of a bare wiring and the shape
-// that a wiring favours are read from the line by functions of their own, map and lists into lent buffers.
+// What a line says: nothing, no call, or a call with its numbers. The map of an opening, the lists of a bare wiring, the shape that a
+// wiring favours and what drops are asked for are read from the line by functions of their own, map and lists into lent buffers.
 pub enum Said {
     Skip,
     NotACall,
@@ -49,6 +55,7 @@ pub enum Said {
     Write { seat: usize, room: usize },
     Wire { seat: usize, room: usize },
     Bare { room: usize },
+    Drops { seat: usize },
     Pins { seat: usize },
 }
 
@@ -95,4 +102,21 @@ pub fn given_favour(line: &[u8], at: usize) -> Favour
     ensures { λ r. ⌜ r ≡ favourGiven at (now (line .entry)) ⌝ }
 {
     favour_in(word(without_return(line), at))
+}
+
+// The board sheet that the line gives.
+pub fn given_sheet(line: &[u8]) -> Sheet
+    ensures { λ r. ⌜ r ≡ sheetGiven (now (line .entry)) ⌝ }
+{
+    let text = without_return(line);
+    let volts = float(word(text, 2));
+    let ohms = float(word(text, 3));
+    Sheet { volts, ohms }
+}
+
+// The loads that the line gives, by pin number.
+pub fn given_loads(line: &[u8]) -> [Loaded; PINS]
+    ensures { λ r. ⌜ r ≡ loadsGiven (now (line .entry)) ⌝ }
+{
+    loads_in(word(without_return(line), 4))
 }

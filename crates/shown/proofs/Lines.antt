@@ -1,4 +1,4 @@
--- Lines printed one by one come to the text of a list, pins counted one by one to their number, and the parts of an answer to the answer. Assumes nothing.
+-- Pins printed one by one come to their text, counted one by one to their number, and the parts of an answer to the answer. Assumes nothing.
 use mathlib.Core.Path.{_≡_, sym, _∙_, ap}
 use mathlib.Core.Bool.{true, false}
 use mathlib.Core.List.{List, [], _∷_, _++_, append-assoc, append-nil}
@@ -18,26 +18,13 @@ use Rattle.text.specs.Text.{over, answerBytes, Holds}
 use Rattle.printed.specs.Answers.{verdictLine, wiredLine, jobLine}
 use Rattle.text.proofs.Printing.{Put, take-smaller}
 use Rattle.text.proofs.Steps.{front, first-more}
-use Rattle.shown.specs.Shown.{lineForEach, runsText, legsText, pinText, pinsText, pinsThere, wiredText, laidText, jobText, mapText}
+use Rattle.shown.specs.Shown.{runsText, legsText, pinText, pinsText, pinsThere, wiredText, laidText, jobText, mapText}
 
-module _ {A : Type 0} where
-  -- The text of a list with one element more is one line longer;
-  lines-snoc : (line : A → List ℕ) (l : List A) (a : A) → lineForEach line l ++ line a ≡ lineForEach line (l ++ (a ∷ []))
-  unfolding lineForEach
-  lines-snoc line [] a = sym (append-nil (line a))
-  lines-snoc line (b ∷ rest) a =
-      append-assoc (line b) (lineForEach line rest) (line a) ∙ ap (λ (t : List ℕ). line b ++ t) (lines-snoc line rest a)
-
-  -- so the text of the first elements grows line by line.
-  pub lines-more : (line : A → List ℕ) (d : A) (l : List A) (i : ℕ) → i < length l
-      → lineForEach line (take i l) ++ line (getD l i d) ≡ lineForEach line (take (i + 1) l)
-  lines-more line d l i h = lines-snoc line (take i l) (getD l i d) ∙ ap (lineForEach line) (first-more d l i h)
-
-  -- As many as are asked for, or all there are.
-  pub first-all : (l : List A) (count n i : ℕ) → length l ≡ n → i ≡ min count n → take i l ≡ take count l
-  first-all l count n i h e =
-      let m : i ≡ min (length l) count = omega arith in
-      ap (λ (k : ℕ). take k l) m ∙ take-smaller l count
+-- As many elements as are asked for, or all there are.
+pub first-all : {A : Type 0} (l : List A) (count n i : ℕ) → length l ≡ n → i ≡ min count n → take i l ≡ take count l
+first-all l count n i h e =
+    let m : i ≡ min (length l) count = omega arith in
+    ap (λ (k : ℕ). take k l) m ∙ take-smaller l count
 
 -- The text of pins with one more is longer by that pin;
 pins-snoc : (k : ℕ) (l : List Pin) (q : Pin) → pinsText k l ++ pinText (k + length l) (q .stand) ≡ pinsText k (l ++ (q ∷ []))
@@ -71,11 +58,6 @@ module _ (pins : List Pin) (number : ℕ) (h : number < length pins) where
 -- What is printed from the start on, as a piece that others follow.
 pub begun : (o p : List ℕ) {n : ℕ} {v : List ℕ} → n ≡ length p → v ≡ over p o → Put o 0 p n v
 begun o p e f = (omega (arith, e), f)
-
--- What is printed within fewer bytes is held within the room of an answer, under any name of its text.
-pub held : (before : List ℕ) (most : ℕ) {p q : List ℕ} {n : ℕ} {after : List ℕ} → most ≤ answerBytes → p ≡ q → Holds most p before n after
-    → Holds answerBytes q before n after
-held before most k e h = ((h .0 .0 ∙ ap length e, omega (arith, h .0 .1)), h .1 ∙ ap (λ (t : List ℕ). over t before) e)
 
 -- The answer of a wiring with its legs, where it is refused,
 pub laid-refused : (laid : Laid) → accepted (laid .wiring .verdict) ≡ false → verdictLine (laid .wiring .verdict) ≡ laidText laid

@@ -24,10 +24,10 @@ use Rattle.board.specs.Place.{smaller}
 use Rattle.wiring.specs.declared.Laid.{Laid}
 use Rattle.wiring.specs.Choices.{bentShapes, shapesOf, withShape, withShapes, choicesOf, legsOfChoice, lengthOfChoice, shortest, shortestOf, bestChoice, weighedAt, weighedOf}
 use Rattle.wiring.specs.Answer.{shapedRuns, runEntries, legEntries, turnedAway, answerWith, wiringWith, wiringFavouring, wiringOf}
-use Rattle.text.specs.Text.{text}
+use Rattle.text.specs.Text.{text, textForEach}
 use Rattle.text.specs.Digits.{digits, integer, placeText}
 use Rattle.printed.specs.Answers.{carriedText, toldLine, wiredLine, jobLine, runLine, legLine, drawingLine, pinLine}
-use Rattle.shown.specs.Shown.{entryLine, lineForEach, legText, pinText, pinsText, wiredText, laidText, jobText, mapText, drawnText}
+use Rattle.shown.specs.Shown.{entryLine, legText, pinText, pinsText, wiredText, laidText, jobText, mapText, drawnText}
 
 -- W3: (0,0), (4,2), (4,-2).
 abbrev w3 : Laid
@@ -40,7 +40,7 @@ unfolding wiringOf wiringFavouring wiringWith answerWith turnedAway legEntries r
     anyOf stepsOfAll stepsOf smaller stepsUp stepsAcross sameStep legsOf lowerCorner upperCorner isStraight noTwo clash common isEnd
     boxesShare overlap under belowBoth runsOf pinsOf runsAmong grown nextRun earliestOf earliest runsBetween runsFrom without pinsFrom keptIf sooner
     pairAt comesBefore byPart byNumber pairOf weightOf distanceOf difference larger sameNumber accepted firstOf both either choose digits jobLine runLine
-    entryLine lineForEach jobText mapText
+    entryLine textForEach jobText mapText
 map-of-w3 = refl
 
 -- W3 with its legs.
@@ -50,7 +50,7 @@ unfolding wiringOf wiringFavouring wiringWith answerWith turnedAway legEntries r
     anyOf stepsOfAll stepsOf smaller stepsUp stepsAcross sameStep legsOf lowerCorner upperCorner isStraight noTwo clash common isEnd
     boxesShare overlap under belowBoth runsOf pinsOf runsAmong grown nextRun earliestOf earliest runsBetween runsFrom without pinsFrom keptIf sooner
     pairAt comesBefore byPart byNumber pairOf weightOf distanceOf difference larger sameNumber accepted firstOf both either choose digits integer
-    placeText wiredLine runLine legLine entryLine lineForEach legText wiredText laidText
+    placeText wiredLine runLine legLine entryLine textForEach legText wiredText laidText
 laid-w3 = refl
 
 -- Refused maps: of a wrong length, and with a record of another job.

@@ -15,7 +15,7 @@ use Rattle.copper.specs.declared.Leg.{Leg}
 use Rattle.wiring.specs.declared.RunEntry.{RunEntry}
 use Rattle.wiring.specs.declared.Wiring.{Wiring}
 use Rattle.wiring.specs.declared.Laid.{Laid}
-use Rattle.text.specs.Text.{text}
+use Rattle.text.specs.Text.{text, textForEach}
 use Rattle.printed.specs.Answers.{verdictLine, wiredLine, jobLine, runLine, legLine, drawingLine, pinLine}
 
 -- The word of a shape.
@@ -28,14 +28,9 @@ shapeWord Upper = text "upper"
 unfoldable pub entryLine : RunEntry → List ℕ
 entryLine run = runLine (run .near) (run .far) (shapeWord (run .shape))
 
--- A line for each of a list, one after the other.
-unfoldable pub lineForEach : {A : Type 0} → (A → List ℕ) → List A → List ℕ
-lineForEach line [] = []
-lineForEach line (a ∷ rest) = line a ++ lineForEach line rest
-
 -- A line for each run.
 abbrev pub runsText : List RunEntry → List ℕ
-runsText runs = lineForEach entryLine runs
+runsText runs = textForEach entryLine runs
 
 -- The line of a leg: its two ends.
 unfoldable pub legText : Leg → List ℕ
@@ -43,7 +38,7 @@ legText leg = legLine (leg .from) (leg .to)
 
 -- A line for each leg.
 abbrev pub legsText : List Leg → List ℕ
-legsText legs = lineForEach legText legs
+legsText legs = textForEach legText legs
 
 -- The line of a pin that is there; none for one that is not.
 unfoldable pub pinText : ℕ → Stand → List ℕ

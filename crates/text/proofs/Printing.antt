@@ -1,7 +1,7 @@
 -- Digits put one by one, and pieces put one after another, come to numbers and lines. Assumes nothing.
 use mathlib.Core.Path.{_≡_, refl, sym, _∙_, ap}
 use mathlib.Core.Bool.{Bool, true, false}
-use mathlib.Core.List.{List, [], _∷_, _++_}
+use mathlib.Core.List.{List, [], _∷_, _++_, append-assoc, append-nil}
 use Prim.Native.Nat.{ℕ, zero, suc, _+_, _-_, _*_, _/_, _%_, _^_, _≤_, _<_, min}
 use native.Mathlib.Nat.{pow-suc}
 use native.Mathlib.Omega.{arith}
@@ -16,7 +16,7 @@ use mir.Val.{ofZ, SFits}
 use borrow.Author.Tests.{lt-ltb, le-ltb, ltb-true}
 use Rattle.basics.specs.Tests.{choose}
 use Rattle.board.proofs.Signed.{rd, lt-rd}
-use Rattle.text.specs.Text.{text, over}
+use Rattle.text.specs.Text.{text, textForEach, over, answerBytes, Holds}
 use Rattle.text.specs.Digits.{digits, decimal, integer, hexDigit, hex}
 use Rattle.board.proofs.Flat.{order}
 use Rattle.text.proofs.Steps.{first-more, sets-append}
@@ -173,3 +173,20 @@ take-smaller {A} l n = by (order n (length l))
         let e : min (length l) n ≡ n = omega arith in
         ap (λ (k : ℕ). take k l) e
     by (inr h) = take-all (min (length l) n) l (omega arith) ∙ sym (take-all n l (omega arith))
+
+-- What is printed of a list with one element more is longer by that element's text;
+each-snoc : {A : Type 0} (print : A → List ℕ) (l : List A) (a : A) → textForEach print l ++ print a ≡ textForEach print (l ++ (a ∷ []))
+unfolding textForEach
+each-snoc print [] a = sym (append-nil (print a))
+each-snoc print (b ∷ rest) a =
+    append-assoc (print b) (textForEach print rest) (print a) ∙ ap (λ (t : List ℕ). print b ++ t) (each-snoc print rest a)
+
+-- so what is printed of the first elements grows element by element.
+pub each-more : {A : Type 0} (print : A → List ℕ) (d : A) (l : List A) (i : ℕ) → i < length l
+    → textForEach print (take i l) ++ print (getD l i d) ≡ textForEach print (take (i + 1) l)
+each-more print d l i h = each-snoc print (take i l) (getD l i d) ∙ ap (textForEach print) (first-more d l i h)
+
+-- What is printed within fewer bytes is held within the room of an answer, under any name of its text.
+pub held : (before : List ℕ) (most : ℕ) {p q : List ℕ} {n : ℕ} {after : List ℕ} → most ≤ answerBytes → p ≡ q → Holds most p before n after
+    → Holds answerBytes q before n after
+held before most k e h = ((h .0 .0 ∙ ap length e, omega (arith, h .0 .1)), h .1 ∙ ap (λ (t : List ℕ). over t before) e)

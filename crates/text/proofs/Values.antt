@@ -1,29 +1,23 @@
--- Words read byte by byte come to the numbers, lists and bytes that the definitions give. Assumes nothing.
+-- Words read byte by byte come to the numbers and bytes that the definitions give. Assumes nothing.
 use mathlib.Core.Path.{_≡_, refl, sym, _∙_, ap}
 use mathlib.Core.Bool.{Bool, true, false}
-use mathlib.Core.Logic.{_⊎_, inl, inr}
-use mathlib.Core.List.{List, [], _∷_, map}
+use mathlib.Core.List.{List, [], _∷_}
 use Prim.Native.Nat.{ℕ, zero, suc, _+_, _-_, _*_, _≤_, _<_, min, zero-le}
 use native.Mathlib.Omega.{arith}
 use lib.IntN.{ℤ, pos, negsuc, negℤ}
 use lib.Dec.{leb, ltb, eqb}
-use lib.ListN.{length, take, drop, getD, set, List·getD-eq-default, length-drop, length-map, drop-of-length-le}
-use lib.Seq.{drop-nil, drop-drop, take-all}
-use Rattle.basics.proofs.Anyone.{each-first, each-rest}
-use Rattle.bytes.specs.Bytes.{indexOf}
+use lib.ListN.{length, take, drop, getD, List·getD-eq-default, length-drop, drop-of-length-le}
+use lib.Seq.{drop-nil, take-all}
 use mir.Syntax.{w32}
 use mir.Val.{toZ}
 use borrow.Author.Tests.{lt-leb, le-leb, lt-ltb, le-ltb, eq-eqb, ne-eqb, leb-true}
-use Rattle.basics.specs.Tests.{both, either, choose, eachOf}
+use Rattle.basics.specs.Tests.{both, either, choose}
 use Rattle.basics.proofs.Tests.{opposite, both-left, both-right, either-left, either-right}
-use Rattle.board.proofs.Flat.{order}
 use Rattle.text.specs.Text.{over}
-use Rattle.text.specs.Words.{comma, pieces, stopAt}
-use Rattle.text.specs.Numbers.{mostAbove, mostBelow, mostNumber, mostNumbers, mostPairs, between, allDigits, valueFrom, valueOf, isNumber, numberOf, hasMinus, isCoordinate, signed, coordinateOf, allCoordinates, isRow, isHex, hexValue, allPairs, bytesOf, isSpelled, beyond}
+use Rattle.text.specs.Numbers.{mostAbove, mostBelow, mostNumber, mostPairs, between, allDigits, valueFrom, valueOf, isNumber, numberOf, hasMinus, isCoordinate, signed, coordinateOf, isHex, hexValue, allPairs, bytesOf, isSpelled, beyond}
 use Rattle.text.specs.declared.Number.{Number}
 use Rattle.text.specs.declared.Coordinate.{Coordinate}
-use Rattle.text.proofs.Steps.{front, picked, unpicked, fill-more, fill-done}
-use Rattle.text.proofs.Cutting.{first-piece, after-piece, last-piece, some-piece}
+use Rattle.text.proofs.Steps.{front, picked, unpicked}
 
 -- A byte below the low end is not between,
 pub between-below : (low high b : ℕ) → b < low → false ≡ between low high b
@@ -286,81 +280,6 @@ module _ (w : List ℕ) where
   unfolding isSpelled
   spelled-length h = leb-true (length w) (mostPairs * 2) (both-left _ _ (both-right _ _ h))
 
--- The pieces that are left from a position on.
-unfoldable pub rowLeft : List ℕ → ℕ → List (List ℕ)
-rowLeft w at = choose (leb at (length w)) (pieces comma (drop at w)) []
-
--- At the start all pieces are left,
-pub row-start : (w : List ℕ) → rowLeft w 0 ≡ pieces comma w
-unfolding rowLeft choose
-row-start w = rw (le-leb 0 (length w) (omega arith))
-
--- beyond the end none,
-pub row-end : (w : List ℕ) (at : ℕ) → length w < at → rowLeft w at ≡ []
-unfolding rowLeft choose
-row-end w at h = rw (lt-leb at (length w) h)
-
-module _ (w : List ℕ) (at : ℕ) (h : at ≤ length w) where
-  rest-is : drop 1 (pieces comma (drop at w)) ≡ rowLeft w (stopAt comma w at + 1)
-  unfolding rowLeft stopAt choose
-  rest-is = by (order (suc (indexOf comma (drop at w))) (length (drop at w)))
-    where
-      by : (suc (indexOf comma (drop at w)) ≤ length (drop at w)) ⊎ (length (drop at w) < suc (indexOf comma (drop at w)))
-          → drop 1 (pieces comma (drop at w))
-          ≡ choose (leb (at + indexOf comma (drop at w) + 1) (length w)) (pieces comma (drop (at + indexOf comma (drop at w) + 1) w)) []
-      by (inl k) =
-          let e : at + suc (indexOf comma (drop at w)) ≡ at + indexOf comma (drop at w) + 1 = omega arith in
-          rw (le-leb (at + indexOf comma (drop at w) + 1) (length w) (omega (arith, length-drop at w)))
-          (after-piece comma (drop at w) k ∙ ap (pieces comma) (drop-drop (suc (indexOf comma (drop at w))) at w ∙ ap (λ (n : ℕ). drop n w) e))
-      by (inr k) =
-          rw (lt-leb (at + indexOf comma (drop at w) + 1) (length w) (omega (arith, length-drop at w)))
-          (last-piece comma (drop at w) (omega arith))
-
-  piece-is : getD (pieces comma (drop at w)) 0 [] ≡ take (stopAt comma w at - at) (drop at w)
-  unfolding stopAt
-  piece-is =
-      let e : indexOf comma (drop at w) ≡ at + indexOf comma (drop at w) - at = omega arith in
-      first-piece comma (drop at w) ∙ ap (λ (n : ℕ). take n (drop at w)) e
-
-  -- and elsewhere the piece up to the next comma and those after that comma.
-  row-next : rowLeft w at ≡ take (stopAt comma w at - at) (drop at w) ∷ rowLeft w (stopAt comma w at + 1)
-  unfolding rowLeft choose
-  row-next =
-      rw (le-leb at (length w) h)
-      (front [] (pieces comma (drop at w)) 0 (some-piece comma (drop at w))
-      ∙ ap (λ (p : List ℕ). p ∷ drop 1 (pieces comma (drop at w))) piece-is
-      ∙ ap (λ (ps : List (List ℕ)). take (stopAt comma w at - at) (drop at w) ∷ ps) rest-is)
-
--- Whether the pieces that are left are numbers, and few enough with those counted before.
-unfoldable pub judged : ℕ → List (List ℕ) → Bool
-judged count ps = both (allCoordinates ps) (leb (count + length ps) mostNumbers)
-
--- At the start, with none before, that judges the row;
-pub judged-start : (w : List ℕ) → isRow w ≡ judged 0 (rowLeft w 0)
-unfolding isRow judged
-judged-start w =
-    let e : length (pieces comma w) ≡ 0 + length (pieces comma w) = omega arith in
-    rw (row-start w) (ap (λ (n : ℕ). both (allCoordinates (pieces comma w)) (leb n mostNumbers)) e)
-
--- a piece that is no number settles that it is none,
-judged-stop : (count : ℕ) (p : List ℕ) (ps : List (List ℕ)) → isCoordinate p ≡ false → judged count (p ∷ ps) ≡ false
-unfolding judged eachOf both
-judged-stop count p ps h = rw h
-
--- a number leaves it to the pieces after it, with one more counted,
-judged-next : (count : ℕ) (p : List ℕ) (ps : List (List ℕ)) → isCoordinate p ≡ true → judged count (p ∷ ps) ≡ judged (count + 1) ps
-unfolding judged eachOf both
-judged-next count p ps h =
-    let e : count + suc (length ps) ≡ count + 1 + length ps = omega arith in
-    rw (h, e)
-
--- and at the end the count decides.
-pub judged-end : (count : ℕ) → leb count mostNumbers ≡ judged count []
-unfolding judged eachOf both
-judged-end count =
-    let e : count ≡ count + 0 = omega arith in
-    ap (λ (n : ℕ). leb n mostNumbers) e
-
 -- Bits below the sign are read as they stand.
 pub to-pos : (n : ℕ) → n ≤ mostAbove → toZ w32 n ≡ pos n
 to-pos n h = rw (lt-ltb n 2147483648 (omega arith))
@@ -368,58 +287,6 @@ to-pos n h = rw (lt-ltb n 2147483648 (omega arith))
 -- One byte fewer than a word has is all that follows its first byte.
 pub rest-whole : (w : List ℕ) → take (length w - 1) (drop 1 w) ≡ drop 1 w
 rest-whole w = take-all (length w - 1) (drop 1 w) (omega (arith, length-drop 1 w))
-
--- A row is all numbers, at most forty.
-pub row-numbers : (w : List ℕ) → isRow w ≡ true → (allCoordinates (pieces comma w) ≡ true) × (length (map signed (pieces comma w)) ≤ mostNumbers)
-unfolding isRow
-row-numbers w h =
-    (both-left _ _ h, omega (arith, leb-true (length (pieces comma w)) mostNumbers (both-right _ _ h), length-map (pieces comma w) signed))
-
--- The piece of a row from a position up to the next comma:
-module _ (w : List ℕ) (at to : ℕ) (h : at ≤ length w) (e : to ≡ stopAt comma w at) where
-  row-step : rowLeft w at ≡ take (to - at) (drop at w) ∷ rowLeft w (to + 1)
-  row-step = row-next w at h ∙ ap (λ (n : ℕ). take (n - at) (drop at w) ∷ rowLeft w (n + 1)) (sym e)
-
-  -- where it is no number, the row is none;
-  pub row-bad : (count : ℕ) → isCoordinate (take (to - at) (drop at w)) ≡ false → judged count (rowLeft w at) ≡ false
-  row-bad count k = ap (judged count) row-step ∙ judged-stop count (take (to - at) (drop at w)) (rowLeft w (to + 1)) k
-
-  -- where it is one, the row is judged by what is left, with one more counted.
-  pub row-good : (count : ℕ) → isCoordinate (take (to - at) (drop at w)) ≡ true
-      → judged count (rowLeft w at) ≡ judged (count + 1) (rowLeft w (to + 1))
-  row-good count k = ap (judged count) row-step ∙ judged-next count (take (to - at) (drop at w)) (rowLeft w (to + 1)) k
-
-  -- In a row of numbers it is one, and what is left is numbers.
-  pub row-coordinates : allCoordinates (rowLeft w at) ≡ true
-      → (isCoordinate (take (to - at) (drop at w)) ≡ true) × (allCoordinates (rowLeft w (to + 1)) ≡ true)
-  row-coordinates k =
-      let e = sym (ap allCoordinates row-step) ∙ k in
-      (each-first isCoordinate (take (to - at) (drop at w)) (rowLeft w (to + 1)) e, each-rest isCoordinate (take (to - at) (drop at w)) (rowLeft w (to + 1)) e)
-
-  -- The number of the piece is the next to be stored:
-  module _ (old : List ℤ) (count : ℕ) (d : drop count (map signed (pieces comma w)) ≡ map signed (rowLeft w at)) where
-    here : drop count (map signed (pieces comma w)) ≡ signed (take (to - at) (drop at w)) ∷ map signed (rowLeft w (to + 1))
-    here = d ∙ ap (map signed) row-step
-
-    -- it is stored, and the list goes so far,
-    pub row-stored :
-        (set (over (take count (map signed (pieces comma w))) old) count (signed (take (to - at) (drop at w)))
-        ≡ over (take (count + 1) (map signed (pieces comma w))) old)
-        × (count < length (map signed (pieces comma w)))
-    row-stored = fill-more (pos 0) (map signed (pieces comma w)) old count here
-
-    -- and after it the numbers of what is left are to be stored.
-    pub row-after : drop (count + 1) (map signed (pieces comma w)) ≡ map signed (rowLeft w (to + 1))
-    row-after = sym (drop-drop 1 count (map signed (pieces comma w))) ∙ ap (λ (l : List ℤ). drop 1 l) here
-
--- A row read to its end: all its numbers are stored.
-pub row-done : (w : List ℕ) (at count : ℕ) (old : List ℤ) → length w < at → count ≤ length (map signed (pieces comma w))
-    → drop count (map signed (pieces comma w)) ≡ map signed (rowLeft w at)
-    → (count ≡ length (pieces comma w)) × (over (take count (map signed (pieces comma w))) old ≡ over (map signed (pieces comma w)) old)
-row-done w at count old h k d =
-    let f : (count ≡ length (map signed (pieces comma w))) × (over (take count (map signed (pieces comma w))) old ≡ over (map signed (pieces comma w)) old) =
-    fill-done (map signed (pieces comma w)) old count k (d ∙ ap (map signed) (row-end w at h)) in
-    (f .0 ∙ length-map (pieces comma w) signed, f .1)
 
 -- What a word holds that has the form asked for is stored,
 pub form-stored : {A : Type 0} {t : Bool} (new old : List A) {n most : ℕ} {last : List A} → t ≡ true

@@ -1,8 +1,9 @@
--- How numbers, places and bytes are printed.
+-- How numbers, places, bytes and an f32 are printed.
 use mathlib.Core.List.{List, [], _∷_, _++_}
 use Prim.Native.Nat.{ℕ, zero, suc, _+_, _/_, _%_}
 use Prim.Native.String.{String}
 use lib.IntN.{ℤ, pos, natAbs}
+use lib.Ieee.{Float, toBits, binary32}
 use lib.Signed.{ltZ}
 use lib.Dec.{ltb}
 use Rattle.basics.specs.Tests.{choose}
@@ -50,3 +51,11 @@ hexDigit d = choose (ltb d 10) (48 + d) (87 + d)
 unfoldable pub hex : List ℕ → List ℕ
 hex [] = []
 hex (b ∷ rest) = hexDigit (b / 16) ∷ hexDigit (b % 16) ∷ hex rest
+
+-- The four bytes of a number of 32 bits, high byte first.
+abbrev pub fourBytes : ℕ → List ℕ
+fourBytes n = n / 16777216 ∷ n / 65536 % 256 ∷ n / 256 % 256 ∷ n % 256 ∷ []
+
+-- The bits of an f32 as eight hex digits, in small letters; those of a NaN are 7fc00000.
+unfoldable pub floatText : Float → List ℕ
+floatText x = hex (fourBytes (toBits binary32 x))

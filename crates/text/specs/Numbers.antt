@@ -1,10 +1,11 @@
--- Numbers, lists of numbers and bytes as they are written in a line.
+-- Numbers, lists of numbers, bytes and an f32 as they are written in a line.
 use mathlib.Core.Bool.{Bool, true, false}
 use mathlib.Core.List.{List, [], _∷_, map}
 use Prim.Native.Nat.{ℕ, _+_, _-_, _*_}
 use lib.IntN.{ℤ, pos, negℤ}
 use lib.Dec.{leb, ltb, eqb}
-use lib.ListN.{length, drop, getD}
+use lib.ListN.{length, take, drop, getD}
+use lib.Ieee.{Float, ofBits, binary32}
 use Rattle.basics.specs.Tests.{both, either, choose, eachOf}
 use Rattle.text.specs.Text.{text, same}
 use Rattle.text.specs.Words.{minus, comma, pieces}
@@ -88,13 +89,13 @@ coordinateOf w = choose (isCoordinate w) (Coordinate.At (signed w)) Coordinate.U
 abbrev pub noneWord : List ℕ
 noneWord = text "-"
 
--- Every one of some words is such a number.
-abbrev pub allCoordinates : List (List ℕ) → Bool
-allCoordinates words = eachOf isCoordinate words
+-- A row: words of one form separated by single commas, up to so many.
+unfoldable pub isRowOf : (List ℕ → Bool) → ℕ → List ℕ → Bool
+isRowOf form most w = both (eachOf form (pieces comma w)) (leb (length (pieces comma w)) most)
 
 -- Numbers separated by single commas, up to 40.
-unfoldable pub isRow : List ℕ → Bool
-isRow w = both (allCoordinates (pieces comma w)) (leb (length (pieces comma w)) mostNumbers)
+abbrev pub isRow : List ℕ → Bool
+isRow w = isRowOf isCoordinate mostNumbers w
 
 -- A list: such numbers, or - for none.
 unfoldable pub isList : List ℕ → Bool
@@ -143,3 +144,28 @@ isMap w = either (same w noneWord) (isSpelled w)
 -- The bytes that a map spells; none where it is a single minus or no map.
 unfoldable pub spelled : List ℕ → List ℕ
 spelled w = choose (isSpelled w) (bytesOf w) []
+
+-- The bits of an f32 are spelled by eight hex digits.
+abbrev pub floatDigits : ℕ
+floatDigits = 8
+
+-- Every byte of a word is a hex digit.
+abbrev pub allHex : List ℕ → Bool
+allHex w = eachOf isHex w
+
+-- A word that spells the bits of an f32.
+unfoldable pub isBits : List ℕ → Bool
+isBits w = both (eqb (length w) floatDigits) (allHex w)
+
+-- What hex digits come to, after a value that stands before them: the high digit comes first.
+unfoldable pub hexFrom : ℕ → List ℕ → ℕ
+hexFrom v [] = v
+hexFrom v (b ∷ rest) = hexFrom (v * 16 + hexValue b) rest
+
+-- What the hex digits of a word come to, of which no more than eight are looked at.
+abbrev pub bitsOf : List ℕ → ℕ
+bitsOf w = hexFrom 0 (take floatDigits w)
+
+-- The f32 whose bits a word spells; all bits of a NaN are a NaN.
+unfoldable pub floatOf : List ℕ → Float
+floatOf w = ofBits binary32 (bitsOf w)

@@ -1,7 +1,7 @@
 -- Texts as bytes, and what a lent buffer holds once something is written from its start on.
 use mathlib.Core.Path.{_≡_}
 use mathlib.Core.Bool.{Bool, true, false}
-use mathlib.Core.List.{List, [], _∷_}
+use mathlib.Core.List.{List, [], _∷_, _++_}
 use Prim.Native.Nat.{ℕ, _≤_}
 use Prim.Native.Char.{code}
 use Prim.Native.String as String
@@ -15,6 +15,11 @@ use Rattle.basics.specs.Tests.{both}
 abbrev pub text : String → List ℕ
 text String.[] = []
 text (String._∷_ c rest) = code c ∷ text rest
+
+-- A text for each of a list, one after the other.
+unfoldable pub textForEach : {A : Type 0} → (A → List ℕ) → List A → List ℕ
+textForEach print [] = []
+textForEach print (a ∷ rest) = print a ++ textForEach print rest
 
 -- Two lists hold the same bytes.
 unfoldable pub same : List ℕ → List ℕ → Bool

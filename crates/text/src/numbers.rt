@@ -1,19 +1,21 @@
-// Words read as numbers, as lists of numbers and as bytes.
+// Words read as numbers, as lists of numbers, as bytes and as an f32.
 use crate::Coordinate;
 use crate::MOST_NUMBERS;
 use crate::MOST_PAIRS;
 use crate::Number;
 use crate::words::same;
 use crate::words::stop_at;
+use basics::smaller;
 ghost use mathlib.Core.Path.{_≡_};
 ghost use mathlib.Core.Bool.{true};
 ghost use mathlib.Core.List.{map};
 ghost use Prim.Native.Nat.{_+_, _-_, _*_, _≤_, min};
 ghost use lib.IntN.{pos, negℤ};
 ghost use lib.ListN.{length};
+ghost use lib.Ieee.{ofBits, binary32};
 ghost use Rattle.text.specs.Text.{over};
 ghost use Rattle.text.specs.Words.{comma, pieces};
-ghost use Rattle.text.specs.Numbers.{mostNumber, mostPairs, mostNumbers, mostBelow, beyond, between as isBetween, isDigit, isSmall, isCapital, allDigits, valueOf, numberOf, hasMinus, isCoordinate, signed, coordinateOf, isRow, listed, isList, isHex, hexValue, allPairs, bytesOf, isSpelled, isMap, spelled};
+ghost use Rattle.text.specs.Numbers.{mostNumber, mostPairs, mostNumbers, mostBelow, beyond, between as isBetween, isDigit, isSmall, isCapital, allDigits, valueOf, numberOf, hasMinus, isCoordinate, signed, coordinateOf, isRow, listed, isList, isHex, hexValue, allPairs, bytesOf, isSpelled, isMap, spelled, floatDigits, allHex, isBits, hexFrom, floatOf};
 
 // The largest number of a seat or a pin.
 pub const MOST: usize = 4294967295;
@@ -29,6 +31,15 @@ const MOST_BELOW: usize = MOST_ABOVE + 1;
 
 // A map has up to so many hex digits.
 const MOST_DIGITS: usize = MOST_PAIRS * 2;
+
+// The bits of an f32 are spelled by so many hex digits.
+const FLOAT_DIGITS: usize = 8;
+
+// The weight of the sign in the bits of an f32.
+const SIGN: u32 = 2147483648;
+
+// The bits of infinity; those of a NaN are above them, but for the sign.
+const INFINITY: u32 = 2139095040;
 
 // Whether a byte lies from one to another.
 fn between(low: u8, high: u8, b: u8) -> bool
@@ -324,4 +335,57 @@ pub fn fill_map(word: &[u8], map: &mut [u8; MOST_PAIRS]) -> usize
         return fill_pairs(word, map);
     }
     0
+}
+
+// Whether every byte of a word is a hex digit.
+fn all_hex(word: &[u8]) -> bool
+    ensures { λ r. ⌜ r ≡ allHex (now (word .entry)) ⌝ }
+{
+    let mut i = 0;
+    while i < word.len() {
+        if !is_hex(word[i]) {
+            return false;
+        }
+        i += 1;
+    }
+    true
+}
+
+// Whether a word spells the bits of an f32.
+pub fn is_bits(word: &[u8]) -> bool
+    ensures { λ r. ⌜ r ≡ isBits (now (word .entry)) ⌝ }
+{
+    word.len() == FLOAT_DIGITS && all_hex(word)
+}
+
+// What no more than eight hex digits come to.
+fn bits(digits: &[u8]) -> u32
+    requires { ⌜ length (now digits) ≤ floatDigits ⌝ }
+    ensures { λ r. ⌜ r ≡ hexFrom 0 (now (digits .entry)) ⌝ }
+{
+    let mut n: u32 = 0;
+    let mut i = 0;
+    while i < digits.len() {
+        n = n * 16 + hex_value(digits[i]) as u32;
+        i += 1;
+    }
+    n
+}
+
+// The f32 of these bits.
+fn of_bits(n: u32) -> f32
+    ensures { λ r. ⌜ r ≡ ofBits binary32 n ⌝ }
+{
+    if INFINITY < n % SIGN {
+        return 0.0 / 0.0;
+    }
+    f32::from_bits(n)
+}
+
+// The f32 whose bits a word spells.
+pub fn float(word: &[u8]) -> f32
+    ensures { λ r. ⌜ r ≡ floatOf (now (word .entry)) ⌝ }
+{
+    let looked_at = smaller(word.len(), FLOAT_DIGITS);
+    of_bits(bits(&word[..looked_at]))
 }

@@ -1,14 +1,16 @@
-// Bytes, numbers and places put into a lent buffer from a position on, with the position after them told.
+// Bytes, numbers, places and an f32 put into a lent buffer from a position on, with the position after them told.
 use crate::ANSWER_BYTES;
 use board::Place;
 ghost use mathlib.Core.Path.{_≡_};
 ghost use mathlib.Core.List.{_++_};
 ghost use Prim.Native.Nat.{_+_, _*_, _≤_, _<_};
 ghost use lib.IntN.{natAbs};
+ghost use lib.Ieee.{toBits, binary32};
 ghost use lib.ListN.{length};
 ghost use lib.Seq.{sets};
 ghost use Rattle.text.specs.Text.{answerBytes};
-ghost use Rattle.text.specs.Digits.{mostDecimalBytes, mostIntegerBytes, mostPlaceBytes, decimal, integer, placeText, hexDigit, hex};
+ghost use Rattle.text.specs.Numbers.{floatDigits};
+ghost use Rattle.text.specs.Digits.{mostDecimalBytes, mostIntegerBytes, mostPlaceBytes, decimal, integer, placeText, hexDigit, hex, fourBytes, floatText};
 
 // Puts bytes at a position, and answers the position after them.
 pub fn put(out: &mut [u8; ANSWER_BYTES], at: usize, bytes: &[u8]) -> usize
@@ -107,4 +109,36 @@ pub fn put_place(out: &mut [u8; ANSWER_BYTES], at: usize, label: &[u8], place: P
 {
     let next = put_integer(out, at, label, place.x);
     put_integer(out, next, b" ", place.y)
+}
+
+// The four bytes of a number, high byte first.
+fn four_bytes(n: u32) -> [u8; 4]
+    ensures { λ r. ⌜ r ≡ fourBytes n ⌝ }
+{
+    [
+        (n / 16777216) as u8,
+        (n / 65536 % 256) as u8,
+        (n / 256 % 256) as u8,
+        (n % 256) as u8,
+    ]
+}
+
+// The bits of an f32.
+fn to_bits(x: f32) -> u32
+    ensures { λ r. ⌜ r ≡ toBits binary32 x ⌝ }
+{
+    if x != x {
+        return 0x7fc00000;
+    }
+    f32::to_bits(x)
+}
+
+// Puts the bits of an f32 as eight hex digits at a position.
+pub fn put_float(out: &mut [u8; ANSWER_BYTES], at: usize, x: f32) -> usize
+    requires { ⌜ at + floatDigits ≤ answerBytes ⌝ }
+    ensures { λ r. ⌜ (r ≡ at + length (floatText x)) × (r ≡ at + floatDigits) ⌝ }
+    ensures { λ _. ⌜ now (out .exit) ≡ sets (now (out .entry)) at (floatText x) ⌝ }
+{
+    let bytes = four_bytes(to_bits(x));
+    put_hex(out, at, &bytes)
 }

@@ -6,8 +6,8 @@ use Rattle.drawing.specs.declared.stated.Making.the-variants.{Placing, Moving, 
 use Rattle.drawing.specs.Pins.{holding}
 use Rattle.rows.specs.Calls.{closing, making, undoing, redoing}
 use Rattle.script.proofs.Rooms.{write-room}
+use Rattle.text.proofs.Printing.{held}
 use Rattle.printed.specs.Answers.{mostLineBytes, notACallLine}
-use Rattle.shown.proofs.Lines.{held}
 use Rattle.answer.specs.Answered.{followed, printed}
 use Rattle.answer.proofs.Telling.{called}
 use Rattle.answer.proofs.Answering.{answers}
@@ -113,6 +113,12 @@ wire-bare-requires c κs = search needs
 
 enum-known-said-11 : tie.Need-enum-known-said-11
 enum-known-said-11 c = search needs
+
+drops-requires : tie.Need-drops-requires
+drops-requires c κs = search needs
+
+enum-known-said-12 : tie.Need-enum-known-said-12
+enum-known-said-12 c = search needs
 
 show-pins-requires : tie.Need-show-pins-requires
 show-pins-requires c κs = search needs
@@ -234,6 +240,15 @@ returns-13 c =
     let r = o .before .before in
     let s = begun r in
     answers (s .args .desk) (s .args .number) (s .args .line .now) (s .args .out .now) (r .read-line .ensures) (o .said11 .given .1)
+    (refl, c .drops .ensures)
+
+returns-14 : tie.Need-returns-14
+unfolding followed printed
+returns-14 c =
+    let o = c .before .before .before in
+    let r = o .before .before in
+    let s = begun r in
+    answers (s .args .desk) (s .args .number) (s .args .line .now) (s .args .out .now) (r .read-line .ensures) (o .said12 .given .1)
     (refl, c .show-pins .ensures)
 
 pub answer-line-spec : {M : Type 1} → statement M
@@ -271,6 +286,8 @@ answer-line-spec =
     enum-known-said-10
     wire-bare-requires
     enum-known-said-11
+    drops-requires
+    enum-known-said-12
     show-pins-requires
     returns
     returns-2
@@ -284,4 +301,5 @@ answer-line-spec =
     returns-10
     returns-11
     returns-12
-    returns-13)
+    returns-13
+    returns-14)

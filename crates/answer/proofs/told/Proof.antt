@@ -1,8 +1,8 @@
 -- `answer::told` meets its contract. Assumes nothing.
 use mathlib.Core.Path.{refl}
 use native.Mathlib.Omega.{arith}
+use Rattle.text.proofs.Printing.{held}
 use Rattle.printed.specs.Answers.{mostLineBytes, verdictLine}
-use Rattle.shown.proofs.Lines.{held}
 use borrow.Author.Needs.{needs}
 use Rattle.answer.proofs.told.Statement.{statement}
 use Rattle.answer.proofs.told.Tie as tie

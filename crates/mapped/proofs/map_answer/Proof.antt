@@ -3,8 +3,8 @@ use mathlib.Core.Path.{sym, _∙_}
 use native.Mathlib.Omega.{arith}
 use borrow.Author.Needs.{needs}
 use Rattle.text.specs.Text.{answerBytes}
+use Rattle.text.proofs.Printing.{held}
 use Rattle.printed.specs.Answers.{mostLineBytes}
-use Rattle.shown.proofs.Lines.{held}
 use Rattle.mapped.proofs.Opening.{answer-refused, answer-wired}
 use Rattle.mapped.proofs.map_answer.Statement.{statement}
 use Rattle.mapped.proofs.map_answer.Tie as tie

@@ -4,9 +4,9 @@ use native.Mathlib.Omega.{arith}
 use borrow.Author.Tests.{not-true, not-false}
 use lib.ListN.{take}
 use Rattle.printed.specs.Answers.{mostLineBytes, wiredLine}
-use Rattle.text.proofs.Printing.{put-as, put-all3, line}
+use Rattle.text.proofs.Printing.{put-as, put-all3, line, held}
 use Rattle.shown.specs.Shown.{runsText, legsText, laidText}
-use Rattle.shown.proofs.Lines.{begun, held, laid-refused, laid-accepted}
+use Rattle.shown.proofs.Lines.{begun, laid-refused, laid-accepted}
 use borrow.Author.Needs.{needs}
 use Rattle.shown.proofs.print_laid.Statement.{statement}
 use Rattle.shown.proofs.print_laid.Tie as tie

@@ -4,9 +4,9 @@ use native.Mathlib.Omega.{arith}
 use borrow.Author.Tests.{not-true, not-false}
 use lib.ListN.{take}
 use Rattle.printed.specs.Answers.{mostLineBytes, jobLine}
-use Rattle.text.proofs.Printing.{put-as, then-put, line}
+use Rattle.text.proofs.Printing.{put-as, then-put, line, held}
 use Rattle.shown.specs.Shown.{runsText, mapText}
-use Rattle.shown.proofs.Lines.{begun, held, map-refused, map-accepted}
+use Rattle.shown.proofs.Lines.{begun, map-refused, map-accepted}
 use borrow.Author.Needs.{needs}
 use Rattle.shown.proofs.print_map.Statement.{statement}
 use Rattle.shown.proofs.print_map.Tie as tie

@@ -3,9 +3,10 @@ use mathlib.Core.Path.{refl, ap}
 use Prim.Native.Nat.{_≤_, _+_, _*_, _-_}
 use native.Mathlib.Omega.{arith}
 use lib.ListN.{take, getD}
-use Rattle.text.proofs.Printing.{Put, then-put, put-as}
-use Rattle.shown.proofs.Lines.{lines-more, first-all}
-use Rattle.shown.specs.Shown.{legText, lineForEach}
+use Rattle.text.specs.Text.{textForEach}
+use Rattle.text.proofs.Printing.{Put, then-put, put-as, each-more}
+use Rattle.shown.proofs.Lines.{first-all}
+use Rattle.shown.specs.Shown.{legText}
 use Rattle.wiring.specs.Answer.{mostLegs, noLeg}
 use Rattle.printed.specs.Answers.{mostLegBytes}
 use borrow.Author.Needs.{needs}
@@ -13,7 +14,7 @@ use Rattle.shown.proofs.put_legs.Statement.{statement}
 use Rattle.shown.proofs.put_legs.Tie as tie
 
 abbrev Inv-loop : tie.InvT-loop
-Inv-loop count out₀ at legs most next₀ i₀ out next i = ((i ≤ most) × (next ≤ at + i * mostLegBytes)) × Put out₀ at (lineForEach legText (take i legs)) next out
+Inv-loop count out₀ at legs most next₀ i₀ out next i = ((i ≤ most) × (next ≤ at + i * mostLegBytes)) × Put out₀ at (textForEach legText (take i legs)) next out
 
 abbrev μ-loop : tie.MeasureT-loop
 μ-loop count out₀ at legs most next₀ i₀ out next i = most - i
@@ -22,7 +23,7 @@ smaller-requires : tie.Need-smaller-requires Inv-loop μ-loop
 smaller-requires c κs = search needs
 
 loop-holds : tie.Need-loop-holds Inv-loop μ-loop
-unfolding lineForEach
+unfolding textForEach
 loop-holds c = ((omega arith, omega arith), (omega arith, refl))
 
 mul-leg : tie.Need-mul-leg Inv-loop μ-loop
@@ -46,8 +47,8 @@ loop-again c =
     let q = c .before .before .before .before .loop in
     let e = c .put-leg .ensures in
     let a = getD (s .t1) (q .i) noLeg in
-    let h = then-put (s .out .now) (s .at) (lineForEach legText (take (q .i) (s .t1))) (legText a) (q .inv .1) (e .0 .0, e .1) in
-    ((omega arith, omega (arith, e .0 .1)), put-as (s .out .now) (s .at) (lines-more legText noLeg (s .t1) (q .i) (omega arith)) h)
+    let h = then-put (s .out .now) (s .at) (textForEach legText (take (q .i) (s .t1))) (legText a) (q .inv .1) (e .0 .0, e .1) in
+    ((omega arith, omega (arith, e .0 .1)), put-as (s .out .now) (s .at) (each-more legText noLeg (s .t1) (q .i) (omega arith)) h)
 
 returns : tie.Need-returns Inv-loop μ-loop
 returns c =
@@ -55,7 +56,7 @@ returns c =
     let q = c .before .loop in
     let n = c .before .before .smaller .ensures in
     let e = first-all (s .t1) (s .count) mostLegs (q .i) (omega arith) (omega (arith, n)) in
-    let h = put-as (s .out .now) (s .at) (ap (lineForEach legText) e) (q .inv .1) in
+    let h = put-as (s .out .now) (s .at) (ap (textForEach legText) e) (q .inv .1) in
     ((h .0, omega (arith, n)), h .1)
 
 pub put-legs-spec : {M : Type 1} → statement M

@@ -3,9 +3,10 @@ use mathlib.Core.Path.{refl, ap}
 use Prim.Native.Nat.{_≤_, _+_, _*_, _-_}
 use native.Mathlib.Omega.{arith}
 use lib.ListN.{take, getD}
-use Rattle.text.proofs.Printing.{Put, then-put, put-as}
-use Rattle.shown.proofs.Lines.{lines-more, first-all}
-use Rattle.shown.specs.Shown.{entryLine, lineForEach}
+use Rattle.text.specs.Text.{textForEach}
+use Rattle.text.proofs.Printing.{Put, then-put, put-as, each-more}
+use Rattle.shown.proofs.Lines.{first-all}
+use Rattle.shown.specs.Shown.{entryLine}
 use Rattle.copper.specs.declared.Shape.the-variants.{Straight}
 use Rattle.tree.specs.Trees.{mostRuns}
 use Rattle.wiring.specs.Answer.{runEntry}
@@ -15,7 +16,7 @@ use Rattle.shown.proofs.put_runs.Statement.{statement}
 use Rattle.shown.proofs.put_runs.Tie as tie
 
 abbrev Inv-loop : tie.InvT-loop
-Inv-loop count out₀ at runs most next₀ i₀ out next i = ((i ≤ most) × (next ≤ at + i * mostRunBytes)) × Put out₀ at (lineForEach entryLine (take i runs)) next out
+Inv-loop count out₀ at runs most next₀ i₀ out next i = ((i ≤ most) × (next ≤ at + i * mostRunBytes)) × Put out₀ at (textForEach entryLine (take i runs)) next out
 
 abbrev μ-loop : tie.MeasureT-loop
 μ-loop count out₀ at runs most next₀ i₀ out next i = most - i
@@ -24,7 +25,7 @@ smaller-requires : tie.Need-smaller-requires Inv-loop μ-loop
 smaller-requires c κs = search needs
 
 loop-holds : tie.Need-loop-holds Inv-loop μ-loop
-unfolding lineForEach
+unfolding textForEach
 loop-holds c = ((omega arith, omega arith), (omega arith, refl))
 
 mul-run : tie.Need-mul-run Inv-loop μ-loop
@@ -48,8 +49,8 @@ loop-again c =
     let q = c .before .before .before .before .loop in
     let e = c .put-entry .ensures in
     let a = getD (s .t1) (q .i) (runEntry 0 0 Straight) in
-    let h = then-put (s .out .now) (s .at) (lineForEach entryLine (take (q .i) (s .t1))) (entryLine a) (q .inv .1) (e .0 .0, e .1) in
-    ((omega arith, omega (arith, e .0 .1)), put-as (s .out .now) (s .at) (lines-more entryLine (runEntry 0 0 Straight) (s .t1) (q .i) (omega arith)) h)
+    let h = then-put (s .out .now) (s .at) (textForEach entryLine (take (q .i) (s .t1))) (entryLine a) (q .inv .1) (e .0 .0, e .1) in
+    ((omega arith, omega (arith, e .0 .1)), put-as (s .out .now) (s .at) (each-more entryLine (runEntry 0 0 Straight) (s .t1) (q .i) (omega arith)) h)
 
 returns : tie.Need-returns Inv-loop μ-loop
 returns c =
@@ -57,7 +58,7 @@ returns c =
     let q = c .before .loop in
     let n = c .before .before .smaller .ensures in
     let e = first-all (s .t1) (s .count) mostRuns (q .i) (omega arith) (omega (arith, n)) in
-    let h = put-as (s .out .now) (s .at) (ap (lineForEach entryLine) e) (q .inv .1) in
+    let h = put-as (s .out .now) (s .at) (ap (textForEach entryLine) e) (q .inv .1) in
     ((h .0, omega (arith, n)), h .1)
 
 pub put-runs-spec : {M : Type 1} → statement M

@@ -201,18 +201,34 @@ slice-aggregate-same-11 c = search needs
 same-requires-11 : tie.Need-same-requires-11
 same-requires-11 c κs = search needs
 
-read-pins-requires : tie.Need-read-pins-requires
-read-pins-requires c κs = search needs
+read-drops-requires : tie.Need-read-drops-requires
+read-drops-requires c κs = search needs
 
 returns-11 : tie.Need-returns-11
 unfolding saidAs same both choose
 returns-11 c =
-    c .read-pins .ensures
-    ∙ named "pins" _ (at10 (c .before .before .before .before) .word .ensures) (sym (c .before .before .same11 .ensures) ∙ c .before .if11 .taken)
+    c .read-drops .ensures
+    ∙ named "drops" _ (at10 (c .before .before .before .before) .word .ensures) (sym (c .before .before .same11 .ensures) ∙ c .before .if11 .taken)
+
+slice-aggregate-same-12 : tie.Need-slice-aggregate-same-12
+slice-aggregate-same-12 c = search needs
+
+same-requires-12 : tie.Need-same-requires-12
+same-requires-12 c κs = search needs
+
+read-pins-requires : tie.Need-read-pins-requires
+read-pins-requires c κs = search needs
 
 returns-12 : tie.Need-returns-12
+unfolding saidAs same both choose
 returns-12 c =
-    let e10 = c .before .before .before in
+    c .read-pins .ensures
+    ∙ named "pins" _ (at11 (c .before .before .before .before) .word .ensures) (sym (c .before .before .same12 .ensures) ∙ c .before .if12 .taken)
+
+returns-13 : tie.Need-returns-13
+returns-13 c =
+    let e11 = c .before .before .before in
+    let e10 = e11 .before .before .before in
     let e9 = e10 .before .before .before in
     let e8 = e9 .before .before .before in
     let e7 = e8 .before .before .before in
@@ -222,7 +238,19 @@ returns-12 c =
     let e3 = e4 .before .before .before in
     let e2 = e3 .before .before .before in
     let e1 = e2 .before .before .before in
-    none-named _ (e1 .before .before .before .word .ensures) (sym (e1 .before .same .ensures) ∙ e1 .if1 .left) (sym (e2 .before .same2 .ensures) ∙ e2 .if2 .left) (sym (e3 .before .same3 .ensures) ∙ e3 .if3 .left) (sym (e4 .before .same4 .ensures) ∙ e4 .if4 .left) (sym (e5 .before .same5 .ensures) ∙ e5 .if5 .left) (sym (e6 .before .same6 .ensures) ∙ e6 .if6 .left) (sym (e7 .before .same7 .ensures) ∙ e7 .if7 .left) (sym (e8 .before .same8 .ensures) ∙ e8 .if8 .left) (sym (e9 .before .same9 .ensures) ∙ e9 .if9 .left) (sym (e10 .before .same10 .ensures) ∙ e10 .if10 .left) (sym (c .before .same11 .ensures) ∙ c .if11 .left)
+    none-named _ (e1 .before .before .before .word .ensures)
+    (sym (e1 .before .same .ensures) ∙ e1 .if1 .left)
+    (sym (e2 .before .same2 .ensures) ∙ e2 .if2 .left)
+    (sym (e3 .before .same3 .ensures) ∙ e3 .if3 .left)
+    (sym (e4 .before .same4 .ensures) ∙ e4 .if4 .left)
+    (sym (e5 .before .same5 .ensures) ∙ e5 .if5 .left)
+    (sym (e6 .before .same6 .ensures) ∙ e6 .if6 .left)
+    (sym (e7 .before .same7 .ensures) ∙ e7 .if7 .left)
+    (sym (e8 .before .same8 .ensures) ∙ e8 .if8 .left)
+    (sym (e9 .before .same9 .ensures) ∙ e9 .if9 .left)
+    (sym (e10 .before .same10 .ensures) ∙ e10 .if10 .left)
+    (sym (e11 .before .same11 .ensures) ∙ e11 .if11 .left)
+    (sym (c .before .same12 .ensures) ∙ c .if12 .left)
 
 pub read-call-spec : {M : Type 1} → statement M
 read-call-spec =
@@ -271,6 +299,10 @@ read-call-spec =
     returns-10
     slice-aggregate-same-11
     same-requires-11
-    read-pins-requires
+    read-drops-requires
     returns-11
-    returns-12)
+    slice-aggregate-same-12
+    same-requires-12
+    read-pins-requires
+    returns-12
+    returns-13)

@@ -1,11 +1,11 @@
 -- `text::fill_list` meets its contract. Assumes nothing.
 use mathlib.Core.Path.{sym, _∙_}
-use mathlib.Core.List.{map}
 use lib.ListN.{length-map}
 use native.Mathlib.Omega.{arith}
 use Rattle.text.specs.Words.{comma, pieces}
-use Rattle.text.specs.Numbers.{signed, listed}
-use Rattle.text.proofs.Values.{row-numbers, form-stored, form-none}
+use Rattle.text.specs.Numbers.{mostNumbers, isCoordinate, signed, listed}
+use Rattle.text.proofs.Rows.{row-words}
+use Rattle.text.proofs.Values.{form-stored, form-none}
 use borrow.Author.Needs.{needs}
 use Rattle.text.proofs.numbers.fill_list.Statement.{statement}
 use Rattle.text.proofs.numbers.fill_list.Tie as tie
@@ -22,7 +22,7 @@ returns c =
     let row = sym (c .before .before .before .is-row .ensures) ∙ c .before .before .if1 .taken in
     let word = c .before .before .before .before .before .args .word .now in
     let count = c .fill-row .ensures .0 ∙ sym (length-map (pieces comma word) signed) in
-    form-stored _ _ row count (omega (arith, count, row-numbers word row .1)) (c .fill-row .ensures .1)
+    form-stored _ _ row count (omega (arith, c .fill-row .ensures .0, row-words isCoordinate mostNumbers word row .1)) (c .fill-row .ensures .1)
 
 returns-2 : tie.Need-returns-2
 unfolding listed

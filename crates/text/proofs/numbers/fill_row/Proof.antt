@@ -1,11 +1,12 @@
 -- `text::fill_row` meets its contract. Assumes nothing.
 use Rattle.board.proofs.Signed.{held}
-use Rattle.text.proofs.Values.{row-coordinates, row-stored, row-after, row-done, rowLeft, row-start, row-numbers}
+use Rattle.text.proofs.Rows.{row-forms, row-stored, row-after, row-done, rowLeft, row-start, row-words}
 use mathlib.Core.Path.{_≡_, refl, sym, _∙_, ap}
 use Prim.Native.Nat.{_≤_, _-_, _+_}
 use native.Mathlib.Omega.{arith}
-use lib.ListN.{length, take, drop}
-use Rattle.text.specs.Numbers.{signed, allCoordinates}
+use lib.ListN.{length, take, drop, length-map}
+use Rattle.basics.specs.Tests.{eachOf}
+use Rattle.text.specs.Numbers.{mostNumbers, isCoordinate, signed}
 use Rattle.text.proofs.Cutting.{stop-within, stop-from}
 use mathlib.Core.List.{map}
 use mathlib.Core.Bool.{true}
@@ -19,7 +20,7 @@ Inv-loop word values₀ count₀ at₀ values count at =
     (at ≤ length word + 1)
     × (count ≤ length (map signed (pieces comma word)))
     × (drop count (map signed (pieces comma word)) ≡ map signed (rowLeft word at))
-    × (allCoordinates (rowLeft word at) ≡ true)
+    × (eachOf isCoordinate (rowLeft word at) ≡ true)
     × (values ≡ over (take count (map signed (pieces comma word))) values₀)
 
 abbrev μ-loop : tie.MeasureT-loop
@@ -30,7 +31,7 @@ loop-holds c = (
   omega arith,
   omega arith,
   ap (map signed) (sym (row-start _)),
-  ap allCoordinates (row-start _) ∙ row-numbers _ (c .before .pre) .0,
+  ap (eachOf isCoordinate) (row-start _) ∙ row-words isCoordinate mostNumbers _ (c .before .pre) .0,
   refl,
 )
 
@@ -53,8 +54,8 @@ part-signed-of-end c =
 
 signed-of-requires : tie.Need-signed-of-requires Inv-loop μ-loop
 signed-of-requires c κs =
-    row-coordinates _ (c .before .before .before .loop .at) (c .before .stop-at .result)
-    (c .before .before .loop-test .taken) (c .before .stop-at .ensures)
+    row-forms _ (c .before .before .before .loop .at) (c .before .stop-at .result)
+    (c .before .before .loop-test .taken) (c .before .stop-at .ensures) isCoordinate
     (c .before .before .before .loop .inv .3) .0
 
 mul-t12 : tie.Need-mul-t12 Inv-loop μ-loop
@@ -63,9 +64,10 @@ mul-t12 c =
     omega (
       arith,
       (row-stored (s .word .now) (c .before .before .before .before .loop .at) (c .before .before .stop-at .result)
-          (c .before .before .before .loop-test .taken) (c .before .before .stop-at .ensures) (s .values .now)
+          (c .before .before .before .loop-test .taken) (c .before .before .stop-at .ensures) signed (s .values .now)
           (c .before .before .before .before .loop .count) (c .before .before .before .before .loop .inv .2)) .1,
-      row-numbers (s .word .now) (c .before .before .before .before .before .before .pre) .1,
+      row-words isCoordinate mostNumbers (s .word .now) (c .before .before .before .before .before .before .pre) .1,
+      length-map (pieces comma (s .word .now)) signed,
     )
 
 element-set-from-values : tie.Need-element-set-from-values Inv-loop μ-loop
@@ -74,9 +76,10 @@ element-set-from-values c =
     omega (
       arith,
       (row-stored (s .word .now) (c .before .before .before .before .loop .at) (c .before .before .stop-at .result)
-          (c .before .before .before .loop-test .taken) (c .before .before .stop-at .ensures) (s .values .now)
+          (c .before .before .before .loop-test .taken) (c .before .before .stop-at .ensures) signed (s .values .now)
           (c .before .before .before .before .loop .count) (c .before .before .before .before .loop .inv .2)) .1,
-      row-numbers (s .word .now) (c .before .before .before .before .before .before .pre) .1,
+      row-words isCoordinate mostNumbers (s .word .now) (c .before .before .before .before .before .before .pre) .1,
+      length-map (pieces comma (s .word .now)) signed,
     )
 
 add-count : tie.Need-add-count Inv-loop μ-loop
@@ -85,9 +88,10 @@ add-count c =
     omega (
       arith,
       (row-stored (s .word .now) (c .before .before .before .before .loop .at) (c .before .before .stop-at .result)
-          (c .before .before .before .loop-test .taken) (c .before .before .stop-at .ensures) (s .values .now)
+          (c .before .before .before .loop-test .taken) (c .before .before .stop-at .ensures) signed (s .values .now)
           (c .before .before .before .before .loop .count) (c .before .before .before .before .loop .inv .2)) .1,
-      row-numbers (s .word .now) (c .before .before .before .before .before .before .pre) .1,
+      row-words isCoordinate mostNumbers (s .word .now) (c .before .before .before .before .before .before .pre) .1,
+      length-map (pieces comma (s .word .now)) signed,
     )
 
 add-at : tie.Need-add-at Inv-loop μ-loop
@@ -118,20 +122,20 @@ loop-again c =
     let stop-at = c .before .before .stop-at .ensures in
     let at-stop-at = c .before .before .stop-at .result in (
       omega (arith, stop-at, stop-within comma (s .word .now) at (omega arith)),
-      omega (arith, (row-stored (s .word .now) at at-stop-at more stop-at (s .values .now) count (inv .2)) .1),
-      row-after (s .word .now) at at-stop-at more stop-at (s .values .now) count (inv .2),
-      row-coordinates (s .word .now) at at-stop-at more stop-at (inv .3) .1,
+      omega (arith, (row-stored (s .word .now) at at-stop-at more stop-at signed (s .values .now) count (inv .2)) .1),
+      row-after (s .word .now) at at-stop-at more stop-at signed (s .values .now) count (inv .2),
+      row-forms (s .word .now) at at-stop-at more stop-at isCoordinate (inv .3) .1,
       rw (inv .4, held (c .signed-of .result) (c .signed-of .ok), c .signed-of .ensures)
-          ((row-stored (s .word .now) at at-stop-at more stop-at (s .values .now) count (inv .2)) .0),
+          ((row-stored (s .word .now) at at-stop-at more stop-at signed (s .values .now) count (inv .2)) .0),
     )
 
 returns : tie.Need-returns Inv-loop μ-loop
 returns c =
     let s = c .before .before .before .args in
     let inv = c .before .loop .inv in (
-      (row-done (s .word .now) (c .before .loop .at) (c .before .loop .count) (s .values .now) (c .loop-test .left) (inv .1) (inv .2)) .0,
+      (row-done signed (s .word .now) (c .before .loop .at) (c .before .loop .count) (s .values .now) (c .loop-test .left) (inv .1) (inv .2)) .0,
       inv .4
-          ∙ (row-done (s .word .now) (c .before .loop .at) (c .before .loop .count) (s .values .now) (c .loop-test .left) (inv .1) (inv .2)) .1,
+          ∙ (row-done signed (s .word .now) (c .before .loop .at) (c .before .loop .count) (s .values .now) (c .loop-test .left) (inv .1) (inv .2)) .1,
     )
 
 pub fill-row-spec : {M : Type 1} → statement M

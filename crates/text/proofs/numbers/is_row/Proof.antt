@@ -1,25 +1,25 @@
 -- `text::is_row` meets its contract. Assumes nothing.
 use Rattle.text.specs.Words.{comma}
-use Rattle.text.proofs.Values.{row-bad, row-good, rowLeft, judged, row-end, judged-start, judged-end}
+use Rattle.text.proofs.Rows.{row-bad, row-good, rowLeft, judged, row-end, judged-start, judged-end}
 use mathlib.Core.Path.{_≡_, sym, _∙_, ap}
 use Prim.Native.Nat.{_≤_, _-_, _+_}
 use native.Mathlib.Omega.{arith}
 use borrow.Author.Needs.{needs}
 use lib.ListN.{length}
 use borrow.Author.Tests.{not-true, not-false}
-use Rattle.text.specs.Numbers.{isRow}
+use Rattle.text.specs.Numbers.{mostNumbers, isCoordinate, isRow}
 use Rattle.text.proofs.Cutting.{stop-within, stop-from}
 use Rattle.text.proofs.numbers.is_row.Statement.{statement}
 use Rattle.text.proofs.numbers.is_row.Tie as tie
 
 abbrev Inv-loop : tie.InvT-loop
-Inv-loop word count₀ at₀ count at = (at ≤ length word + 1) × (count ≤ at) × (isRow word ≡ judged count (rowLeft word at))
+Inv-loop word count₀ at₀ count at = (at ≤ length word + 1) × (count ≤ at) × (isRow word ≡ judged isCoordinate mostNumbers count (rowLeft word at))
 
 abbrev μ-loop : tie.MeasureT-loop
 μ-loop word count₀ at₀ count at = length word + 1 - at
 
 loop-holds : tie.Need-loop-holds Inv-loop μ-loop
-loop-holds c = (omega arith, omega arith, judged-start (c .before .args .word .now))
+loop-holds c = (omega arith, omega arith, judged-start isCoordinate mostNumbers (c .before .args .word .now))
 
 stop-at-requires : tie.Need-stop-at-requires Inv-loop μ-loop
 stop-at-requires c κs = omega arith
@@ -49,7 +49,7 @@ returns c =
     (c .before .before .before .before .before .loop .inv .2
     ∙ row-bad _ (c .before .before .before .before .before .loop .at)
     (c .before .before .before .stop-at .result) (c .before .before .before .before .loop-test .taken)
-    (c .before .before .before .stop-at .ensures) (c .before .before .before .before .before .loop .count)
+    (c .before .before .before .stop-at .ensures) isCoordinate mostNumbers (c .before .before .before .before .before .loop .count)
     (sym (c .before .is-coordinate .ensures) ∙ not-true (c .before .is-coordinate .result) (c .if1 .taken)))
 
 add-count : tie.Need-add-count Inv-loop μ-loop
@@ -82,17 +82,17 @@ loop-again c =
       omega (arith, stop-at, stop-from comma (s .word .now) at),
       c .before .before .before .before .before .loop .inv .2
           ∙ row-good (s .word .now) at (c .before .before .before .stop-at .result)
-          (c .before .before .before .before .loop-test .taken) stop-at
+          (c .before .before .before .before .loop-test .taken) stop-at isCoordinate mostNumbers
           (c .before .before .before .before .before .loop .count)
           (sym (c .before .is-coordinate .ensures) ∙ not-false (c .before .is-coordinate .result) (c .if1 .left)),
     )
 
 returns-2 : tie.Need-returns-2 Inv-loop μ-loop
 returns-2 c =
-    judged-end (c .before .loop .count)
+    judged-end isCoordinate mostNumbers (c .before .loop .count)
     ∙ sym
     (c .before .loop .inv .2
-    ∙ ap (judged (c .before .loop .count))
+    ∙ ap (judged isCoordinate mostNumbers (c .before .loop .count))
     (row-end _ (c .before .loop .at) (c .loop-test .left)))
 
 pub is-row-spec : {M : Type 1} → statement M

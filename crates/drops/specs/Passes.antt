@@ -1,0 +1,35 @@
+-- What the two passes over the runs go by: near and far pins as lists of their own, the amps of a pin. No entry point's promise rests on these.
+use mathlib.Core.Path.{_≡_}
+use mathlib.Core.List.{List, [], _∷_, map}
+use Prim.Native.Nat.{ℕ, _≤_, _<_}
+use lib.ListN.{length, getD}
+use lib.Ieee.{Float}
+use Rattle.board.specs.Spots.{mostPins}
+use Rattle.tree.specs.declared.Run.{Run}
+use Rattle.tree.specs.Growth.{run}
+use Rattle.tree.specs.Trees.{mostRuns}
+use Rattle.drops.specs.declared.Sheet.{Sheet}
+use Rattle.drops.specs.declared.Loaded.{Loaded}
+use Rattle.drops.specs.Loads.{loadAt, ampsOf}
+
+-- The far pins of runs, in run order.
+abbrev pub farsOf : List Run → List ℕ
+farsOf runs = map (λ (r : Run). r .far) runs
+
+-- The runs that have these near and far pins.
+unfoldable pub runsBy : List ℕ → List ℕ → List Run
+runsBy [] fars = []
+runsBy (near ∷ nears) [] = []
+runsBy (near ∷ nears) (far ∷ fars) = run near far ∷ runsBy nears fars
+
+-- The ends of so many runs are pin numbers; there is room for as many runs as a tree can have.
+pub record PinNumbers (nears fars : List ℕ) (count : ℕ) : Type 0 where
+  pub few : count ≤ mostRuns
+  pub nears-long : length nears ≡ mostRuns
+  pub fars-long : length fars ≡ mostRuns
+  pub near : (i : ℕ) → i < count → getD nears i 0 < mostPins
+  pub far : (i : ℕ) → i < count → getD fars i 0 < mostPins
+
+-- The load of a pin in amps.
+abbrev pub ampsAt : List Loaded → Sheet → ℕ → Float
+ampsAt loads sheet pin = ampsOf sheet (loadAt loads pin)

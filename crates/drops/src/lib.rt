@@ -1,0 +1,279 @@
+// Volts lost on the way to each pin: loads as amps, the currents of the runs, the drops of the pins. Everything is f32, one rounding an operation.
+use board::PINS;
+use board::Place;
+use board::spots::place_at;
+use refusal::Verdict;
+use tree::RUNS;
+use tree::Run;
+ghost use mathlib.Core.Path.{_≡_};
+ghost use mathlib.Core.Bool.{true};
+ghost use mathlib.Core.List.{List};
+ghost use Prim.Native.Nat.{_≤_, _*_};
+ghost use lib.IntN.{ℤ};
+ghost use lib.ListN.{length, take, drop};
+ghost use Rattle.basics.specs.Lists.{padded};
+ghost use Rattle.board.specs.Place.{limit, distanceOf};
+ghost use Rattle.board.specs.Spots.{spotsFrom, allWithin};
+ghost use Rattle.tree.specs.Growth.{run, pinsOf};
+ghost use Rattle.tree.specs.Trees.{mostRuns};
+ghost use Rattle.drops.specs.Loads.{nought, isFrom, sheetFits, loadFits, loadsFit, ampsOf};
+ghost use Rattle.drops.specs.Drops.{nearsOf, plusLeadingOn, currentsOf, runDrop, distanceOfRun, dropsAfter, noDrops, noneLost, lostOf};
+ghost use Rattle.drops.specs.Passes.{farsOf, runsBy, PinNumbers, ampsAt};
+
+// A board sheet: supply volts, and ohms per step.
+pub struct Sheet {
+    pub volts: f32,
+    pub ohms: f32,
+}
+
+// A load: so many amps, so many watts, or none.
+pub enum Load {
+    Amps(f32),
+    Watts(f32),
+    Spare,
+}
+
+// The load of one pin number.
+pub struct Loaded {
+    pub load: Load,
+}
+
+// What is answered: the verdict, and the drop of each pin number.
+pub struct Lost {
+    pub verdict: Verdict,
+    pub drops: [f32; PINS],
+}
+
+// Whether a number is from `low` to `high`, both included; a NaN is in no range.
+fn is_from(low: f32, number: f32, high: f32) -> bool
+    ensures { λ r. ⌜ r ≡ isFrom low number high ⌝ }
+{
+    low <= number && number <= high
+}
+
+// Whether supply volts are from 1 to 60, and ohms per step from 0 to 0.01.
+fn sheet_fits(sheet: Sheet) -> bool
+    ensures { λ r. ⌜ r ≡ sheetFits sheet ⌝ }
+{
+    is_from(1.0, sheet.volts, 60.0) && is_from(0.0, sheet.ohms, 0.01)
+}
+
+// Whether amps are from 0 to 500, or watts from 0 to 12,000.
+fn load_fits(load: Load) -> bool
+    ensures { λ r. ⌜ r ≡ loadFits load ⌝ }
+{
+    match load {
+        Load::Amps(a) => is_from(0.0, a, 500.0),
+        Load::Watts(w) => is_from(0.0, w, 12000.0),
+        Load::Spare => true,
+    }
+}
+
+// Whether the loads of the pins that are there are in their ranges, wherever these pins stand.
+fn loads_fit(loads: [Loaded; PINS], there: &[bool; PINS]) -> bool
+    ensures { λ r. ⌜ ((xs ys : List ℤ) → r ≡ loadsFit loads (pinsOf (spotsFrom xs ys (now (there .entry))))) ⌝ }
+{
+    let mut count = 0;
+    while count < PINS {
+        let pin = count;
+        count += 1;
+        if there[pin] {
+            let loaded = loads[pin];
+            let load = loaded.load;
+            if !load_fits(load) {
+                return false;
+            }
+        }
+    }
+    true
+}
+
+// The amps of a load: watts by one division by the supply volts.
+fn amps(sheet: Sheet, load: Load) -> f32
+    ensures { λ r. ⌜ r ≡ ampsOf sheet load ⌝ }
+{
+    match load {
+        Load::Amps(a) => a,
+        Load::Watts(w) => w / sheet.volts,
+        Load::Spare => 0.0,
+    }
+}
+
+// The near pins of the runs.
+fn nears_of(runs: [Run; RUNS]) -> [usize; RUNS]
+    ensures { λ r. ⌜ r ≡ nearsOf runs ⌝ }
+{
+    let mut nears = [0usize; RUNS];
+    let mut at = 0;
+    while at < RUNS {
+        let run = runs[at];
+        nears[at] = run.near;
+        at += 1;
+    }
+    nears
+}
+
+// The far pins of the runs.
+fn fars_of(runs: [Run; RUNS]) -> [usize; RUNS]
+    ensures { λ r. ⌜ r ≡ farsOf runs ⌝ }
+{
+    let mut fars = [0usize; RUNS];
+    let mut at = 0;
+    while at < RUNS {
+        let run = runs[at];
+        fars[at] = run.far;
+        at += 1;
+    }
+    fars
+}
+
+// The load of a pin plus the currents of those runs, from number `from` on, that lead on from it, added in run order.
+fn plus_leading_on(
+    nears: &[usize; RUNS],
+    currents: &[f32; RUNS],
+    count: usize,
+    from: usize,
+    pin: usize,
+    own: f32,
+) -> f32
+    requires { ⌜ (count ≤ mostRuns) × (length (now nears) ≡ mostRuns) × (length (now currents) ≡ mostRuns) ⌝ }
+    ensures { λ r. ⌜ r ≡ plusLeadingOn pin own (drop from (take count (now (nears .entry)))) (drop from (take count (now (currents .entry)))) ⌝ }
+{
+    let mut total = own;
+    let mut at = from;
+    while at < count {
+        if nears[at] == pin {
+            total = total + currents[at];
+        }
+        at += 1;
+    }
+    total
+}
+
+// The currents of the runs, from the last to the first: each needs those after it.
+fn currents_of(
+    nears: &[usize; RUNS],
+    fars: &[usize; RUNS],
+    count: usize,
+    loads: [Loaded; PINS],
+    sheet: Sheet,
+) -> [f32; RUNS]
+    requires { ⌜ PinNumbers (now nears) (now fars) count ⌝ }
+    ensures { λ r. ⌜ r ≡ padded mostRuns nought (currentsOf (ampsAt loads sheet) (take count (runsBy (now (nears .entry)) (now (fars .entry))))) ⌝ }
+{
+    let mut currents = [0.0f32; RUNS];
+    let mut at = count;
+    while 0 < at {
+        let from = at;
+        at -= 1;
+        let pin = fars[at];
+        let loaded = loads[pin];
+        let load = loaded.load;
+        let own = amps(sheet, load);
+        currents[at] = plus_leading_on(nears, &currents, count, from, pin, own);
+    }
+    currents
+}
+
+// The distance of two places.
+fn distance(from: Place, to: Place) -> u64
+    ensures { λ r. ⌜ r ≡ distanceOf from to ⌝ }
+{
+    board::apart(from.x, to.x) + board::apart(from.y, to.y)
+}
+
+// The drop of a run: current times ohms per step, then times the distance, which an f32 holds without loss.
+fn run_drop(current: f32, ohms: f32, distance: u64) -> f32
+    requires { ⌜ distance ≤ 4 * limit ⌝ }
+    ensures { λ r. ⌜ r ≡ runDrop current ohms distance ⌝ }
+{
+    current * ohms * (distance as f32)
+}
+
+// The drop of a run between two pins.
+fn drop_between(
+    xs: &[i32; PINS],
+    ys: &[i32; PINS],
+    there: &[bool; PINS],
+    near: usize,
+    far: usize,
+    current: f32,
+    ohms: f32,
+) -> f32
+    requires { ⌜ allWithin (spotsFrom (now xs) (now ys) (now there)) ≡ true ⌝ }
+    ensures { λ r. ⌜ r ≡ runDrop current ohms (distanceOfRun (spotsFrom (now (xs .entry)) (now (ys .entry)) (now (there .entry))) (run near far)) ⌝ }
+{
+    let from = place_at(xs, ys, there, near);
+    let to = place_at(xs, ys, there, far);
+    run_drop(current, ohms, distance(from, to))
+}
+
+// The drops of the pins, run by run: a pin's drop is its near pin's plus that of the run.
+fn drops_over(
+    xs: &[i32; PINS],
+    ys: &[i32; PINS],
+    there: &[bool; PINS],
+    nears: &[usize; RUNS],
+    fars: &[usize; RUNS],
+    currents: &[f32; RUNS],
+    count: usize,
+    ohms: f32,
+) -> [f32; PINS]
+    requires { ⌜ (allWithin (spotsFrom (now xs) (now ys) (now there)) ≡ true) × PinNumbers (now nears) (now fars) count × (length (now currents) ≡ mostRuns) ⌝ }
+    ensures { λ r. ⌜ r ≡ dropsAfter (spotsFrom (now (xs .entry)) (now (ys .entry)) (now (there .entry))) ohms noDrops (take count (runsBy (now (nears .entry)) (now (fars .entry)))) (take count (now (currents .entry))) ⌝ }
+{
+    let mut drops = [0.0f32; PINS];
+    let mut at = 0;
+    while at < count {
+        let near = nears[at];
+        let far = fars[at];
+        let more = drop_between(xs, ys, there, near, far, currents[at], ohms);
+        drops[far] = drops[near] + more;
+        at += 1;
+    }
+    drops
+}
+
+// A refusal: every drop is 0.
+pub fn refused(verdict: Verdict) -> Lost
+    ensures { λ r. ⌜ r ≡ noneLost verdict ⌝ }
+{
+    Lost {
+        verdict,
+        drops: [0.0; PINS],
+    }
+}
+
+// The volts lost to pins that stand on the board: 17 or 18 as for wiring, 20 where the sheet or a load of a pin that is there is out of its range.
+pub fn drops_of(
+    xs: &[i32; PINS],
+    ys: &[i32; PINS],
+    there: &[bool; PINS],
+    loads: [Loaded; PINS],
+    sheet: Sheet,
+) -> Lost
+    requires { ⌜ allWithin (spotsFrom (now xs) (now ys) (now there)) ≡ true ⌝ }
+    ensures { λ r. ⌜ r ≡ lostOf (spotsFrom (now (xs .entry)) (now (ys .entry)) (now (there .entry))) loads sheet ⌝ }
+{
+    let tree = tree::tree_of(xs, ys, there);
+    let verdict = tree.verdict;
+    if !refusal::is_accepted(verdict) {
+        return refused(verdict);
+    }
+    if !sheet_fits(sheet) {
+        return refused(Verdict::OutOfRange);
+    }
+    if !loads_fit(loads, there) {
+        return refused(Verdict::OutOfRange);
+    }
+    let count = tree.count;
+    let runs = tree.runs;
+    let nears = nears_of(runs);
+    let fars = fars_of(runs);
+    let currents = currents_of(&nears, &fars, count, loads, sheet);
+    let drops = drops_over(xs, ys, there, &nears, &fars, &currents, count, sheet.ohms);
+    Lost {
+        verdict: Verdict::Accepted,
+        drops,
+    }
+}

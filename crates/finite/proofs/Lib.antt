@@ -1,0 +1,10 @@
+-- Drops are finite: theorems over the definitions of the crate drops.
+pub mod Sizes
+pub mod Rounding
+pub mod Operations
+pub mod Ranges
+pub mod Room
+pub mod Loads
+pub mod Currents
+pub mod Distances
+pub mod Drops
