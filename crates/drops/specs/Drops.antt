@@ -1,4 +1,5 @@
--- The volts lost to each pin: the currents of the runs, the drops of the pins, and what a call is answered. Each run counts as a strip of its own, even where copper is shared.
+-- The volts lost to each pin: the currents of the runs, the drops of the pins, and what a call is answered. Each run counts as a strip of its own, even where
+-- copper is shared. `feed` is all that is wired, as everywhere here; what document 02, [2] calls the feed is its lowest-numbered pin, from which the runs are grown.
 use mathlib.Core.Bool.{not}
 use mathlib.Core.List.{List, [], _∷_, _++_, map}
 use Prim.Native.Nat.{ℕ}
@@ -33,7 +34,7 @@ plusLeadingOn pin total (near ∷ nears) [] = total
 plusLeadingOn pin total (near ∷ nears) (c ∷ currents) = plusLeadingOn pin (choose (eqb near pin) (add binary32 total c) total) nears currents
 
 -- The currents of runs, in run order, with the amps of each pin given. A run's current is the load of its far pin plus the currents of the runs
--- leading on from that pin, added in run order; these all come after the run that reaches it.
+-- leading on from that pin, added in run order; these all come after the run that reaches it, since runs are listed as they are taken.
 unfoldable pub currentsOf : (ℕ → Float) → List Run → List Float
 currentsOf amps [] = []
 currentsOf amps (r ∷ later) = plusLeadingOn (r .far) (amps (r .far)) (nearsOf later) (currentsOf amps later) ∷ currentsOf amps later
@@ -57,7 +58,7 @@ dropsAfter feed ohms drops (r ∷ runs) (c ∷ currents) =
 abbrev pub noDrops : List Float
 noDrops = replicate mostPins nought
 
--- The drops of a feed, by pin number: 0 for its lowest-numbered pin and for absent ones.
+-- The drops of a feed, by pin number: 0 for its lowest-numbered pin and for absent ones, to which no run leads.
 unfoldable pub dropsOf : List Spot → List Loaded → Sheet → List Float
 dropsOf feed loads sheet =
     dropsAfter feed (sheet .ohms) noDrops (runsOf feed) (currentsOf (λ (pin : ℕ). ampsOf sheet (loadAt loads pin)) (runsOf feed))

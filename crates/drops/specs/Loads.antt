@@ -1,4 +1,5 @@
--- Loads and the board sheet: their ranges, and what a load is in amps. Everything is f32, one rounding an operation.
+-- Loads and the board sheet: their ranges, and what a load is in amps. Everything is f32, one rounding an operation. A finite number is told by its sign,
+-- a whole number and a power of 2: `fin false 15 (pos 2)` is 15 times 2 ^ 2, and `negsuc 28` is the power -29.
 use mathlib.Core.Bool.{Bool, true, false}
 use mathlib.Core.List.{List}
 use Prim.Native.Nat.{ℕ}

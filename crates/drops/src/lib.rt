@@ -183,11 +183,11 @@ fn distance(from: Place, to: Place) -> u64
 }
 
 // The drop of a run: current times ohms per step, then times the distance, which an f32 holds without loss.
-fn run_drop(current: f32, ohms: f32, distance: u64) -> f32
+fn run_drop(current: f32, sheet: Sheet, distance: u64) -> f32
     requires { ⌜ distance ≤ 4 * limit ⌝ }
-    ensures { λ r. ⌜ r ≡ runDrop current ohms distance ⌝ }
+    ensures { λ r. ⌜ r ≡ runDrop current (sheet .ohms) distance ⌝ }
 {
-    current * ohms * (distance as f32)
+    current * sheet.ohms * (distance as f32)
 }
 
 // The drop of a run between two pins.
@@ -198,14 +198,14 @@ fn drop_between(
     near: usize,
     far: usize,
     current: f32,
-    ohms: f32,
+    sheet: Sheet,
 ) -> f32
     requires { ⌜ allWithin (spotsFrom (now xs) (now ys) (now there)) ≡ true ⌝ }
-    ensures { λ r. ⌜ r ≡ runDrop current ohms (distanceOfRun (spotsFrom (now (xs .entry)) (now (ys .entry)) (now (there .entry))) (run near far)) ⌝ }
+    ensures { λ r. ⌜ r ≡ runDrop current (sheet .ohms) (distanceOfRun (spotsFrom (now (xs .entry)) (now (ys .entry)) (now (there .entry))) (run near far)) ⌝ }
 {
     let from = place_at(xs, ys, there, near);
     let to = place_at(xs, ys, there, far);
-    run_drop(current, ohms, distance(from, to))
+    run_drop(current, sheet, distance(from, to))
 }
 
 // The drops of the pins, run by run: a pin's drop is its near pin's plus that of the run.
@@ -217,17 +217,17 @@ fn drops_over(
     fars: &[usize; RUNS],
     currents: &[f32; RUNS],
     count: usize,
-    ohms: f32,
+    sheet: Sheet,
 ) -> [f32; PINS]
     requires { ⌜ (allWithin (spotsFrom (now xs) (now ys) (now there)) ≡ true) × PinNumbers (now nears) (now fars) count × (length (now currents) ≡ mostRuns) ⌝ }
-    ensures { λ r. ⌜ r ≡ dropsAfter (spotsFrom (now (xs .entry)) (now (ys .entry)) (now (there .entry))) ohms noDrops (take count (runsBy (now (nears .entry)) (now (fars .entry)))) (take count (now (currents .entry))) ⌝ }
+    ensures { λ r. ⌜ r ≡ dropsAfter (spotsFrom (now (xs .entry)) (now (ys .entry)) (now (there .entry))) (sheet .ohms) noDrops (take count (runsBy (now (nears .entry)) (now (fars .entry)))) (take count (now (currents .entry))) ⌝ }
 {
     let mut drops = [0.0f32; PINS];
     let mut at = 0;
     while at < count {
         let near = nears[at];
         let far = fars[at];
-        let more = drop_between(xs, ys, there, near, far, currents[at], ohms);
+        let more = drop_between(xs, ys, there, near, far, currents[at], sheet);
         drops[far] = drops[near] + more;
         at += 1;
     }
@@ -271,7 +271,7 @@ pub fn drops_of(
     let nears = nears_of(runs);
     let fars = fars_of(runs);
     let currents = currents_of(&nears, &fars, count, loads, sheet);
-    let drops = drops_over(xs, ys, there, &nears, &fars, &currents, count, sheet.ohms);
+    let drops = drops_over(xs, ys, there, &nears, &fars, &currents, count, sheet);
     Lost {
         verdict: Verdict::Accepted,
         drops,

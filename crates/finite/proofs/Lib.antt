@@ -1,4 +1,4 @@
--- Drops are finite: theorems over the definitions of the crate drops.
+-- Drops are finite, and where they are 0: theorems over the definitions of the crate drops.
 pub mod Sizes
 pub mod Rounding
 pub mod Operations
@@ -8,3 +8,4 @@ pub mod Loads
 pub mod Currents
 pub mod Distances
 pub mod Drops
+pub mod Zero

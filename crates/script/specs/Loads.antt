@@ -31,7 +31,7 @@ beginsWith letter (b ∷ rest) = eqb b letter
 unfoldable pub isLoad : List ℕ → Bool
 isLoad w = choose (either (beginsWith ampsLetter w) (beginsWith wattsLetter w)) (isBits (drop 1 w)) (same w (text "s"))
 
--- The load that is so written: amps, watts, or spare.
+-- The load that is so written: amps, watts, or else spare.
 unfoldable pub loadOf : List ℕ → Load
 loadOf w = choose (beginsWith ampsLetter w) (Amps (floatOf (drop 1 w))) (choose (beginsWith wattsLetter w) (Watts (floatOf (drop 1 w))) Spare)
 

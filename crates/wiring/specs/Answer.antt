@@ -90,6 +90,6 @@ wiringFavouring favoured feed room = wiringWith feed (bestChoice favoured feed (
 unfoldable pub wiringOf : List Spot → ℕ → Favour → Laid
 wiringOf feed room favour = wiringFavouring (favoursUpper favour) feed room
 
--- Its rows.
+-- The rows of such a wiring.
 abbrev pub feedRows : List Spot → ℕ → Favour → List Row
 feedRows feed room favour = wiringRows feed (bestChoice (favoursUpper favour) feed (runsOf feed)) room

@@ -14,12 +14,12 @@ use Rattle.drops.proofs.drops_over.Statement.{statement}
 use Rattle.drops.proofs.drops_over.Tie as tie
 
 abbrev Inv-loop : tie.InvT-loop
-Inv-loop xs ys there nears fars currents count ohms drops₀ at₀ drops at =
-    dropsAfter (spotsFrom xs ys there) ohms drops (drop at (take count (runsBy nears fars))) (drop at (take count currents))
-    ≡ dropsAfter (spotsFrom xs ys there) ohms noDrops (take count (runsBy nears fars)) (take count currents)
+Inv-loop xs ys there nears fars currents count sheet drops₀ at₀ drops at =
+    dropsAfter (spotsFrom xs ys there) (sheet .ohms) drops (drop at (take count (runsBy nears fars))) (drop at (take count currents))
+    ≡ dropsAfter (spotsFrom xs ys there) (sheet .ohms) noDrops (take count (runsBy nears fars)) (take count currents)
 
 abbrev μ-loop : tie.MeasureT-loop
-μ-loop xs ys there nears fars currents count ohms drops₀ at₀ drops at = count - at
+μ-loop xs ys there nears fars currents count sheet drops₀ at₀ drops at = count - at
 
 loop-holds : tie.Need-loop-holds Inv-loop μ-loop
 unfolding ofBits
@@ -77,7 +77,7 @@ loop-again c =
     let s = k .before in
     let o = s .before in
     let a = o .args in
-    drops-turn (a .nears .now) (a .fars .now) (a .count) (o .pre .1) (spotsFrom (a .xs .now) (a .ys .now) (a .there .now)) (a .ohms) (a .currents .now) (o .pre .2)
+    drops-turn (a .nears .now) (a .fars .now) (a .count) (o .pre .1) (spotsFrom (a .xs .now) (a .ys .now) (a .there .now)) (a .sheet .ohms) (a .currents .now) (o .pre .2)
     (s .loop .drops) (s .loop .at) (c .drop-between .result) (k .loop-test .taken) (c .drop-between .ensures)
     ∙ s .loop .inv
 
@@ -86,7 +86,7 @@ returns c =
     let s = c .before in
     let o = s .before in
     let a = o .args in
-    drops-end (a .nears .now) (a .fars .now) (a .count) (o .pre .1) (spotsFrom (a .xs .now) (a .ys .now) (a .there .now)) (a .ohms) (a .currents .now) (o .pre .2)
+    drops-end (a .nears .now) (a .fars .now) (a .count) (o .pre .1) (spotsFrom (a .xs .now) (a .ys .now) (a .there .now)) (a .sheet .ohms) (a .currents .now) (o .pre .2)
     (s .loop .drops) (s .loop .at) (c .loop-test .left)
     ∙ s .loop .inv
 

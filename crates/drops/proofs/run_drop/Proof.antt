@@ -9,7 +9,7 @@ use Rattle.drops.proofs.run_drop.Tie as tie
 
 int-to-float-result : tie.Need-int-to-float-result
 unfolding inFloat
-int-to-float-result c = le→leb (c .before .args .distance) (2 ^ 24) (omega arith)
+int-to-float-result c = le→leb (c .before .before .args .distance) (2 ^ 24) (omega arith)
 
 returns : tie.Need-returns
 returns c = search needs
