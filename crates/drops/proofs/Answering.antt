@@ -105,7 +105,7 @@ module _ (feed : List Spot) (loads : List Loaded) (sheet : Sheet) (t : Tree) (et
 
 -- ---- the runs of a tree by their near and far pins
 -- There is a current for each run.
-currents-long : (amps : ℕ → Float) (runs : List Run) → length (currentsOf amps runs) ≡ length runs
+pub currents-long : (amps : ℕ → Float) (runs : List Run) → length (currentsOf amps runs) ≡ length runs
 unfolding currentsOf
 currents-long amps [] = refl
 currents-long amps (r ∷ runs) = ap suc (currents-long amps runs)

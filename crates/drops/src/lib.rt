@@ -10,15 +10,15 @@ ghost use mathlib.Core.Bool.{true};
 ghost use mathlib.Core.List.{List};
 ghost use Prim.Native.Nat.{_≤_, _*_};
 ghost use lib.IntN.{ℤ};
-ghost use lib.ListN.{length, take, drop};
+ghost use lib.ListN.{length, take};
 ghost use Rattle.basics.specs.Lists.{padded};
 ghost use Rattle.board.specs.Place.{limit, distanceOf};
 ghost use Rattle.board.specs.Spots.{spotsFrom, allWithin};
 ghost use Rattle.tree.specs.Growth.{run, pinsOf};
 ghost use Rattle.tree.specs.Trees.{mostRuns};
 ghost use Rattle.drops.specs.Loads.{nought, isFrom, sheetFits, loadFits, loadsFit, ampsOf};
-ghost use Rattle.drops.specs.Drops.{nearsOf, plusLeadingOn, currentsOf, runDrop, distanceOfRun, dropsAfter, noDrops, noneLost, lostOf};
-ghost use Rattle.drops.specs.Passes.{farsOf, runsBy, PinNumbers, ampsAt};
+ghost use Rattle.drops.specs.Drops.{nearsOf, currentsOf, runDrop, distanceOfRun, dropsAfter, noDrops, noneLost, lostOf};
+ghost use Rattle.drops.specs.Passes.{farsOf, runsBy, PinNumbers, ampsAt, Rising, plusAlong};
 
 // A board sheet: supply volts, and ohms per step.
 pub struct Sheet {
@@ -127,30 +127,22 @@ fn fars_of(runs: [Run; RUNS]) -> [usize; RUNS]
     fars
 }
 
-// The load of a pin plus the currents of those runs, from number `from` on, that lead on from it, added in run order.
-fn plus_leading_on(
-    nears: &[usize; RUNS],
-    currents: &[f32; RUNS],
-    count: usize,
-    from: usize,
-    pin: usize,
-    own: f32,
-) -> f32
-    requires { ⌜ (count ≤ mostRuns) × (length (now nears) ≡ mostRuns) × (length (now currents) ≡ mostRuns) ⌝ }
-    ensures { λ r. ⌜ r ≡ plusLeadingOn pin own (drop from (take count (now (nears .entry)))) (drop from (take count (now (currents .entry)))) ⌝ }
+// A number plus the currents of the runs along a chain, in its order: after each run it tells the next one, and RUNS ends it.
+fn plus_along(chain: &[usize; RUNS], currents: &[f32; RUNS], first: usize, own: f32) -> f32
+    requires { ⌜ Rising (now chain) ⌝ }
+    ensures { λ r. ⌜ r ≡ plusAlong (now (chain .entry)) (now (currents .entry)) mostRuns first own ⌝ }
 {
     let mut total = own;
-    let mut at = from;
-    while at < count {
-        if nears[at] == pin {
-            total = total + currents[at];
-        }
-        at += 1;
+    let mut run = first;
+    while run < RUNS {
+        total = total + currents[run];
+        run = chain[run];
     }
     total
 }
 
-// The currents of the runs, from the last to the first: each needs those after it.
+// The currents of the runs, from the last to the first: each needs those after it. On the way a chain is made for each pin, of the runs that lead on
+// from it: `leading` tells the first of them so far, `chain` the next one after each; a run is put before those that are in.
 fn currents_of(
     nears: &[usize; RUNS],
     fars: &[usize; RUNS],
@@ -162,15 +154,19 @@ fn currents_of(
     ensures { λ r. ⌜ r ≡ padded mostRuns nought (currentsOf (ampsAt loads sheet) (take count (runsBy (now (nears .entry)) (now (fars .entry))))) ⌝ }
 {
     let mut currents = [0.0f32; RUNS];
+    let mut leading = [RUNS; PINS];
+    let mut chain = [RUNS; RUNS];
     let mut at = count;
     while 0 < at {
-        let from = at;
         at -= 1;
-        let pin = fars[at];
-        let loaded = loads[pin];
+        let near = nears[at];
+        let far = fars[at];
+        let loaded = loads[far];
         let load = loaded.load;
         let own = amps(sheet, load);
-        currents[at] = plus_leading_on(nears, &currents, count, from, pin, own);
+        currents[at] = plus_along(&chain, &currents, leading[far], own);
+        chain[at] = leading[near];
+        leading[near] = at;
     }
     currents
 }
@@ -187,7 +183,8 @@ fn run_drop(current: f32, sheet: Sheet, distance: u64) -> f32
     requires { ⌜ distance ≤ 4 * limit ⌝ }
     ensures { λ r. ⌜ r ≡ runDrop current (sheet .ohms) distance ⌝ }
 {
-    current * sheet.ohms * (distance as f32)
+    let steps = distance as f32;
+    current * sheet.ohms * steps
 }
 
 // The drop of a run between two pins.

@@ -1,4 +1,4 @@
--- Drops are finite, and where they are 0: theorems over the definitions of the crate drops.
+-- Drops are finite, where they are 0, and that they are what is demanded: theorems over the definitions of the crate drops.
 pub mod Sizes
 pub mod Rounding
 pub mod Operations
@@ -9,3 +9,4 @@ pub mod Currents
 pub mod Distances
 pub mod Drops
 pub mod Zero
+pub mod Demand

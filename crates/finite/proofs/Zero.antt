@@ -12,15 +12,17 @@ use Rattle.board.specs.declared.Spot.{Spot}
 use Rattle.board.specs.Spots.{mostPins, allWithin}
 use Rattle.tree.specs.declared.Run.{Run}
 use Rattle.tree.specs.Growth.{pinsOf, without, runsOf}
-use Rattle.tree.specs.Reached.{runAt}
 use Rattle.tree.specs.Spanning.{Among, first, later}
 use Rattle.tree.proofs.Membership.{Distinct, also, without-in, pins-once}
+use Rattle.tree.proofs.Earliest.{Earliest}
 use Rattle.tree.proofs.Listing.{Listed, done, taking, runs-listed, pins-low}
-use Rattle.spanning.proofs.Spanning.{runs-join, no-runs}
+use Rattle.spanning.proofs.Spanning.{far-among, runs-join, no-runs}
 use Rattle.drops.specs.declared.Sheet.{Sheet}
 use Rattle.drops.specs.declared.Loaded.{Loaded}
 use Rattle.drops.specs.Loads.{nought, loadAt, ampsOf}
 use Rattle.drops.specs.Drops.{currentsOf, runDrop, distanceOfRun, dropsAfter, noDrops, dropsOf}
+use Rattle.drops.proofs.Answering.{currents-long}
+use Rattle.finite.specs.Demand.{AddsUp}
 
 -- A pin to which no run leads keeps its drop.
 pub untouched-drop : (feed : List Spot) (ohms : Float) (drops : List Float) (runs : List Run) (currents : List Float) (pin : ℕ)
@@ -32,32 +34,29 @@ untouched-drop feed ohms drops (r ∷ runs) (c ∷ currents) pin past =
     let v = add binary32 (getD drops (r .near) nan) (runDrop c ohms (distanceOfRun feed r)) in
     untouched-drop feed ohms (set drops (r .far) v) runs currents pin (λ q m. past q (later m)) ∙ getD-set-other drops (r .far) pin v nan (past r (first refl))
 
--- A far pin is one of those left.
-far-among : {key : ℕ → ℕ → ℕ} {reached left : List ℕ} {rs : List Run} → Listed key reached left rs → (q : Run) → Among q rs → Among (q .far) left
-far-among (taking {left = left} e l) q (first p) = subst (λ (z : Run). Among (z .far) left) (sym p) (e .to)
-far-among (taking {left = left} {r = r} e l) q (later m) = without-in (r .far) left (far-among l q m) .0
+-- No pin that is reached is left.
+abbrev pub Parted : List ℕ → List ℕ → Type 0
+Parted reached left = (p : ℕ) → Among p reached → Among p left → ⊥
 
--- The first pin is none of the others.
-not-left : {f : ℕ} {left : List ℕ} → Distinct (f ∷ left) → Among f left → ⊥
-not-left (also out d) = out
+-- The first pin is none of the others,
+pub parted-first : {f : ℕ} {left : List ℕ} → Distinct (f ∷ left) → Parted (f ∷ []) left
+parted-first {left = left} (also out d) p (first z) m = out (subst (λ (a : ℕ). Among a left) z m)
+
+-- and so it is after each run.
+pub parted-next : {reached left : List ℕ} (far : ℕ) → Parted reached left → Parted (far ∷ reached) (without far left)
+parted-next {left = left} far apart p (first z) m = without-in far left m .1 z
+parted-next {left = left} far apart p (later n) m = apart p n (without-in far left m .0)
+
+-- The near pin of a run that is taken is none of those left.
+pub near-not : {key : ℕ → ℕ → ℕ} {reached left : List ℕ} {r : Run} → Earliest key reached left r → Parted reached left
+    → (p : ℕ) → Among p left → r .near ≡ p → ⊥
+near-not {left = left} {r = r} e apart p m z = apart (r .near) (e .from) (subst (λ (a : ℕ). Among a left) (sym z) m)
 
 -- ---- the drop of a far pin
--- There are as many currents as runs.
-currents-many : (amps : ℕ → Float) (runs : List Run) → length (currentsOf amps runs) ≡ length runs
-unfolding currentsOf
-currents-many amps [] = refl
-currents-many amps (r ∷ runs) = ap suc (currents-many amps runs)
-
--- The drop of run k's far pin is that of its near pin plus the run's own, by its current.
-abbrev pub AddsUp : List Spot → Float → List Float → List Run → List Float → ℕ → Type 0
-AddsUp feed ohms drops runs currents k =
-    getD drops (runAt runs k .far) nan
-    ≡ add binary32 (getD drops (runAt runs k .near) nan) (runDrop (getD currents k nan) ohms (distanceOfRun feed (runAt runs k)))
-
 module _ (feed : List Spot) (ohms : Float) {key : ℕ → ℕ → ℕ} where
   -- So it is after all runs: no later run leads to either pin.
   far-adds : {reached left : List ℕ} {runs : List Run} → Listed key reached left runs → (drops currents : List Float) → length drops ≡ mostPins
-      → length currents ≡ length runs → ((p : ℕ) → Among p left → p < mostPins) → ((p : ℕ) → Among p reached → Among p left → ⊥)
+      → length currents ≡ length runs → ((p : ℕ) → Among p left → p < mostPins) → Parted reached left
       → (k : ℕ) → k < length runs → AddsUp feed ohms (dropsAfter feed ohms drops runs currents) runs currents k
   unfolding dropsAfter
   far-adds done drops currents long many low apart k h = absurd (omega arith)
@@ -71,17 +70,13 @@ module _ (feed : List Spot) (ohms : Float) {key : ℕ → ℕ → ℕ} where
       ∙ getD-set-same drops (r .far) v nan (omega (arith, low (r .far) (e .to), long)) in
       let near : getD (dropsAfter feed ohms put rs currents) (r .near) nan ≡ getD drops (r .near) nan =
       untouched-drop feed ohms put rs currents (r .near)
-      (λ q m z. apart (r .near) (e .from) (subst (λ (p : ℕ). Among p left) (sym z) (without-in (r .far) left (far-among l q m) .0)))
-      ∙ getD-set-other drops (r .far) (r .near) v nan (λ z. apart (r .near) (e .from) (subst (λ (p : ℕ). Among p left) (sym z) (e .to))) in
+      (λ q m. near-not e apart (q .far) (without-in (r .far) left (far-among l q m) .0))
+      ∙ getD-set-other drops (r .far) (r .near) v nan (near-not e apart (r .far) (e .to)) in
       far ∙ ap (λ (x : Float). add binary32 x d) (sym near)
-  far-adds (taking {reached = reached} {left = left} {r = r} {rs = rs} e l) drops (c ∷ currents) long many low apart (suc k) h =
+  far-adds (taking {left = left} {r = r} e l) drops (c ∷ currents) long many low apart (suc k) h =
       let v = add binary32 (getD drops (r .near) nan) (runDrop c ohms (distanceOfRun feed r)) in
       far-adds l (set drops (r .far) v) currents (length-set drops (r .far) v ∙ long) (omega arith)
-      (λ p m. low p (without-in (r .far) left m .0)) apart' k (omega arith)
-    where
-      apart' : (p : ℕ) → Among p (r .far ∷ reached) → Among p (without (r .far) left) → ⊥
-      apart' p (first z) m = without-in (r .far) left m .1 z
-      apart' p (later n) m = apart p n (without-in (r .far) left m .0)
+      (λ p m. low p (without-in (r .far) left m .0)) (parted-next (r .far) apart) k (omega arith)
 
 -- ---- the theorems
 module _ (feed : List Spot) (loads : List Loaded) (sheet : Sheet) (full : length feed ≡ mostPins) (ok : allWithin feed ≡ true) where
@@ -101,7 +96,7 @@ module _ (feed : List Spot) (loads : List Loaded) (sheet : Sheet) (full : length
   pub feed-pin-zero : (f : ℕ) (left : List ℕ) → pinsOf feed ≡ f ∷ left → getD (dropsOf feed loads sheet) f nan ≡ nought
   feed-pin-zero f left e =
       unreached-zero f (pins-low feed full ok f left e f (first refl))
-      (λ r m p. not-left (pins-once feed f left e) (subst (λ (z : ℕ). Among z left) (sym p) (far-among (runs-listed feed full ok f left e) r m)))
+      (λ r m p. parted-first (pins-once feed f left e) f (first refl) (subst (λ (z : ℕ). Among z left) (sym p) (far-among (runs-listed feed full ok f left e) r m)))
 
   -- THE DROP OF A RUN'S FAR PIN is that of its near pin plus the run's own: for every run of a feed, by its position.
   pub drop-of-far : (k : ℕ) → k < length (runsOf feed)
@@ -115,8 +110,5 @@ module _ (feed : List Spot) (loads : List Loaded) (sheet : Sheet) (full : length
       go : (l : List ℕ) → pinsOf feed ≡ l → AddsUp feed (sheet .ohms) (dropsOf feed loads sheet) (runsOf feed) (currentsOf amps (runsOf feed)) k
       go [] e = absurd (omega (arith, ap length (no-runs feed e)))
       go (f ∷ left) e =
-          far-adds feed (sheet .ohms) (runs-listed feed full ok f left e) noDrops (currentsOf amps (runsOf feed)) refl (currents-many amps (runsOf feed))
-          (λ p m. pins-low feed full ok f left e p (later m)) apart k h
-        where
-          apart : (p : ℕ) → Among p (f ∷ []) → Among p left → ⊥
-          apart p (first z) m = not-left (pins-once feed f left e) (subst (λ (a : ℕ). Among a left) z m)
+          far-adds feed (sheet .ohms) (runs-listed feed full ok f left e) noDrops (currentsOf amps (runsOf feed)) refl (currents-long amps (runsOf feed))
+          (λ p m. pins-low feed full ok f left e p (later m)) (parted-first (pins-once feed f left e)) k h

@@ -1,5 +1,5 @@
 -- THE VOLTS LOST TO THE PINS OF A SEAT, on any desk: the verdict is what the call is answered, each refusal given exactly under its condition; accepted, the
--- drops are those of the seat's pins, after any calls those of its past; refused, they are all 0; and every drop is finite. Assumes nothing.
+-- drops are what document 02, [2] says of the seat's pins, after any calls of those of its past; refused, they are all 0; and every drop is finite. Assumes nothing.
 use mathlib.Core.Path.{_≡_, refl, sym, ap, _∙_, subst}
 use mathlib.Core.Bool.{Bool, true, false}
 use mathlib.Core.List.{List}
@@ -20,7 +20,8 @@ use Rattle.drops.specs.declared.Sheet.{Sheet}
 use Rattle.drops.specs.Loads.{nought}
 use Rattle.drops.specs.Drops.{noDrops, dropsOf}
 use Rattle.finite.specs.Bounds.{AtMost, mostDrop}
-use Rattle.finite.proofs.Drops.{drops-finite}
+use Rattle.finite.specs.Demand.{VoltsLost}
+use Rattle.finite.proofs.Demand.{drops-demanded}
 use Rattle.rows.specs.Calls.{Call, asking, dropping}
 use Rattle.rows.proofs.Passed.{OpenSeat, Passes, passes}
 use Rattle.desk.specs.declared.Desk.{Desk}
@@ -66,18 +67,17 @@ module _ (d : Desk) (s : ℕ) (loads : List Loaded) (sheet : Sheet) where
   unfolding Passes
   dropped-open e = dropped-passes e .0
 
-  -- and its drops are finite;
-  accepted-finite : accepted (droppedOf d s loads sheet .lost .verdict) ≡ true → (pin : ℕ) → pin < mostPins
-      → AtMost (getD (droppedOf d s loads sheet .lost .drops) pin nan) mostDrop
+  -- and its sheet and loads in their ranges, so that its drops are what document 02, [2] says of the seat's pins;
+  pub volts-lost : accepted (droppedOf d s loads sheet .lost .verdict) ≡ true → VoltsLost (feedOf (seatOf d s .pins)) loads sheet (droppedOf d s loads sheet .lost .drops)
   unfolding Passes NoneHolds
-  accepted-finite e pin k =
+  volts-lost e =
       let o = dropped-open e in
       let l = pins-lawful d (not-false _ (o .unbroken)) s (o .low) (o .shown) in
       let r = not-false _ (dropped-passes e .1 .1 .1 .0) in
-      subst (λ (x : List Float). AtMost (getD x pin nan) mostDrop) (sym (dropped-is e))
-      (drops-finite (feedOf (seatOf d s .pins)) loads sheet (feed-long _ l) (lawful-parts _ l .board) (both-left _ _ r) (both-right _ _ r) pin k)
+      subst (VoltsLost (feedOf (seatOf d s .pins)) loads sheet) (sym (dropped-is e))
+      (drops-demanded (feedOf (seatOf d s .pins)) loads sheet (feed-long _ l) (lawful-parts _ l .board) (both-left _ _ r) (both-right _ _ r))
 
-  -- so are a refusal's,
+  -- in a refusal they are 0, and finite too.
   refused-finite : accepted (droppedOf d s loads sheet .lost .verdict) ≡ false → (pin : ℕ) → pin < mostPins
       → AtMost (getD (droppedOf d s loads sheet .lost .drops) pin nan) mostDrop
   refused-finite e pin k =
@@ -89,7 +89,7 @@ module _ (d : Desk) (s : ℕ) (loads : List Loaded) (sheet : Sheet) where
   dropped-finite pin k = by (accepted (droppedOf d s loads sheet .lost .verdict)) refl
     where
       by : (t : Bool) → accepted (droppedOf d s loads sheet .lost .verdict) ≡ t → AtMost (getD (droppedOf d s loads sheet .lost .drops) pin nan) mostDrop
-      by true e = accepted-finite e pin k
+      by true e = volts-lost e .finite pin k
       by false e = refused-finite e pin k
 
 -- AFTER ANY CALLS, THE DROPS ARE THOSE OF THE PINS OF THE SEAT'S PAST.
@@ -98,3 +98,11 @@ pub dropped-after-calls : (calls : List Call) (s : ℕ) (loads : List Loaded) (s
 dropped-after-calls calls s loads sheet e =
     let d = after emptyDesk calls in
     dropped-is d s loads sheet e ∙ ap (λ (l : List Pin). dropsOf (feedOf l) loads sheet) (open-as-past calls s (dropped-open d s loads sheet e) .1)
+
+-- AFTER ANY CALLS from the empty desk: the drops of every accepted call are what document 02, [2] says of the pins of the seat's past.
+pub volts-lost-after-calls : (calls : List Call) (s : ℕ) (loads : List Loaded) (sheet : Sheet) → accepted (droppedOf (after emptyDesk calls) s loads sheet .lost .verdict) ≡ true
+    → VoltsLost (feedOf (pinsIn (pastOf (history nothing calls) s))) loads sheet (droppedOf (after emptyDesk calls) s loads sheet .lost .drops)
+volts-lost-after-calls calls s loads sheet e =
+    let d = after emptyDesk calls in
+    subst (λ (l : List Pin). VoltsLost (feedOf l) loads sheet (droppedOf d s loads sheet .lost .drops))
+    (open-as-past calls s (dropped-open d s loads sheet e) .1) (volts-lost d s loads sheet e)

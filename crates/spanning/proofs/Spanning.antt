@@ -64,7 +64,7 @@ way-home (branch {r = r} j w) a (new e) = along r (r .near) (first refl) (inr (e
 way-home (branch j w) a (old h) = way-more (λ q k. later k) (way-home w a h)
 
 -- The far end of a run is one of the pins left.
-far-among : {key : ℕ → ℕ → ℕ} {reached left : List ℕ} {rs : List Run} → Listed key reached left rs → (q : Run) → Among q rs → Among (q .far) left
+pub far-among : {key : ℕ → ℕ → ℕ} {reached left : List ℕ} {rs : List Run} → Listed key reached left rs → (q : Run) → Among q rs → Among (q .far) left
 far-among (taking {left = left} {r = r} e l) q (first p) = subst (λ (z : Run). Among (z .far) left) (sym p) (e .to)
 far-among (taking {left = left} {r = r} e l) q (later h) = without-in (r .far) left (far-among l q h) .0
 

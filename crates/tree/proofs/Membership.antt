@@ -8,6 +8,7 @@ use native.Mathlib.Omega.{arith}
 use lib.Dec.{eqb}
 use lib.ListN.{length, getD}
 use borrow.Author.Tests.{eq-eqb, ne-eqb, eqb-false, not-true}
+use Rattle.basics.proofs.Tests.{decide}
 use Rattle.board.specs.declared.Spot.{Spot}
 use Rattle.board.specs.declared.Spot.the-variants.{Absent}
 use Rattle.board.proofs.Flat.{same-or-not}
@@ -164,6 +165,20 @@ pins-distinct i (s ∷ feed) =
 pub pins-once : (feed : List Spot) (f : ℕ) (left : List ℕ) → pinsOf feed ≡ f ∷ left → Distinct (f ∷ left)
 unfolding pinsOf
 pins-once feed f left e = rw e at (pins-distinct 0 feed)
+
+-- They are listed by ascending number: the first is the lowest.
+pub pins-lowest : (i : ℕ) (feed : List Spot) {f : ℕ} {left : List ℕ} → pinsFrom i feed ≡ f ∷ left → (a : ℕ) → Among a (f ∷ left) → f ≤ a
+unfolding pinsFrom
+pins-lowest i [] e a m = absurd (omega (arith, ap length e))
+pins-lowest i (s ∷ feed) {f} {left} e a m = go (decide (present s)) (pins-there i (s ∷ feed) (rw (sym e) at m)) (λ q. pins-lowest (suc i) feed q a m)
+  where
+    go : (present s ≡ true) ⊎ (present s ≡ false) → ((k : ℕ) × (a ≡ i + k) × (k < suc (length feed)) × (present (getD (s ∷ feed) k Absent) ≡ true))
+        → (pinsFrom (suc i) feed ≡ f ∷ left → f ≤ a) → f ≤ a
+    go (inl t) z ih =
+        let q : i ∷ pinsFrom (suc i) feed ≡ f ∷ left = sym (kept-yes i (pinsFrom (suc i) feed) t) ∙ e in
+        let p : i ≡ f = cc in
+        omega (arith, z .1)
+    go (inr t) z ih = ih (sym (kept-no i (pinsFrom (suc i) feed) t) ∙ e)
 
 -- A number more, at most.
 few-kept : (n : ℕ) (t : Bool) (l : List ℕ) (m : ℕ) → length l ≤ m → length (keptIf t n l) ≤ suc m

@@ -7,12 +7,12 @@ use borrow.Author.Needs.{needs}
 use Rattle.drops.proofs.run_drop.Statement.{statement}
 use Rattle.drops.proofs.run_drop.Tie as tie
 
-int-to-float-result : tie.Need-int-to-float-result
+int-to-float-steps : tie.Need-int-to-float-steps
 unfolding inFloat
-int-to-float-result c = le→leb (c .before .before .args .distance) (2 ^ 24) (omega arith)
+int-to-float-steps c = le→leb (c .before .args .distance) (2 ^ 24) (omega arith)
 
 returns : tie.Need-returns
 returns c = search needs
 
 pub run-drop-spec : {M : Type 1} → statement M
-run-drop-spec = tie.close (tie.spec int-to-float-result returns)
+run-drop-spec = tie.close (tie.spec int-to-float-steps returns)
