@@ -1,7 +1,8 @@
 #!/usr/bin/env python3
-"""Compares and measures the proved programs: bench.py agree [FIRST LAST] | calls | wire | drops | stack. README.md beside it says what each does."""
+"""Compares and measures the proved programs: bench.py agree [FIRST LAST] | calls | wire | drops | stack | frames. README.md beside it says what each does."""
 import os
 import random
+import re
 import resource
 import shutil
 import subprocess
@@ -207,8 +208,56 @@ def stack():
     print(f"wiremap: {smallest(proved('wiremap'), pin_map)}")
 
 
+# How often a function that calls itself stands on the stack at most: for every pin of a chain; for each of the eight runs that a pin may have, and once more; for every digit.
+DEEPEST = {"least::pin_best": 32, "least::weigh": 9, "text::put::put_decimal": 20}
+
+
+def disassembled(program):
+    """The frame of each function of a program, in bytes with its return address, and the functions that it calls."""
+    dump = "objdump" if os.uname().machine == "x86_64" else "x86_64-linux-gnu-objdump"
+    text = subprocess.run([dump, "-d", "--no-show-raw-insn", BUILT / program], check=True, capture_output=True, text=True).stdout
+    frames, callees, name, probing, entered = {}, {}, None, False, False
+    for line in text.splitlines():
+        if begun := re.match(r"[0-9a-f]+ <(.+)>:$", line):
+            name, probing, entered = begun[1], False, False
+            frames[name], callees[name] = 8, set()
+        elif (step := re.match(r"\s+[0-9a-f]+:\s+(\S+)\s*(.*)$", line)) and name:
+            what, operands = step[1], step[2]
+            less = re.match(r"\$0x([0-9a-f]+),%r(sp|11)$", operands) if what.startswith("sub") else None
+            if what == "push" and not entered:
+                frames[name] += 8
+            elif less and less[2] == "11":  # a large frame is taken page by page, down to where r11 points
+                frames[name] += int(less[1], 16)
+                probing = True
+            elif less and probing and int(less[1], 16) == 4096:
+                probing = False
+            elif less:
+                frames[name] += int(less[1], 16)
+            elif what.startswith("call") or what == "jmp":
+                entered = True
+                if (to := re.search(r"<([^>+]+)>", operands)) and to[1] != name or what.startswith("call"):
+                    callees[name].add(to[1] if to else "")
+            elif what in ("pop", "ret"):
+                entered = True
+    return frames, callees
+
+
+def deepest(frames, callees, name):
+    """What stands on the stack where it is deepest below a function: its bytes, and each function with its own."""
+    below = max((deepest(frames, callees, to) for to in callees[name] if to in frames and to != name), default=(0, []))
+    times = DEEPEST[name] if name in callees[name] else 1
+    return times * frames[name] + below[0], [(times * frames[name], name)] + below[1]
+
+
+def frames():
+    """What each program and the wiring alone keep on the stack where it is deepest, read off the compiled frames. The start of a program comes on top."""
+    for program, first in (("wiremap", "main"), ("replay", "main"), ("replay", "wiring::wire_feed")):
+        total, path = deepest(*disassembled(program), first)
+        print(f"{program}, {first}: {total} bytes, {total / 1024:.1f} KiB: " + ", ".join(f"{name} {bytes}" for bytes, name in path if bytes >= 64))
+
+
 if __name__ == "__main__":
-    tasks = {"agree": agree, "calls": calls, "wire": wire, "drops": drops, "stack": stack}
+    tasks = {"agree": agree, "calls": calls, "wire": wire, "drops": drops, "stack": stack, "frames": frames}
     if len(sys.argv) < 2 or sys.argv[1] not in tasks:
         sys.exit(__doc__)
     tasks[sys.argv[1]](*sys.argv[2:])

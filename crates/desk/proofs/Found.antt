@@ -13,6 +13,11 @@ use Rattle.refusal.specs.Refusals.{accepted}
 use Rattle.refusal.specs.Rows.{firstOf}
 use Rattle.refusal.specs.declared.Verdict.{Verdict}
 use Rattle.drawing.specs.declared.stated.Making.{Making}
+use Rattle.drawing.specs.Changes.{pinOf}
+use Rattle.drawing.specs.Stated.{editOf}
+use Rattle.drawing.proofs.Changing.{proper-number}
+use Rattle.drawing.proofs.Making.{makeable-proper}
+use Rattle.board.specs.Spots.{mostPins}
 use Rattle.pinmap.specs.declared.Reading.{Reading}
 use Rattle.pinmap.specs.Map.{readBy, readMap}
 use Rattle.journal.specs.Journal.{mostSeats, mostRecords, own, kept}
@@ -25,8 +30,8 @@ use Rattle.rows.specs.Found.{foundIn}
 use Rattle.rows.proofs.Rows.{above-alike, seat-low}
 use Rattle.rows.proofs.Passed.{Passes, passes}
 use Rattle.desk.specs.declared.Desk.{Desk}
-use Rattle.desk.specs.Desk.{seatOf, inUse, editsOf, jobsOf, lookAt, sound, answerOf}
-use Rattle.desk.proofs.Sound.{used-within, standing-within, in-use-length}
+use Rattle.desk.specs.Desk.{seatOf, inUse, editsOf, jobsOf, lookAt, sound, answerOf, step}
+use Rattle.desk.proofs.Sound.{used-within, standing-within, pins-lawful, in-use-length}
 
 -- What a call finds on a desk.
 abbrev pub foundAt : Desk → ℕ → Found
@@ -89,6 +94,14 @@ module _ (d : Desk) (c : Call) {f : Found} (g : f ≡ foundAt d (seatIn c)) {v :
     pub found-seat : f .state ≡ seatOf d (seatIn c)
     found-seat = ap (λ (q : Found). q .state) g ∙ choose-no _ _ (lt-leb mostSeats (seatIn c) found-low)
 
+-- What was found at a seat is what is found at the seat that it names,
+pub found-own : (d : Desk) (s : ℕ) {f : Found} → f ≡ foundAt d s → f ≡ foundAt d (f .seat)
+found-own d s g = g ∙ ap (foundAt d) (sym (ap (λ (q : Found). q .seat) g))
+
+-- and an edit there is one at that seat.
+pub found-making : (d : Desk) (s : ℕ) {f : Found} → f ≡ foundAt d s → (m : Making) → step d (making (f .seat) m) ≡ step d (making s m)
+found-making d s g m = ap (λ (q : Found). step d (making (q .seat) m)) g
+
 -- ---- what undo, redo and an edit ask
 
 -- The used count of a desk that is not broken is in its range.
@@ -126,6 +139,14 @@ module _ (d : Desk) (s : ℕ) {f : Found} (g : f ≡ foundAt d s) {v : Verdict} 
       let w : length (kept s (seatOf d s .standing) (inUse d)) < mostRecords =
       omega (arith, z, kept-length s (seatOf d s .standing) (inUse d), in-use-length d k, used-within d k) in
       (k, p .reaches .low, q, p .reaches .shown, rw q w)
+
+  -- It names one of the 32 pins.
+  pub edit-low : (m : Making) → v ≡ firstOf (rowsOf (lookFound d f) (making s m)) → pinOf (editOf (f .state .pins) m) < mostPins
+  unfolding Passes
+  edit-low m e =
+      let p = found-passes d (making s m) g e y in
+      let l = pins-lawful d (found-sound d (making s m) g e y) s (p .reaches .low) (p .reaches .shown) in
+      rw (found-seat d (making s m) g e y) (proper-number _ (makeable-proper _ _ (p .fits l)))
 
 -- Opening, with what it reads.
 module _ (d : Desk) (s job : ℕ) (map : List ℕ) {f : Found} (g : f ≡ foundAt d s) {r : Reading}

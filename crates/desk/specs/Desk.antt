@@ -88,10 +88,6 @@ refused d v = record { desk = d; verdict = v }
 abbrev pub withSeat : Desk → ℕ → Seat → Desk
 withSeat d s t = record { seats = set (d .seats) s t; journal = d .journal; used = d .used }
 
--- The desk with one more record in use, after all others.
-abbrev pub withRecord : Desk → Record → Desk
-withRecord d r = record { seats = d .seats; journal = set (d .journal) (d .used) r; used = d .used + 1 }
-
 -- The desk with these records in use, and no others.
 abbrev pub withInUse : Desk → List Record → Desk
 withInUse d l = record { seats = d .seats; journal = compacted l .journal; used = compacted l .used }
@@ -99,10 +95,6 @@ withInUse d l = record { seats = d .seats; journal = compacted l .journal; used 
 -- The desk with one seat changed and these records in use.
 abbrev pub withRecords : Desk → ℕ → Seat → List Record → Desk
 withRecords d s t l = withSeat (withInUse d l) s t
-
--- The desk with a seat's records beyond its first k freed.
-abbrev pub freed : Desk → ℕ → ℕ → Desk
-freed d s k = withInUse d (kept s k (inUse d))
 
 -- A new edit first frees the taken-back records of its own seat, then takes a record.
 unfoldable pub edited : Desk → ℕ → Edit → Desk

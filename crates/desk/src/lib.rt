@@ -3,12 +3,12 @@ use board::PINS;
 use board::Place;
 use copper::Favour;
 use copper::Leg;
-use drawing::Edit;
 use drawing::Held;
 use drawing::stated::Making;
 use drops::Loaded;
 use drops::Lost;
 use drops::Sheet;
+use journal::Compacted;
 use journal::RECORDS;
 use journal::Record;
 use journal::SEATS;
@@ -18,15 +18,18 @@ use seats::Seat;
 use wiring::Laid;
 use wiring::Wiring;
 ghost use mathlib.Core.Path.{_≡_};
-ghost use mathlib.Core.Bool.{true};
-ghost use Prim.Native.Nat.{_<_, _≤_};
-ghost use lib.ListN.{length};
+ghost use mathlib.Core.Bool.{false};
+ghost use mathlib.Core.List.{_++_};
+ghost use Prim.Native.Nat.{_≤_};
+ghost use Rattle.refusal.specs.Rows.{firstOf};
 ghost use Rattle.drawing.specs.declared.stated.Making.the-variants.{Placing, Moving, Removing};
 ghost use Rattle.drawing.specs.Pins.{holding};
-ghost use Rattle.journal.specs.Journal.{mostSeats, mostRecords, recorded, kept};
+ghost use Rattle.journal.specs.Journal.{mostRecords, own, kept, compacted};
+ghost use Rattle.seats.specs.Seats.{takenBackCount};
 ghost use Rattle.rows.specs.Calls.{opening, closing, making, undoing, redoing};
-ghost use Rattle.rows.specs.Found.{foundIn};
-ghost use Rattle.desk.specs.Desk.{emptyDesk, seatOf, inUse, sound, refused, withSeat, withRecord, freed, edited, step, writtenOf, bufferOf, wiredOf, wiredSeatOf, lentOf, droppedOf};
+ghost use Rattle.rows.specs.Refusals.{makingRows, fullRow};
+ghost use Rattle.rows.specs.Found.{foundIn, namingFound};
+ghost use Rattle.desk.specs.Desk.{emptyDesk, inUse, sound, refused, step, writtenOf, bufferOf, wiredOf, wiredSeatOf, lentOf, droppedOf};
 
 // A desk: its seats, and the journal that they share, of which the first `used` records are in use.
 pub struct Desk {
@@ -110,77 +113,48 @@ impl Desk {
         }
     }
 
-    // The desk with one seat changed.
-    fn with_seat(self, seat: usize, following: Seat) -> Desk
-        requires { ⌜ seat < mostSeats ⌝ }
-        ensures { λ r. ⌜ r ≡ withSeat self seat following ⌝ }
-    {
-        let mut d = self;
-        d.seats[seat] = following;
-        d
-    }
-
-    // The desk with a seat's records beyond its first `keep` freed.
-    fn freed(self, seat: usize, keep: usize) -> Desk
+    // What is left of the records once those of a seat beyond its first `keep` are freed.
+    fn freed(self, seat: usize, keep: usize) -> Compacted
         requires { ⌜ self .used ≤ mostRecords ⌝ }
-        ensures { λ r. ⌜ r ≡ freed self seat keep ⌝ }
+        ensures { λ r. ⌜ r ≡ compacted (kept seat keep (inUse self)) ⌝ }
     {
         let records = self.journal;
-        let left = journal::compact(records, self.used, seat, keep);
-        let seats = self.seats;
-        let remaining = left.journal;
-        Desk {
-            seats,
-            journal: remaining,
-            used: left.used,
-        }
+        journal::compact(records, self.used, seat, keep)
     }
 
-    // The desk with an edit of a seat recorded after all others.
-    fn recorded(self, seat: usize, edit: Edit) -> Desk
-        requires { ⌜ self .used < mostRecords ⌝ }
-        ensures { λ r. ⌜ r ≡ withRecord self (recorded seat edit) ⌝ }
+    // An edit that a call states, where it is turned away, by what the call found: 28, 1, 2, then what the pins say, then 12.
+    fn turned(self, found: Found, stated: Making) -> Verdict
+        requires { ⌜ (found .broken ≡ false → self .used ≤ mostRecords) ⌝ }
+        ensures { λ r. ⌜ r ≡ firstOf (namingFound found ++ (makingRows (found .state .pins) stated ++ fullRow (self .used) (takenBackCount (found .state) (own (found .seat) (inUse self))))) ⌝ }
     {
         let records = self.journal;
-        let used = self.used;
-        let following = journal::append(records, used, Record { seat, edit });
-        let seats = self.seats;
-        Desk {
-            seats,
-            journal: following,
-            used: used + 1,
-        }
+        rows::turned_making(found, stated, records, self.used)
     }
 
-    // Makes and records an edit of the seat `s` of that number, where there is room: the taken-back records of the seat are freed first.
-    fn edited(self, seat: usize, s: Seat, edit: Edit) -> Desk
-        requires { ⌜ (sound self ≡ true) × (seat < mostSeats) × (s ≡ seatOf self seat) × (seatOf self seat .opened ≡ true) × (length (kept seat (s .standing) (inUse self)) < mostRecords) ⌝ }
-        ensures { λ r. ⌜ r ≡ edited self seat edit ⌝ }
+    // Makes the edit that a call states on the drawing at the seat that it found, or says why not.
+    fn make(mut self, found: Found, stated: Making) -> Answered
+        requires { ⌜ found ≡ foundIn (self .seats) (self .journal) (self .used) (found .seat) ⌝ }
+        ensures { λ r. ⌜ r ≡ step self (making (found .seat) stated) ⌝ }
     {
+        let seat = found.seat;
+        let verdict = self.turned(found, stated);
+        if !refusal::is_accepted(verdict) {
+            return self.refused(verdict);
+        }
+        let mut s = found.state;
+        let pins = s.pins;
+        let edit = drawing::stated::edit_of(pins, stated);
         let left = self.freed(seat, s.standing);
-        let following = left.recorded(seat, edit);
-        let t = seats::edited(s, edit);
-        following.with_seat(seat, t)
-    }
-
-    // Makes the edit that a call states on the drawing at `seat`, or says why not.
-    fn make(self, seat: usize, stated: Making) -> Answered
-        ensures { λ r. ⌜ r ≡ step self (making seat stated) ⌝ }
-    {
-        let found = self.find(seat);
-        let records = self.journal;
-        let verdict = rows::turned_making(found, stated, records, self.used);
-        if refusal::is_accepted(verdict) {
-            let s = found.state;
-            let pins = s.pins;
-            let edit = drawing::stated::edit_of(pins, stated);
-            let edited = self.edited(seat, s, edit);
-            Answered {
-                desk: edited,
-                verdict,
-            }
-        } else {
-            self.refused(verdict)
+        let records = left.journal;
+        let used = left.used;
+        let following = journal::append(records, used, Record { seat, edit });
+        self.journal = following;
+        self.used = used + 1;
+        s = seats::edited(s, edit);
+        self.seats[seat] = s;
+        Answered {
+            desk: self,
+            verdict,
         }
     }
 }
@@ -188,42 +162,41 @@ impl Desk {
 // The calls. Each takes the desk as it stands and hands back the desk that follows, or the same desk with the number of a refusal.
 impl Desk {
     // Opens `seat` for a job with the drawing of a pin map, or says why not.
-    pub fn open(self, seat: usize, job: u16, map: &[u8]) -> Answered
+    pub fn open(mut self, seat: usize, job: u16, map: &[u8]) -> Answered
         ensures { λ r. ⌜ r ≡ step self (opening seat job (now (map .entry))) ⌝ }
     {
         let found = self.find(seat);
         let seats = self.seats;
         let reading = rows::map_read(found, seats, job, map);
         let verdict = reading.verdict;
-        if refusal::is_accepted(verdict) {
-            let pins = reading.pins;
-            let s = seats::open_seat(job, pins);
-            let opened = self.with_seat(seat, s);
-            Answered {
-                desk: opened,
-                verdict,
-            }
-        } else {
-            self.refused(verdict)
+        if !refusal::is_accepted(verdict) {
+            return self.refused(verdict);
+        }
+        let pins = reading.pins;
+        self.seats[seat] = seats::open_seat(job, pins);
+        Answered {
+            desk: self,
+            verdict,
         }
     }
 
     // Closes `seat` and frees all of its records, or says why not.
-    pub fn close(self, seat: usize) -> Answered
+    pub fn close(mut self, seat: usize) -> Answered
         ensures { λ r. ⌜ r ≡ step self (closing seat) ⌝ }
     {
         let found = self.find(seat);
         let verdict = rows::turned_naming(found);
-        if refusal::is_accepted(verdict) {
-            let without = self.freed(seat, 0);
-            let s = seats::closed_seat();
-            let closed = without.with_seat(seat, s);
-            Answered {
-                desk: closed,
-                verdict,
-            }
-        } else {
-            self.refused(verdict)
+        if !refusal::is_accepted(verdict) {
+            return self.refused(verdict);
+        }
+        let left = self.freed(seat, 0);
+        let records = left.journal;
+        self.journal = records;
+        self.used = left.used;
+        self.seats[seat] = seats::closed_seat();
+        Answered {
+            desk: self,
+            verdict,
         }
     }
 
@@ -231,60 +204,61 @@ impl Desk {
     pub fn place(self, seat: usize, pin: usize, at: Place) -> Answered
         ensures { λ r. ⌜ r ≡ step self (making seat (Placing pin (holding at))) ⌝ }
     {
-        self.make(seat, Making::Placing(pin, Held { place: at }))
+        let found = self.find(seat);
+        self.make(found, Making::Placing(pin, Held { place: at }))
     }
 
     // Moves a pin of the drawing at `seat`, or says why not. (`move` is a word of the language.)
     pub fn shift(self, seat: usize, pin: usize, to: Place) -> Answered
         ensures { λ r. ⌜ r ≡ step self (making seat (Moving pin to)) ⌝ }
     {
-        self.make(seat, Making::Moving(pin, to))
+        let found = self.find(seat);
+        self.make(found, Making::Moving(pin, to))
     }
 
     // Removes a pin of the drawing at `seat`, or says why not.
     pub fn remove(self, seat: usize, pin: usize) -> Answered
         ensures { λ r. ⌜ r ≡ step self (making seat (Removing pin)) ⌝ }
     {
-        self.make(seat, Making::Removing(pin))
+        let found = self.find(seat);
+        self.make(found, Making::Removing(pin))
     }
 
     // Takes back the latest standing edit of the drawing at `seat`, or says why not. No other drawing changes.
-    pub fn undo(self, seat: usize) -> Answered
+    pub fn undo(mut self, seat: usize) -> Answered
         ensures { λ r. ⌜ r ≡ step self (undoing seat) ⌝ }
     {
         let found = self.find(seat);
         let verdict = rows::turned_undoing(found);
-        if refusal::is_accepted(verdict) {
-            let s = found.state;
-            let records = self.journal;
-            let former = seats::undone(s, records, self.used, seat);
-            let earlier = self.with_seat(seat, former);
-            Answered {
-                desk: earlier,
-                verdict,
-            }
-        } else {
-            self.refused(verdict)
+        if !refusal::is_accepted(verdict) {
+            return self.refused(verdict);
+        }
+        let mut s = found.state;
+        let records = self.journal;
+        s = seats::undone(s, records, self.used, seat);
+        self.seats[seat] = s;
+        Answered {
+            desk: self,
+            verdict,
         }
     }
 
     // Makes the most recently taken-back edit of the drawing at `seat` again, or says why not. No other drawing changes.
-    pub fn redo(self, seat: usize) -> Answered
+    pub fn redo(mut self, seat: usize) -> Answered
         ensures { λ r. ⌜ r ≡ step self (redoing seat) ⌝ }
     {
         let found = self.find(seat);
         let records = self.journal;
         let verdict = rows::turned_redoing(found, records, self.used);
-        if refusal::is_accepted(verdict) {
-            let s = found.state;
-            let remade = seats::redone(s, records, self.used, seat);
-            let later = self.with_seat(seat, remade);
-            Answered {
-                desk: later,
-                verdict,
-            }
-        } else {
-            self.refused(verdict)
+        if !refusal::is_accepted(verdict) {
+            return self.refused(verdict);
+        }
+        let mut s = found.state;
+        s = seats::redone(s, records, self.used, seat);
+        self.seats[seat] = s;
+        Answered {
+            desk: self,
+            verdict,
         }
     }
 

@@ -27,11 +27,11 @@ pub struct Pin {
     pub stand: Stand,
 }
 
-// An edit of a drawing, with what is needed to take it back.
+// An edit of a drawing, with what is needed to take it back. Its pin number takes a byte: the journal holds 256 edits.
 pub enum Edit {
-    Placed(usize, Held),
-    Moved(usize, Place, Place),
-    Removed(usize, Held),
+    Placed(u8, Held),
+    Moved(u8, Place, Place),
+    Removed(u8, Held),
 }
 
 // What stands at each pin number of a drawing, told by lists of x, of y and of whether a pin is there.
@@ -206,14 +206,21 @@ fn moved_pin(pin: Pin, to: Place) -> Pin
     }
 }
 
+// A number of a byte as one of 64 bits.
+fn wide(number: u8) -> usize
+    ensures { λ r. ⌜ r ≡ number ⌝ }
+{
+    number as usize
+}
+
 // The number of the pin that an edit names.
 pub fn pin_of(edit: Edit) -> usize
     ensures { λ r. ⌜ r ≡ pinOf edit ⌝ }
 {
     match edit {
-        Edit::Placed(number, held) => number,
-        Edit::Moved(number, from, to) => number,
-        Edit::Removed(number, held) => number,
+        Edit::Placed(number, held) => wide(number),
+        Edit::Moved(number, from, to) => wide(number),
+        Edit::Removed(number, held) => wide(number),
     }
 }
 
@@ -272,9 +279,9 @@ fn is_proper(edit: Edit) -> bool
     ensures { λ r. ⌜ r ≡ proper edit ⌝ }
 {
     match edit {
-        Edit::Placed(number, held) => number < PINS,
-        Edit::Moved(number, from, to) => number < PINS && !board::same_place(from, to),
-        Edit::Removed(number, held) => number < PINS,
+        Edit::Placed(number, held) => wide(number) < PINS,
+        Edit::Moved(number, from, to) => wide(number) < PINS && !board::same_place(from, to),
+        Edit::Removed(number, held) => wide(number) < PINS,
     }
 }
 

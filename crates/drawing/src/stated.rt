@@ -5,7 +5,10 @@ use crate::Pin;
 use board::PINS;
 use board::Place;
 ghost use mathlib.Core.Path.{_≡_};
+ghost use Prim.Native.Nat.{_<_};
+ghost use Rattle.board.specs.Spots.{mostPins};
 ghost use Rattle.drawing.specs.Stated.{editOf};
+ghost use Rattle.drawing.specs.Changes.{pinOf};
 
 // What a call that makes an edit states: a pin placed with what it holds, moved to a place, or removed.
 pub enum Making {
@@ -14,21 +17,22 @@ pub enum Making {
     Removing(usize),
 }
 
-// The edit that such a call makes on these pins, with what is needed to take it back.
+// The edit that such a call makes on these pins, with what is needed to take it back; the pin that it names is one of the 32.
 pub fn edit_of(pins: [Pin; PINS], making: Making) -> Edit
+    requires { ⌜ pinOf (editOf pins making) < mostPins ⌝ }
     ensures { λ r. ⌜ r ≡ editOf pins making ⌝ }
 {
     match making {
-        Making::Placing(pin, held) => Edit::Placed(pin, held),
+        Making::Placing(pin, held) => Edit::Placed(pin as u8, held),
         Making::Moving(pin, to) => {
             let q = crate::pin_at(pins, pin);
             let from = crate::place_of(q);
-            Edit::Moved(pin, from, to)
+            Edit::Moved(pin as u8, from, to)
         }
         Making::Removing(pin) => {
             let q = crate::pin_at(pins, pin);
             let h = crate::held_by(q);
-            Edit::Removed(pin, h)
+            Edit::Removed(pin as u8, h)
         }
     }
 }

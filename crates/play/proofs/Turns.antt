@@ -1,13 +1,13 @@
 -- What the steps of a session make of its log. Assumes nothing.
-use mathlib.Core.Path.{_≡_, sym, _∙_, ap}
-use mathlib.Core.Bool.{true}
-use mathlib.Core.List.{List}
+use mathlib.Core.Path.{_≡_, refl, sym, _∙_, ap}
+use mathlib.Core.Bool.{Bool, true, false}
+use mathlib.Core.List.{List, [], _∷_}
 use Prim.Native.Nat.{ℕ, _+_, _-_, _%_, _^_, _≤_, _<_, min}
 use native.Mathlib.Omega.{arith}
-use lib.Dec.{ltb}
-use lib.ListN.{length, take, drop, length-take, drop-of-length-le}
-use lib.Seq.{sets, length-sets, length-take-le}
-use borrow.Author.Tests.{lt-ltb, le-ltb, ne-eqb}
+use lib.Dec.{ltb, eqb}
+use lib.ListN.{length, take, drop, set, length-take, drop-of-length-le}
+use lib.Seq.{sets, length-sets}
+use borrow.Author.Tests.{lt-ltb, le-ltb}
 use Rattle.basics.specs.Tests.{choose}
 use Rattle.text.specs.Text.{over}
 use Rattle.text.specs.Words.{newline, stopAt}
@@ -16,8 +16,9 @@ use Rattle.play.proofs.Clipping.{keeping}
 use Rattle.desk.specs.declared.Desk.{Desk}
 use Rattle.answer.specs.Answered.{played, answered}
 use Rattle.play.specs.declared.Session.{Session}
-use Rattle.play.specs.Log.{Log, logOf, nextLine, longer, stretched, heard, lastHeard}
+use Rattle.play.specs.Log.{Log, logOf, nextLine, longer, stretched, heard, bytesHeard, windowHeard, lastHeard, ComesOf}
 use Rattle.play.proofs.Hearing.{stretch-at}
+use Rattle.play.proofs.Coming.{by-window, by-end}
 
 module _ (s : Session) (line out : List ℕ) where
   -- A line was played and the next begins.
@@ -47,18 +48,39 @@ module _ (s : Session) (line out : List ℕ) where
   unfolding heard
   window-done w {at} h q = ap (heard (logOf s line out)) (sym (drop-of-length-le w h)) ∙ q
 
-  -- The input ended after a newline: no line more.
-  pub ended-between : s .kept ≡ 0
-      → logOf (record { desk = s .desk; kept = s .kept; lines = s .lines; ended = true }) line out ≡ lastHeard (logOf s line out)
-  unfolding lastHeard choose
-  ended-between h = rw h
+-- ---- a turn: what came, or the end of the input
 
-  -- It ended in a line: that line is played.
-  pub ended-within : {l : Log} → (s .kept ≡ 0 → ⊥) → s .kept ≤ length line
-      → l ≡ nextLine (logOf (record { desk = s .desk; kept = s .kept; lines = s .lines; ended = true }) line out)
-      → l ≡ lastHeard (logOf s line out)
-  unfolding lastHeard choose
-  ended-within h g e = rw (ne-eqb (length (take (s .kept) line)) 0 (λ z. h (omega (arith, length-take-le (s .kept) line g)))) e
+-- A window that begins with a newline, cut to it.
+first-newline : (w : List ℕ) → 1 ≤ length (set w 0 newline) → take 1 (set w 0 newline) ≡ newline ∷ []
+first-newline [] h = absurd (omega arith)
+first-newline (b ∷ rest) h = refl
+
+-- A session with the input ended or not.
+abbrev endedIf : Session → Bool → Session
+endedIf s b = record { desk = s .desk; kept = s .kept; lines = s .lines; ended = b }
+
+module _ (s : Session) (line out window : List ℕ) where
+  -- The input has ended.
+  turn-ended : (t : Bool) → eqb (length (take (s .kept) line)) 0 ≡ t → {l : Log} → choose t 0 1 ≤ length (set window 0 newline)
+      → l ≡ heard (logOf (endedIf s true) line out) (take (choose t 0 1) (set window 0 newline)) → l ≡ lastHeard (logOf s line out)
+  unfolding heard choose lastHeard
+  turn-ended true e k q = rw e q
+  turn-ended false e k q = rw e (q ∙ ap (heard (logOf (endedIf s true) line out)) (first-newline window k))
+
+  -- It has, or bytes came: the log comes of the one before it.
+  turn-by : (came : ℕ) (t : Bool) → s .ended ≡ false → {l : Log}
+      → choose t (choose (eqb (length (take (s .kept) line)) 0) 0 1) came ≤ length (choose t (set window 0 newline) window)
+      → l ≡ heard (logOf (endedIf s t) line out) (take (choose t (choose (eqb (length (take (s .kept) line)) 0) 0 1) came) (choose t (set window 0 newline) window))
+      → ComesOf (logOf s line out) l
+  unfolding choose
+  turn-by came true g k q = by-end (logOf s line out) (turn-ended (eqb (length (take (s .kept) line)) 0) refl k q)
+  turn-by came false g k q =
+      by-window (logOf s line out) (take came window) g (q ∙ ap (λ (b : Bool). heard (logOf (endedIf s b) line out) (take came window)) (sym g))
+
+-- One turn.
+pub turn : (s : Session) (line out window : List ℕ) {w : List ℕ} (came : ℕ) {m : ℕ} {l : Log} → s .ended ≡ false → m ≡ bytesHeard came (take (s .kept) line)
+    → w ≡ windowHeard came window → m ≤ length w → l ≡ heard (logOf (endedIf s (eqb came 0)) line out) (take m w) → ComesOf (logOf s line out) l
+turn s line out window came g p q k e = turn-by s line out window came (eqb came 0) g (rw (p, q) at k) (e ∙ rw (p, q))
 
 -- A stretch ended at a newline: its line ends.
 pub stretch-ended : (l : Log) (bytes : List ℕ) {to n : ℕ} {m : Log} → to < n → m ≡ nextLine (longer l bytes) → m ≡ stretched l bytes (ltb to n)

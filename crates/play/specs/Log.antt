@@ -4,7 +4,7 @@ use mathlib.Core.Bool.{Bool, true}
 use mathlib.Core.List.{List, [], _∷_, _++_}
 use Prim.Native.Nat.{ℕ, _+_, _%_, _^_}
 use lib.Dec.{eqb}
-use lib.ListN.{length, take}
+use lib.ListN.{length, take, set}
 use Rattle.basics.specs.Tests.{choose}
 use Rattle.text.specs.Text.{over}
 use Rattle.text.specs.Words.{newline}
@@ -63,6 +63,15 @@ stretched l bytes ends = choose ends (nextLine (longer l bytes)) (longer l bytes
 unfoldable pub heard : Log → List ℕ → Log
 heard l [] = l
 heard l (b ∷ rest) = heard (choose (eqb b newline) (nextLine l) (longer l (b ∷ []))) rest
+
+-- How many bytes of a window are taken in, where so many came and this is kept of the line: where none came, the input has ended, and a line that was begun
+-- lacks its newline.
+abbrev pub bytesHeard : ℕ → List ℕ → ℕ
+bytesHeard came line = choose (eqb came 0) (choose (eqb (length line) 0) 0 1) came
+
+-- The window then begins with that newline.
+abbrev pub windowHeard : ℕ → List ℕ → List ℕ
+windowHeard came window = choose (eqb came 0) (set window 0 newline) window
 
 -- The input is known to have ended.
 abbrev pub stopped : Log → Log

@@ -2,8 +2,10 @@
 mod windows;
 
 use crate::windows::MOST_KEPT;
+use crate::windows::WINDOW;
 use crate::windows::keep;
 use crate::windows::newline;
+use crate::windows::to_hear;
 use answer::answer_line;
 use desk::Desk;
 use text::ANSWER_BYTES;
@@ -14,7 +16,7 @@ ghost use lib.Dec.{ltb};
 ghost use lib.ListN.{length, take, drop};
 ghost use Rattle.text.specs.Text.{over, answerBytes};
 ghost use Rattle.answer.specs.Answered.{played, answered};
-ghost use Rattle.play.specs.Log.{mostKept, logOf, nextLine, stretched, heard, lastHeard, ComesOf};
+ghost use Rattle.play.specs.Log.{mostKept, logOf, nextLine, stretched, heard, ComesOf};
 ghost use Rattle.play.specs.Lines.{Played};
 
 // A log in play: the desk as it stands, how many bytes of the line that is being read are kept, how many lines were played,
@@ -105,21 +107,7 @@ fn play_window(
     s
 }
 
-// The input has ended. The last line may lack its newline.
-fn end_input(session: Session, line: &[u8], out: &mut [u8; ANSWER_BYTES]) -> Session
-    requires { ⌜ session .kept ≤ length (now line) ⌝ }
-    ensures { λ r. ⌜ logOf r (now (line .entry)) (now (out .exit)) ≡ lastHeard (logOf session (now (line .entry)) (now (out .entry))) ⌝ }
-    ensures { λ r. ⌜ r .kept ≤ session .kept ⌝ }
-{
-    let mut s = session;
-    s.ended = true;
-    if s.kept == 0 {
-        return s;
-    }
-    end_line(s, line, out)
-}
-
-// Reads once, and takes in what came.
+// Reads once, and takes in what came; at the end of the input, the newline that the last line may lack.
 fn play_some(
     fd: i32,
     session: Session,
@@ -130,13 +118,15 @@ fn play_some(
     ensures { λ r. ⌜ ComesOf (logOf session (now (line .entry)) (now (out .entry))) (logOf r (now (line .exit)) (now (out .exit))) ⌝ }
     ensures { λ r. ⌜ r .kept ≤ mostKept ⌝ }
 {
-    let mut window = io::buffer();
+    let mut window = [0u8; WINDOW];
     let got = libc::read(fd, &mut window);
     let n = io::count(got, &window);
-    if n == 0 {
-        return end_input(session, line, out);
-    }
-    play_window(session, line, out, &window[..n])
+    let mut s = session;
+    s.ended = n == 0;
+    let kept = s.kept;
+    let all: &[u8] = line;
+    let heard = to_hear(&mut window, n, &all[..kept]);
+    play_window(s, line, out, &window[..heard])
 }
 
 // Reads to the end of the input, and takes in what comes. Nothing says that an input ends, so the turns are counted down from a

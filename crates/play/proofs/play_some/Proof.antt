@@ -1,17 +1,11 @@
 -- `play::play_some` meets its contract. Assumes nothing.
+use mathlib.Core.Path.{sym}
 use native.Mathlib.Omega.{arith}
+use lib.Seq.{length-take-le}
 use borrow.Author.Needs.{needs}
-use Rattle.play.specs.Log.{Log, logOf}
-use Rattle.play.proofs.Coming.{by-window, by-end}
+use Rattle.play.proofs.Turns.{turn}
 use Rattle.play.proofs.play_some.Statement.{statement}
 use Rattle.play.proofs.play_some.Tie as tie
-
--- The log as the call finds it.
-abbrev log : tie.Start → Log
-log s = logOf (s .args .session) (s .args .line .now) (s .args .out .now)
-
-buffer-requires : tie.Need-buffer-requires
-buffer-requires c κs = search needs
 
 slice-aggregate-read : tie.Need-slice-aggregate-read
 slice-aggregate-read c = search needs
@@ -25,13 +19,16 @@ slice-aggregate-count c = search needs
 count-requires : tie.Need-count-requires
 count-requires c κs = search needs
 
-end-input-requires : tie.Need-end-input-requires
-end-input-requires c κs = search needs
+slice-aggregate-to-hear : tie.Need-slice-aggregate-to-hear
+slice-aggregate-to-hear c = search needs
 
-returns : tie.Need-returns
-returns c =
-    let s = c .before .before .before .before .before .before .before .before .before .before .before in
-    (by-end (log s) (c .end-input .ensures .0), omega (arith, c .end-input .ensures .1, s .pre))
+slice-aggregate-to-hear-2 : tie.Need-slice-aggregate-to-hear-2
+slice-aggregate-to-hear-2 c =
+    let s = c .before .before .before .before .before .before .before .before .before in
+    sym (length-take-le (s .args .session .kept) (s .args .line .now) (omega (arith, s .pre)))
+
+to-hear-requires : tie.Need-to-hear-requires
+to-hear-requires c κs = search needs
 
 array-share-prefix-window : tie.Need-array-share-prefix-window
 array-share-prefix-window c = search needs
@@ -42,23 +39,28 @@ slice-aggregate-play-window c = search needs
 play-window-requires : tie.Need-play-window-requires
 play-window-requires c κs = search needs
 
-returns-2 : tie.Need-returns-2
-returns-2 c =
-    let s = c .before .before .before .before .before .before .before .before .before .before .before in
-    (by-window (log s) _ (s .pre .1) (c .play-window .ensures .0), c .play-window .ensures .1)
+returns : tie.Need-returns
+returns c =
+    let h = c .before .before .before .before .before in
+    let n = h .before .before .before .before .before in
+    let s = c .before .before .before .before .before .before .before .before .before .before .before .before .before .before .before in
+    let e = h .to-hear .ensures in (
+      turn (s .args .session) (s .args .line .now) (s .args .out .now) (n .before .before .before .read .last .1 .0) (n .count .result) (s .pre .1) (e .0) (e .1 .0) (e .1 .1 .0) (c .play-window .ensures .0),
+      c .play-window .ensures .1,
+    )
 
 pub play-some-spec : {M : Type 1} → statement M
 play-some-spec =
     tie.close
     (tie.spec
-    buffer-requires
     slice-aggregate-read
     read-requires
     slice-aggregate-count
     count-requires
-    end-input-requires
-    returns
+    slice-aggregate-to-hear
+    slice-aggregate-to-hear-2
+    to-hear-requires
     array-share-prefix-window
     slice-aggregate-play-window
     play-window-requires
-    returns-2)
+    returns)

@@ -1,7 +1,11 @@
 -- `desk::Desk::close` meets its contract, by what is found. Assumes nothing.
-use mathlib.Core.Path.{sym, _∙_}
+use mathlib.Core.Path.{_∙_}
 use borrow.Author.Needs.{needs}
+use native.Mathlib.Omega.{arith}
+use Prim.Native.Nat.{_<_}
+use Rattle.journal.specs.Journal.{mostSeats}
 use Rattle.rows.specs.Calls.{closing}
+use Rattle.rows.proofs.Rows.{refused, went}
 use Rattle.desk.specs.Desk.{effect}
 use Rattle.desk.proofs.Sound.{used-within}
 use Rattle.desk.proofs.Found.{found-answer, found-sound, found-low}
@@ -18,48 +22,54 @@ turned-naming-requires c κs = search needs
 is-accepted-requires : tie.Need-is-accepted-requires
 is-accepted-requires c κs = search needs
 
+refused-requires : tie.Need-refused-requires
+refused-requires c κs = search needs
+
+returns : tie.Need-returns
+returns c =
+    let b = c .before in
+    let r = b .before .before in
+    let f = r .before in
+    let a = f .before .args in
+    c .refused .ensures
+    ∙ step-refused (a .t1) (closing (a .seat)) (found-answer (a .t1) (closing (a .seat)) (f .find .ensures) (r .turned-naming .ensures))
+    (refused _ (b .before .is-accepted .ensures) (b .if1 .taken))
+
 freed-requires : tie.Need-freed-requires
 freed-requires c κs =
     let r = c .before .before in
     let f = r .before in
     let a = f .before .args in
-    let y = sym (c .before .is-accepted .ensures) ∙ c .if1 .taken in
-    used-within (a .self) (found-sound (a .self) (closing (a .seat)) (f .find .ensures) (r .turned-naming .ensures) y)
+    used-within (a .t1)
+    (found-sound (a .t1) (closing (a .seat)) (f .find .ensures) (r .turned-naming .ensures) (went _ (c .before .is-accepted .ensures) (c .if1 .left)))
 
 closed-seat-requires : tie.Need-closed-seat-requires
 closed-seat-requires c κs = search needs
 
-with-seat-requires : tie.Need-with-seat-requires
-with-seat-requires c κs =
-    let b = c .before .before in
-    let r = b .before .before in
-    let f = r .before in
-    let a = f .before .args in
-    let y = sym (b .before .is-accepted .ensures) ∙ b .if1 .taken in
-    found-low (a .self) (closing (a .seat)) (f .find .ensures) (r .turned-naming .ensures) y
-
-refused-requires : tie.Need-refused-requires
-refused-requires c κs = search needs
-
-returns : tie.Need-returns
-unfolding effect
-returns c =
+-- The seat is one of the eight.
+low : (c : tie.After-closed-seat) → c .before .before .before .before .before .before .before .args .seat < mostSeats
+low c =
     let b = c .before .before .before in
     let r = b .before .before in
     let f = r .before in
     let a = f .before .args in
-    let y = sym (b .before .is-accepted .ensures) ∙ b .if1 .taken in
-    step-accepted (a .self) (closing (a .seat)) (found-answer (a .self) (closing (a .seat)) (f .find .ensures) (r .turned-naming .ensures)) y
-    (c .with-seat .ensures ∙ rw (c .before .before .freed .ensures, c .before .closed-seat .ensures))
+    found-low (a .t1) (closing (a .seat)) (f .find .ensures) (r .turned-naming .ensures) (went _ (b .before .is-accepted .ensures) (b .if1 .left))
+
+mul-t13 : tie.Need-mul-t13
+mul-t13 c = omega (arith, low c)
+
+element-set-from-self : tie.Need-element-set-from-self
+element-set-from-self c = low c
 
 returns-2 : tie.Need-returns-2
+unfolding effect
 returns-2 c =
-    let b = c .before in
+    let b = c .before .before .before in
     let r = b .before .before in
     let f = r .before in
     let a = f .before .args in
-    let y = sym (b .before .is-accepted .ensures) ∙ b .if1 .left in
-    c .refused .ensures ∙ step-refused (a .self) (closing (a .seat)) (found-answer (a .self) (closing (a .seat)) (f .find .ensures) (r .turned-naming .ensures)) y
+    step-accepted (a .t1) (closing (a .seat)) (found-answer (a .t1) (closing (a .seat)) (f .find .ensures) (r .turned-naming .ensures))
+    (went _ (b .before .is-accepted .ensures) (b .if1 .left)) (rw (c .before .before .freed .ensures, c .closed-seat .ensures))
 
 pub close-spec : {M : Type 1} → statement M
 close-spec =
@@ -68,9 +78,10 @@ close-spec =
     find-requires
     turned-naming-requires
     is-accepted-requires
-    freed-requires
-    closed-seat-requires
-    with-seat-requires
     refused-requires
     returns
+    freed-requires
+    closed-seat-requires
+    mul-t13
+    element-set-from-self
     returns-2)

@@ -1,7 +1,11 @@
 -- `desk::Desk::redo` meets its contract, by what is found. Assumes nothing.
-use mathlib.Core.Path.{sym, _∙_}
+use mathlib.Core.Path.{_∙_}
 use borrow.Author.Needs.{needs}
+use native.Mathlib.Omega.{arith}
+use Prim.Native.Nat.{_<_}
+use Rattle.journal.specs.Journal.{mostSeats}
 use Rattle.rows.specs.Calls.{redoing}
+use Rattle.rows.proofs.Rows.{refused, went}
 use Rattle.desk.specs.Desk.{effect}
 use Rattle.desk.proofs.Found.{found-answer, found-low, found-seat, used-fits, redo-fits}
 use Rattle.desk.proofs.Steps.{step-refused, step-accepted}
@@ -12,10 +16,23 @@ find-requires : tie.Need-find-requires
 find-requires c κs = search needs
 
 turned-redoing-requires : tie.Need-turned-redoing-requires
-turned-redoing-requires c κs = used-fits (c .before .before .args .self) (c .before .before .args .seat) (c .before .find .ensures)
+turned-redoing-requires c κs = used-fits (c .before .before .args .t1) (c .before .before .args .seat) (c .before .find .ensures)
 
 is-accepted-requires : tie.Need-is-accepted-requires
 is-accepted-requires c κs = search needs
+
+refused-requires : tie.Need-refused-requires
+refused-requires c κs = search needs
+
+returns : tie.Need-returns
+returns c =
+    let b = c .before in
+    let r = b .before .before in
+    let f = r .before .before in
+    let a = f .before .args in
+    c .refused .ensures
+    ∙ step-refused (a .t1) (redoing (a .seat)) (found-answer (a .t1) (redoing (a .seat)) (f .find .ensures) (r .turned-redoing .ensures))
+    (refused _ (b .before .is-accepted .ensures) (b .if1 .taken))
 
 redone-requires : tie.Need-redone-requires
 redone-requires c κs =
@@ -23,39 +40,33 @@ redone-requires c κs =
     let r = b .before .before in
     let f = r .before .before in
     let a = f .before .args in
-    redo-fits (a .self) (a .seat) (f .find .ensures) (sym (b .before .is-accepted .ensures) ∙ b .if1 .taken) (r .turned-redoing .ensures)
+    redo-fits (a .t1) (a .seat) (f .find .ensures) (went _ (b .before .is-accepted .ensures) (b .if1 .left)) (r .turned-redoing .ensures)
 
-with-seat-requires : tie.Need-with-seat-requires
-with-seat-requires c κs =
+-- The seat is one of the eight.
+low : (c : tie.After-redone) → c .before .before .before .before .before .before .before .args .seat < mostSeats
+low c =
     let b = c .before .before in
     let r = b .before .before in
     let f = r .before .before in
     let a = f .before .args in
-    found-low (a .self) (redoing (a .seat)) (f .find .ensures) (r .turned-redoing .ensures) (sym (b .before .is-accepted .ensures) ∙ b .if1 .taken)
+    found-low (a .t1) (redoing (a .seat)) (f .find .ensures) (r .turned-redoing .ensures) (went _ (b .before .is-accepted .ensures) (b .if1 .left))
 
-refused-requires : tie.Need-refused-requires
-refused-requires c κs = search needs
+mul-s : tie.Need-mul-s
+mul-s c = omega (arith, low c)
 
-returns : tie.Need-returns
-unfolding effect
-returns c =
-    let b = c .before .before .before in
-    let r = b .before .before in
-    let f = r .before .before in
-    let a = f .before .args in
-    let y = sym (b .before .is-accepted .ensures) ∙ b .if1 .taken in
-    let q = found-seat (a .self) (redoing (a .seat)) (f .find .ensures) (r .turned-redoing .ensures) y in
-    step-accepted (a .self) (redoing (a .seat)) (found-answer (a .self) (redoing (a .seat)) (f .find .ensures) (r .turned-redoing .ensures)) y
-    (c .with-seat .ensures ∙ rw (c .before .redone .ensures, q))
+element-set-from-s : tie.Need-element-set-from-s
+element-set-from-s c = low c
 
 returns-2 : tie.Need-returns-2
+unfolding effect
 returns-2 c =
-    let b = c .before in
+    let b = c .before .before in
     let r = b .before .before in
     let f = r .before .before in
     let a = f .before .args in
-    let y = sym (b .before .is-accepted .ensures) ∙ b .if1 .left in
-    c .refused .ensures ∙ step-refused (a .self) (redoing (a .seat)) (found-answer (a .self) (redoing (a .seat)) (f .find .ensures) (r .turned-redoing .ensures)) y
+    let y = went _ (b .before .is-accepted .ensures) (b .if1 .left) in
+    step-accepted (a .t1) (redoing (a .seat)) (found-answer (a .t1) (redoing (a .seat)) (f .find .ensures) (r .turned-redoing .ensures)) y
+    (rw (c .redone .ensures, found-seat (a .t1) (redoing (a .seat)) (f .find .ensures) (r .turned-redoing .ensures) y))
 
 pub redo-spec : {M : Type 1} → statement M
 redo-spec =
@@ -64,8 +75,9 @@ redo-spec =
     find-requires
     turned-redoing-requires
     is-accepted-requires
-    redone-requires
-    with-seat-requires
     refused-requires
     returns
+    redone-requires
+    mul-s
+    element-set-from-s
     returns-2)
