@@ -108,9 +108,9 @@ def ratio(what, took):
 
 def calls():
     """The time of 10,000 calls on a full journal (D4's desk), both programs by turns, the best of 25."""
-    fill = ["open 0 7 -", "open 1 9 -", "place 0 0 0 0"] + [f"move 0 0 {x} 0" for x in range(1, 256)]
+    fill = ["open 0 7 -", "open 1 9 -", "place 0 0 0 0"] + [f"move 0 0 {20 * x} 0" for x in range(1, 256)]
     fill = "\n".join(fill) + "\n"
-    then = fill + "undo 0\nplace 1 0 2 2\nredo 0\nplace 1 0 2 2\n" * 2500
+    then = fill + "undo 0\nplace 1 0 40 40\nredo 0\nplace 1 0 40 40\n" * 2500
     with tempfile.TemporaryDirectory() as folder:
         programs = {"proved": proved("replay"), "plain C": plain(folder)}
         for name, command in programs.items():
@@ -195,7 +195,7 @@ def smallest(command, log):
 
 def stack():
     """The smallest stack on which a full board is wired: 32 pins one behind the other, so that the asking goes deepest."""
-    places = [(2 * p, p) for p in range(32)]
+    places = [(40 * p, 20 * p) for p in range(32)]
     xs, ys = (",".join(str(place[i]) for place in places) for i in (0, 1))
     pin_map = map_of(places)
     opened = f"open 0 7 {pin_map.hex()}\n"

@@ -8,6 +8,7 @@ import struct
 import sys
 
 pick = random.choice
+GAP = 20  # pins are too near when both x and y differ by less
 
 
 def chance(percent):
@@ -25,10 +26,15 @@ def plain(n):
     return number(n).lstrip("-")
 
 
+def gaps(n):
+    """So many least gaps, in steps; at times a step more or less."""
+    return GAP * n + (pick([-1, 1]) if chance(5) else 0)
+
+
 def part(spread):
     """An x or a y: near the middle, at times at the board's ends or past them."""
     if chance(97):
-        return random.randint(-spread, spread)
+        return gaps(random.randint(-spread, spread))
     return pick([20000, -20000, 20001, -20001, 19999, 2147483647, -2147483648, random.randint(-20000, 20000)])
 
 
@@ -42,7 +48,7 @@ def pin():
 
 def hanging(most):
     """Places each a few steps from one before it, most often from the latest, so that pins hang on one another."""
-    far = random.randint(1, 200)
+    far = random.randint(GAP, 200)
     spots = [(0, 0)]
     while len(spots) < most:
         x, y = spots[-1] if chance(80) else pick(spots)
@@ -50,25 +56,34 @@ def hanging(most):
     return spots
 
 
+def apart(spots):
+    """Those of the places that are too near to none before them."""
+    kept = []
+    for x, y in spots:
+        if all(abs(x - a) >= GAP or abs(y - b) >= GAP for a, b in kept):
+            kept.append((x, y))
+    return kept
+
+
 def board(spread, most):
-    """Places for pins, no two the same, in one of several patterns."""
+    """Places for pins, no two too near, in one of several patterns."""
     style = random.randrange(7)
     if style == 0:
-        spots = [(x, x + pick([0, 1])) for x in range(-spread, spread)]
+        spots = [(GAP * x, GAP * (x + pick([0, 1]))) for x in range(-spread, spread)]
     elif style == 1:
-        step = random.randint(1, 3)
+        step = pick([GAP, GAP + 1, 2 * GAP, 3 * GAP])
         spots = [(x * step, y * step) for x in range(-3, 3) for y in range(-3, 3)]
     elif style == 2:
-        far = random.randint(1, 6666)
+        far = random.randint(GAP, 6666)
         spots = [(x * far, y * far) for x in range(-3, 4) for y in range(-3, 4)]
     elif style == 3:
         spots = [(random.randint(-20000, 20000), random.randint(-20000, 20000)) for _ in range(most)]
     elif style == 4:
         spots = hanging(most)
     else:
-        spots = [(random.randint(-spread, spread), random.randint(-spread, spread)) for _ in range(2 * most)]
-    spots = list(dict.fromkeys(spots))
+        spots = [(gaps(random.randint(-spread, spread)), gaps(random.randint(-spread, spread))) for _ in range(2 * most)]
     random.shuffle(spots)
+    spots = apart(spots)
     return spots[: random.randint(0, most) if chance(50) else most]
 
 
@@ -94,7 +109,7 @@ def pin_map(job, spread):
             elif fault == 3:
                 faulty[pick([3, 4])] = pick([20001, -20001, 2147483647, -2147483648])
             elif fault == 4:
-                faulty[3:] = other[3:]
+                faulty[3:] = [other[3] + pick([0, GAP - 1, GAP]), other[4] + pick([0, 1 - GAP])]
             elif fault == 5:
                 records.append(pick(records)[:])
             else:
@@ -130,7 +145,7 @@ def bare(spread):
             fault = random.randrange(4)
             if fault == 0:
                 j = random.randrange(len(xs))
-                xs[i], ys[i] = xs[j], ys[j]
+                xs[i], ys[i] = xs[j] + pick([0, 1 - GAP, -GAP]), ys[j] + pick([0, GAP - 1])
             elif fault == 1:
                 xs[i] = part(spread)
                 ys[i] = pick([20001, -20001, 20000, ys[i]])
@@ -139,7 +154,7 @@ def bare(spread):
                 break
             else:
                 more = pick([33, 40, 41]) - len(xs)
-                xs, ys = xs + list(range(more)), ys + [300] * more
+                xs, ys = xs + [GAP * i for i in range(more)], ys + [300 * GAP] * more
                 break
     room = pick([64, 64, 64, 62, random.randint(0, 65), len(xs), 2 * len(xs)])
     return f"bare {plain(room)} {listed(xs)} {listed(ys)}{favour()}"
@@ -245,14 +260,15 @@ def full_journal(spread):
     """Seats that fill the journal together, and calls on it."""
     seats = random.randint(1, 3)
     lines = [f"open {s} {100 + s} -" for s in range(3)]
-    lines += [f"place {s} {p} {p} {s}" for s in range(seats) for p in range(2)]
+    lines += [f"place {s} {p} {GAP * p} {GAP * s}" for s in range(seats) for p in range(2)]
     for i in range(random.randint(250, 300)):
-        lines.append(f"move {random.randrange(seats)} {pick([0, 0, 1])} {i} 50")
+        which = pick([0, 0, 1])
+        lines.append(f"move {random.randrange(seats)} {which} {i} {GAP * (50 + which)}")
         if chance(3):
             lines += ["undo 0"] * random.randint(1, 3)
             lines += ["redo 0"] * random.randint(0, 3)
     for _ in range(80):
-        lines.append(pick(["undo 0", "undo 1", "redo 0", "redo 1", "pins 0", edit(spread), look(spread), f"move 0 0 {part(spread)} 60", f"move 1 0 {part(spread)} 60"]))
+        lines.append(pick(["undo 0", "undo 1", "redo 0", "redo 1", "pins 0", edit(spread), look(spread), f"move 0 0 {part(spread)} {60 * GAP}", f"move 1 0 {part(spread)} {60 * GAP}"]))
     if chance(30):
         lines += ["undo 0"] * 260 + ["pins 0", edit(spread)] + ["redo 0"] * 260 + ["pins 0"]
     return lines + [pick(["close 0", "close 1"])] + [edit(spread) for _ in range(10)]

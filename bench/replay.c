@@ -12,7 +12,7 @@
 #pragma GCC optimize("fp-contract=off")
 _Static_assert(FLT_EVAL_METHOD == 0, "operations on floats give floats");
 
-enum { SEATS = 8, PINS = 32, RECORDS = 256, BOARD = 20000, RECORD_BYTES = 12, MAP_BYTES = 384, LEGS = 2 * (PINS - 1) };
+enum { SEATS = 8, PINS = 32, RECORDS = 256, BOARD = 20000, GAP = 20, RECORD_BYTES = 12, MAP_BYTES = 384, LEGS = 2 * (PINS - 1) };
 enum { LINE_BYTES = 16384, MAP_PAIRS = 4200, LIST_NUMBERS = 40, WRITE_ROOM = 1024, WIRE_ROOM = 64 };
 
 typedef struct { int32_t x, y; } Place;
@@ -34,18 +34,23 @@ static bool same(Place a, Place b) { return a.x == b.x && a.y == b.y; }
 
 static bool outside(Place at) { return at.x < -BOARD || at.x > BOARD || at.y < -BOARD || at.y > BOARD; }
 
-static bool taken(const Pin *pins, Place at) {
-    for (int p = 0; p < PINS; p++)
-        if (pins[p].there && same(pins[p].at, at)) return true;
+static bool closer(int32_t a, int32_t b) { return llabs((int64_t)a - b) < GAP; }
+
+static bool too_near(Place a, Place b) { return closer(a.x, b.x) && closer(a.y, b.y); }
+
+// A pin other than this one stands too near to the place.
+static bool crowded(const Pin *pins, uint32_t pin, Place at) {
+    for (uint32_t p = 0; p < PINS; p++)
+        if (p != pin && pins[p].there && too_near(pins[p].at, at)) return true;
     return false;
 }
 
 static bool makeable(const Pin *pins, const Edit *edit) {
     if (edit->pin >= PINS) return false;
     const Pin *pin = &pins[edit->pin];
-    if (edit->kind == PLACED) return !pin->there && !outside(edit->to) && !taken(pins, edit->to);
+    if (edit->kind == PLACED) return !pin->there && !outside(edit->to) && !crowded(pins, edit->pin, edit->to);
     if (!pin->there || !same(pin->at, edit->from)) return false;
-    return edit->kind == REMOVED || (!outside(edit->to) && !taken(pins, edit->to));
+    return edit->kind == REMOVED || (!outside(edit->to) && !same(pin->at, edit->to) && !crowded(pins, edit->pin, edit->to));
 }
 
 static void make(Pin *pins, const Edit *edit) {
@@ -67,7 +72,7 @@ static bool pins_break_rules(const Pin *pins) {
         if (!pins[p].there) continue;
         if (outside(pins[p].at)) return true;
         for (int q = 0; q < p; q++)
-            if (pins[q].there && same(pins[p].at, pins[q].at)) return true;
+            if (pins[q].there && too_near(pins[p].at, pins[q].at)) return true;
     }
     return false;
 }
@@ -139,7 +144,7 @@ static Verdict read_map(const uint8_t *map, size_t bytes, uint16_t job, Pin *pin
         const uint8_t *b = map + r * RECORD_BYTES;
         Place at = {(int32_t)number_at(b + 4), (int32_t)number_at(b + 8)};
         if ((b[0] << 8 | b[1]) != job) return (Verdict){14, (int)r};
-        if (b[2] >= PINS || b[2] <= before || b[3] != 0 || outside(at) || taken(pins, at)) return (Verdict){15, (int)r};
+        if (b[2] >= PINS || b[2] <= before || b[3] != 0 || outside(at) || crowded(pins, b[2], at)) return (Verdict){15, (int)r};
         pins[b[2]] = (Pin){true, at};
         before = b[2];
     }
@@ -218,7 +223,7 @@ static Verdict place_pin(Desk *desk, uint32_t seat, uint32_t pin, Place at) {
     if (pin >= PINS) return refused(6);
     if (pins[pin].there) return refused(7);
     if (outside(at)) return refused(8);
-    if (taken(pins, at)) return refused(9);
+    if (crowded(pins, pin, at)) return refused(9);
     return record_edit(desk, seat, (Edit){PLACED, pin, {0, 0}, at});
 }
 
@@ -228,7 +233,7 @@ static Verdict move_pin(Desk *desk, uint32_t seat, uint32_t pin, Place at) {
     const Pin *pins = desk->seats[seat].pins;
     if (pin >= PINS || !pins[pin].there) return refused(6);
     if (outside(at)) return refused(8);
-    if (taken(pins, at)) return refused(9);
+    if (same(pins[pin].at, at) || crowded(pins, pin, at)) return refused(9);
     return record_edit(desk, seat, (Edit){MOVED, pin, pins[pin].at, at});
 }
 

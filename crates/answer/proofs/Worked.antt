@@ -36,8 +36,8 @@ told d number (line ∷ rest) = answered d number (text line) ++ told (played d 
 -- D3 and what a log does beside: undo, `pins` of seats of each kind, a line that is not a call.
 worked :
     told emptyDesk 1
-    ("# D3" ∷ "open 0 7 -" ∷ "place 0 0 1 -1" ∷ "write 0 13" ∷ "pins 0" ∷ "undo 0" ∷ "pins 0" ∷ "undo 0" ∷ "pins 1" ∷ "pins 8" ∷ "draw 0" ∷ [])
-    ≡ text "0\n0\n0 12 0007000000000001ffffffffee\njob 7 pins 1 standing 1 taken 0\npin 0 1 -1\n0\n"
+    ("# D3" ∷ "open 0 7 -" ∷ "place 0 0 20 -20" ∷ "write 0 13" ∷ "pins 0" ∷ "undo 0" ∷ "pins 0" ∷ "undo 0" ∷ "pins 1" ∷ "pins 8" ∷ "draw 0" ∷ [])
+    ≡ text "0\n0\n0 12 0007000000000014ffffffecee\njob 7 pins 1 standing 1 taken 0\npin 0 20 -20\n0\n"
     ++ text "job 7 pins 0 standing 0 taken 1\nrefused 10\nclosed\nrefused 1\nline 11: not a call\n"
 unfolding told both either choose accepted firstOf onBoard inside difference closer tooNear sameNumber samePlace isThere sameHeld samePin samePins spotsTooNear
     tooNearOther crowded within spotOf spotsOf lawful movedPin pinMade pinUnmade made unmade standsAt foundAs allFound proper makeable takeable numbered heldBy firstByte secondByte

@@ -13,7 +13,7 @@ use Rattle.refusal.specs.Refusals.{accepted}
 use Rattle.refusal.specs.Rows.{firstOf, NoneHolds}
 use Rattle.refusal.proofs.Rows.{hit, miss, none-accepted, distinct, unlike, Apart, apart-by}
 use Rattle.refusal.specs.declared.Verdict.{Verdict}
-use Rattle.refusal.specs.declared.Verdict.the-variants.{Accepted, ListLengths, NoPins, Outside, PlaceTaken}
+use Rattle.refusal.specs.declared.Verdict.the-variants.{Accepted, ListLengths, NoPins, Outside, PinTooNear}
 use Rattle.board.specs.Spots.{mostPins, allWithin, allApart}
 use Rattle.wiring.specs.Answer.{turnedAway, wiringOf}
 use Rattle.bare.specs.Bare.{feedOfLists, wrongLengths, listRows, bareOf}
@@ -46,10 +46,10 @@ module _ (xs ys : List ℤ) where
       pub one-outside : allWithin (feedOfLists xs ys) ≡ false → Outside ≡ firstOf (listRows xs ys)
       one-outside e = miss ListLengths _ right (miss NoPins _ (ne-eqb (length xs) 0 some) (hit Outside _ (ap not e)))
 
-      -- then two pins at one place with 9;
-      pub two-near : allWithin (feedOfLists xs ys) ≡ true → allApart (feedOfLists xs ys) ≡ false → PlaceTaken ≡ firstOf (listRows xs ys)
+      -- then two pins too near with 9;
+      pub two-near : allWithin (feedOfLists xs ys) ≡ true → allApart (feedOfLists xs ys) ≡ false → PinTooNear ≡ firstOf (listRows xs ys)
       two-near e f =
-          miss ListLengths _ right (miss NoPins _ (ne-eqb (length xs) 0 some) (miss Outside _ (ap not e) (hit PlaceTaken _ (ap not f))))
+          miss ListLengths _ right (miss NoPins _ (ne-eqb (length xs) 0 some) (miss Outside _ (ap not e) (hit PinTooNear _ (ap not f))))
 
       -- and what is left is accepted.
       pub all-well : allWithin (feedOfLists xs ys) ≡ true → allApart (feedOfLists xs ys) ≡ true → Accepted ≡ firstOf (listRows xs ys)

@@ -51,18 +51,18 @@ answer long runs legs weighed =
 abbrev pub answers : List Wiring
 answers =
     answer 0 [] 0 1
-    ∷ answer 5 (runEntry 0 1 Lower ∷ []) 2 4
-    ∷ answer 8 (runEntry 0 1 Lower ∷ runEntry 1 2 Straight ∷ []) 3 5
-    ∷ answer 8 (runEntry 0 1 Upper ∷ runEntry 1 2 Straight ∷ []) 3 5
-    ∷ answer 4 (runEntry 0 1 Straight ∷ runEntry 0 3 Lower ∷ runEntry 0 2 Lower ∷ []) 5 9
-    ∷ answer 6 (runEntry 0 2 Upper ∷ runEntry 2 1 Upper ∷ []) 4 8
-    ∷ answer 7 (runEntry 0 1 Straight ∷ []) 1 2
-    ∷ answer 6 (runEntry 0 3 Straight ∷ runEntry 0 1 Straight ∷ runEntry 0 2 Straight ∷ []) 3 4
+    ∷ answer 100 (runEntry 0 1 Lower ∷ []) 2 4
+    ∷ answer 160 (runEntry 0 1 Lower ∷ runEntry 1 2 Straight ∷ []) 3 5
+    ∷ answer 160 (runEntry 0 1 Upper ∷ runEntry 1 2 Straight ∷ []) 3 5
+    ∷ answer 80 (runEntry 0 1 Straight ∷ runEntry 0 3 Lower ∷ runEntry 0 2 Lower ∷ []) 5 9
+    ∷ answer 120 (runEntry 0 2 Upper ∷ runEntry 2 1 Upper ∷ []) 4 8
+    ∷ answer 140 (runEntry 0 1 Straight ∷ []) 1 2
+    ∷ answer 120 (runEntry 0 3 Straight ∷ runEntry 0 1 Straight ∷ runEntry 0 2 Straight ∷ []) 3 4
     ∷ []
 
 -- What W2 is answered with upper asked for.
 abbrev pub upperAnswer : Wiring
-upperAnswer = answer 5 (runEntry 0 1 Upper ∷ []) 2 4
+upperAnswer = answer 100 (runEntry 0 1 Upper ∷ []) 2 4
 
 -- W1 to W8 with lower asked for; W2 with upper, and with nothing said.
 pub worked : (map (wiringOfBoard Favour.Lower) boards ≡ answers)

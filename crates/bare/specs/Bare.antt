@@ -8,7 +8,7 @@ use lib.ListN.{length, drop, replicate}
 use Rattle.basics.specs.Tests.{either, choose}
 use Rattle.refusal.specs.Refusals.{accepted}
 use Rattle.refusal.specs.Rows.{Row, given, firstOf}
-use Rattle.refusal.specs.declared.Verdict.the-variants.{ListLengths, NoPins, Outside, PlaceTaken}
+use Rattle.refusal.specs.declared.Verdict.the-variants.{ListLengths, NoPins, Outside, PinTooNear}
 use Rattle.board.specs.declared.Spot.{Spot}
 use Rattle.board.specs.Spots.{mostPins, spotsFrom, allWithin, allApart}
 use Rattle.wiring.specs.declared.Laid.{Laid}
@@ -29,7 +29,7 @@ listRows xs ys =
     given (wrongLengths xs ys) ListLengths
     ∷ given (eqb (length xs) 0) NoPins
     ∷ given (not (allWithin (feedOfLists xs ys))) Outside
-    ∷ given (not (allApart (feedOfLists xs ys))) PlaceTaken
+    ∷ given (not (allApart (feedOfLists xs ys))) PinTooNear
     ∷ []
 
 -- Bare wiring: 16, 17, 8, 9, then what wiring the feed says after its 17: 18, 19.

@@ -45,7 +45,7 @@ fn wire_listed(xs: &[i32], ys: &[i32], room: usize, favour: Favour) -> Laid
         return wiring::refused(Verdict::Outside);
     }
     if !spots::are_apart(&across, &up, &there) {
-        return wiring::refused(Verdict::PlaceTaken);
+        return wiring::refused(Verdict::PinTooNear);
     }
     wiring::wire_feed(&across, &up, &there, room, favour)
 }

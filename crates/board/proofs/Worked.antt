@@ -10,7 +10,8 @@ ends : (onBoard (pos 20000) ≡ true) × (onBoard (negsuc 19999) ≡ true) × (o
 unfolding onBoard both
 ends = (refl, refl, refl, refl)
 
--- Places one step apart are not too near, a place is too near to itself.
-steps-apart : (tooNear (place (pos 0) (pos 0)) (place (negsuc 0) (pos 0)) ≡ false) × (tooNear (place (negsuc 4) (pos 3)) (place (negsuc 4) (pos 3)) ≡ true)
+-- Places that differ by 19 in x and in y are too near, a place is too near to itself; 20 in x alone, or in y alone, is far enough.
+steps-apart : (tooNear (place (pos 0) (pos 0)) (place (negsuc 18) (pos 19)) ≡ true) × (tooNear (place (negsuc 4) (pos 3)) (place (negsuc 4) (pos 3)) ≡ true)
+    × (tooNear (place (pos 0) (pos 0)) (place (negsuc 19) (pos 19)) ≡ false) × (tooNear (place (pos 5) (negsuc 9)) (place (pos 5) (pos 10)) ≡ false)
 unfolding tooNear closer difference both
-steps-apart = (refl, refl)
+steps-apart = (refl, refl, refl, refl)

@@ -9,37 +9,37 @@ use Rattle.board.specs.Place.{place}
 abbrev pub below : ℕ → ℤ
 below n = negℤ (pos n)
 
--- W1: (5,5).
+-- W1: (100,100).
 abbrev pub W1 : List Place
-W1 = place (pos 5) (pos 5) ∷ []
+W1 = place (pos 100) (pos 100) ∷ []
 
--- W2: (0,0) (3,2).
+-- W2: (0,0) (60,40).
 abbrev pub W2 : List Place
-W2 = place (pos 0) (pos 0) ∷ place (pos 3) (pos 2) ∷ []
+W2 = place (pos 0) (pos 0) ∷ place (pos 60) (pos 40) ∷ []
 
--- W3: (0,0) (4,2) (4,-2).
+-- W3: (0,0) (80,40) (80,-40).
 abbrev pub W3 : List Place
-W3 = place (pos 0) (pos 0) ∷ place (pos 4) (pos 2) ∷ place (pos 4) (below 2) ∷ []
+W3 = place (pos 0) (pos 0) ∷ place (pos 80) (pos 40) ∷ place (pos 80) (below 40) ∷ []
 
--- W4: (0,0) (4,-2) (4,2).
+-- W4: (0,0) (80,-40) (80,40).
 abbrev pub W4 : List Place
-W4 = place (pos 0) (pos 0) ∷ place (pos 4) (below 2) ∷ place (pos 4) (pos 2) ∷ []
+W4 = place (pos 0) (pos 0) ∷ place (pos 80) (below 40) ∷ place (pos 80) (pos 40) ∷ []
 
--- W5: (0,1) (0,-1) (-1,0) (1,0).
+-- W5: (0,20) (0,-20) (-20,0) (20,0).
 abbrev pub W5 : List Place
-W5 = place (pos 0) (pos 1) ∷ place (pos 0) (below 1) ∷ place (below 1) (pos 0) ∷ place (pos 1) (pos 0) ∷ []
+W5 = place (pos 0) (pos 20) ∷ place (pos 0) (below 20) ∷ place (below 20) (pos 0) ∷ place (pos 20) (pos 0) ∷ []
 
--- W6: (0,0) (3,-1) (1,-3).
+-- W6: (0,0) (60,-20) (20,-60).
 abbrev pub W6 : List Place
-W6 = place (pos 0) (pos 0) ∷ place (pos 3) (below 1) ∷ place (pos 1) (below 3) ∷ []
+W6 = place (pos 0) (pos 0) ∷ place (pos 60) (below 20) ∷ place (pos 20) (below 60) ∷ []
 
--- W7: (0,0) (0,7).
+-- W7: (0,0) (0,140).
 abbrev pub W7 : List Place
-W7 = place (pos 0) (pos 0) ∷ place (pos 0) (pos 7) ∷ []
+W7 = place (pos 0) (pos 0) ∷ place (pos 0) (pos 140) ∷ []
 
--- W8: (0,0) (2,0) (-2,0) (0,2).
+-- W8: (0,0) (40,0) (-40,0) (0,40).
 abbrev pub W8 : List Place
-W8 = place (pos 0) (pos 0) ∷ place (pos 2) (pos 0) ∷ place (below 2) (pos 0) ∷ place (pos 0) (pos 2) ∷ []
+W8 = place (pos 0) (pos 0) ∷ place (pos 40) (pos 0) ∷ place (below 40) (pos 0) ∷ place (pos 0) (pos 40) ∷ []
 
 -- All eight.
 abbrev pub boards : List (List Place)

@@ -15,9 +15,9 @@ place x y = record { x = x; y = y }
 abbrev pub limit : ℕ
 limit = 20000
 
--- Pins that differ by less than this in x and in y are too near: at 1, those at the same place.
+-- Two pins are too near when both their x and their y differ by less than 20 steps.
 abbrev pub leastGap : ℕ
-leastGap = 1
+leastGap = 20
 
 -- A number from minus the limit to the limit.
 unfoldable pub onBoard : ℤ → Bool

@@ -72,6 +72,6 @@ crowded feed p at = tooNearOther feed p (At at)
 abbrev pub allWithin : List Spot → Bool
 allWithin feed = eachOf within feed
 
--- No two pins are too near each other: at a least gap of 1, no two have the same place.
+-- No two pins are too near each other.
 abbrev pub allApart : List Spot → Bool
 allApart feed = noTwo spotsTooNear feed

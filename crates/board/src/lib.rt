@@ -8,7 +8,7 @@ ghost use Rattle.board.specs.Place.{onBoard, inside, middle, difference,
 pub const LIMIT: i32 = 20000;
 
 // Two places whose x and whose y both differ by less than this are too near.
-pub const LEAST_GAP: u64 = 1;
+pub const LEAST_GAP: u64 = 20;
 
 // A place on the grid, in grid steps; y grows upwards.
 pub struct Place {

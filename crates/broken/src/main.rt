@@ -18,15 +18,15 @@ use pinmap::MOST_BYTES;
 use refusal::Verdict;
 use wiring::LEGS;
 
-// Seat 0 is open for job 7; pin 0 placed at (1,1) stands, pin 1 placed at (2,2) is taken back.
+// Seat 0 is open for job 7; pin 0 placed at (20,20) stands, pin 1 placed at (40,40) is taken back.
 fn whole() -> Desk {
     let map = [0u8; 0];
     let empty = Desk::empty();
     let opened = empty.open(0, 7, &map);
     let after_opening = opened.desk;
-    let first = after_opening.place(0, 0, Place { x: 1, y: 1 });
+    let first = after_opening.place(0, 0, Place { x: 20, y: 20 });
     let after_first = first.desk;
-    let second = after_first.place(0, 1, Place { x: 2, y: 2 });
+    let second = after_first.place(0, 1, Place { x: 40, y: 40 });
     let after_second = second.desk;
     let undone = after_second.undo(0);
     undone.desk
@@ -77,9 +77,9 @@ fn pin_outside() -> Desk {
     with_pin(Place { x: LIMIT + 1, y: 0 })
 }
 
-// Two pins stand at one place.
-fn pins_at_one_place() -> Desk {
-    with_pin(Place { x: 1, y: 1 })
+// Two pins stand too near each other.
+fn pins_too_near() -> Desk {
+    with_pin(Place { x: 39, y: 1 })
 }
 
 // The edit that stands is another.
@@ -92,14 +92,14 @@ fn with_standing(edit: Edit) -> Desk {
 // The edit that stands placed pin 0 elsewhere.
 fn standing_elsewhere() -> Desk {
     let held = Held {
-        place: Place { x: 5, y: 5 },
+        place: Place { x: 100, y: 100 },
     };
     with_standing(Edit::Placed(0, held))
 }
 
 // The edit that stands moved pin 0 to where it already stood.
 fn standing_moved_nowhere() -> Desk {
-    let at = Place { x: 1, y: 1 };
+    let at = Place { x: 20, y: 20 };
     with_standing(Edit::Moved(0, at, at))
 }
 
@@ -109,7 +109,7 @@ fn standing_from_outside() -> Desk {
         x: 0,
         y: -LIMIT - 1,
     };
-    let to = Place { x: 1, y: 1 };
+    let to = Place { x: 20, y: 20 };
     with_standing(Edit::Moved(0, from, to))
 }
 
@@ -120,10 +120,10 @@ fn with_taken_back(edit: Edit) -> Desk {
     d
 }
 
-// The edit that is taken back places pin 1 where pin 0 stands.
-fn taken_back_onto_a_pin() -> Desk {
+// The edit that is taken back places pin 1 too near to pin 0.
+fn taken_back_near_a_pin() -> Desk {
     let held = Held {
-        place: Place { x: 1, y: 1 },
+        place: Place { x: 1, y: 39 },
     };
     with_taken_back(Edit::Placed(1, held))
 }
@@ -131,7 +131,7 @@ fn taken_back_onto_a_pin() -> Desk {
 // The edit that is taken back removes pin 1, which is not there.
 fn taken_back_of_no_pin() -> Desk {
     let held = Held {
-        place: Place { x: 2, y: 2 },
+        place: Place { x: 40, y: 40 },
     };
     with_taken_back(Edit::Removed(1, held))
 }
@@ -139,7 +139,7 @@ fn taken_back_of_no_pin() -> Desk {
 // The edit that is taken back places pin 32.
 fn taken_back_of_pin_32() -> Desk {
     let held = Held {
-        place: Place { x: 2, y: 2 },
+        place: Place { x: 40, y: 40 },
     };
     with_taken_back(Edit::Placed(32, held))
 }
@@ -211,7 +211,7 @@ fn tell_answer(call: &[u8], answered: Answered) {
 
 // Makes each call that can change a desk on this one, and writes the answers.
 fn try_changes(desk: Desk) {
-    let at = Place { x: 3, y: 3 };
+    let at = Place { x: 60, y: 60 };
     let map = [0u8; 0];
     tell_answer(b" open ", desk.open(1, 9, &map));
     tell_answer(b" close ", desk.close(0));
@@ -270,7 +270,7 @@ fn try_seats() {
     try_calls(b"job repeated:", job_repeated());
     try_calls(b"closed seat with records:", closed_with_records());
     try_calls(b"pin outside:", pin_outside());
-    try_calls(b"pins at one place:", pins_at_one_place());
+    try_calls(b"pins too near:", pins_too_near());
 }
 
 // Broken by an edit that could not have been made.
@@ -281,7 +281,7 @@ fn try_edits() {
         b"standing edit, moved from outside:",
         standing_from_outside(),
     );
-    try_calls(b"taken-back edit, onto a pin:", taken_back_onto_a_pin());
+    try_calls(b"taken-back edit, near a pin:", taken_back_near_a_pin());
     try_calls(
         b"taken-back edit, of a pin not there:",
         taken_back_of_no_pin(),

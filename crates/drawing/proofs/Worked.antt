@@ -1,4 +1,4 @@
--- Worked cases of the rules and of edits, each computed: a drawing without pins, and one with pin 0 at (1,1). Assumes nothing.
+-- Worked cases of the rules and of edits, each computed: a drawing without pins, and one with pin 0 at (20,20). Assumes nothing.
 use mathlib.Core.Path.{_≡_, refl}
 use mathlib.Core.Bool.{true, false}
 use mathlib.Core.List.{List, [], _∷_, map}
@@ -12,33 +12,33 @@ use Rattle.board.specs.Spots.{spotsTooNear, crowded, within, tooNearOther}
 use Rattle.drawing.specs.Pins.{holding, isThere, sameHeld, samePin, samePins, lawful, spotOf, spotsOf, noPins}
 use Rattle.drawing.specs.Edits.{movedPin, pinMade, pinUnmade, made, unmade, standsAt, foundAs, allFound, proper, makeable, takeable}
 
--- A drawing with pin 0 at (1,1).
+-- A drawing with pin 0 at (20,20).
 abbrev one : List Pin
-one = made noPins (Placed 0 (holding (place (pos 1) (pos 1))))
+one = made noPins (Placed 0 (holding (place (pos 20) (pos 20))))
 
--- Both drawings keep the rules; a pin outside the board, or two at one place, break them.
-rules : map lawful (noPins ∷ one ∷ made noPins (Placed 3 (holding (place (pos 20001) (pos 0)))) ∷ made one (Placed 1 (holding (place (pos 1) (pos 1)))) ∷ [])
+-- Both drawings keep the rules; a pin outside the board, or two too near, break them.
+rules : map lawful (noPins ∷ one ∷ made noPins (Placed 3 (holding (place (pos 20001) (pos 0)))) ∷ made one (Placed 1 (holding (place (pos 39) (pos 1)))) ∷ [])
     ≡ true ∷ true ∷ false ∷ false ∷ []
 unfolding both either onBoard inside difference closer tooNear sameNumber samePlace isThere sameHeld samePin samePins spotsTooNear tooNearOther crowded within spotOf spotsOf lawful movedPin pinMade pinUnmade made unmade standsAt foundAs allFound proper makeable takeable choose numbered anyOf eachOf noTwo
 rules = refl
 
--- Placing: at the board's end; beyond it; a pin above 31; a pin that is there; a place that is taken; the place beside it.
+-- Placing: at the board's end; beyond it; a pin above 31; a pin that is there; a place too near pin 0; one 20 steps from it.
 placing : map (makeable one) (Placed 1 (holding (place (negsuc 19999) (pos 20000))) ∷ Placed 1 (holding (place (pos 0) (pos 20001))) ∷ Placed 32 (holding (place (pos 0) (pos 0)))
-    ∷ Placed 0 (holding (place (pos 5) (pos 5))) ∷ Placed 1 (holding (place (pos 1) (pos 1))) ∷ Placed 1 (holding (place (pos 1) (pos 2))) ∷ [])
+    ∷ Placed 0 (holding (place (pos 100) (pos 100))) ∷ Placed 1 (holding (place (pos 1) (pos 39))) ∷ Placed 1 (holding (place (pos 20) (pos 40))) ∷ [])
     ≡ true ∷ false ∷ false ∷ false ∷ false ∷ true ∷ []
 unfolding both either onBoard inside difference closer tooNear sameNumber samePlace isThere sameHeld samePin samePins spotsTooNear tooNearOther crowded within spotOf spotsOf lawful movedPin pinMade pinUnmade made unmade standsAt foundAs allFound proper makeable takeable choose numbered anyOf eachOf noTwo
 placing = refl
 
--- Moving: away; to its own place; from where it does not stand. Removing: with what it holds; with another place.
-moving : map (makeable one) (Moved 0 (place (pos 1) (pos 1)) (place (pos 1) (pos 2)) ∷ Moved 0 (place (pos 1) (pos 1)) (place (pos 1) (pos 1))
-    ∷ Moved 0 (place (pos 2) (pos 1)) (place (pos 3) (pos 3)) ∷ Removed 0 (holding (place (pos 1) (pos 1))) ∷ Removed 0 (holding (place (pos 2) (pos 1))) ∷ [])
+-- Moving: a step away, near its own former place; to its own place; from where it does not stand. Removing: with what it holds; with another place.
+moving : map (makeable one) (Moved 0 (place (pos 20) (pos 20)) (place (pos 20) (pos 21)) ∷ Moved 0 (place (pos 20) (pos 20)) (place (pos 20) (pos 20))
+    ∷ Moved 0 (place (pos 40) (pos 20)) (place (pos 60) (pos 60)) ∷ Removed 0 (holding (place (pos 20) (pos 20))) ∷ Removed 0 (holding (place (pos 40) (pos 20))) ∷ [])
     ≡ true ∷ false ∷ false ∷ true ∷ false ∷ []
 unfolding both either onBoard inside difference closer tooNear sameNumber samePlace isThere sameHeld samePin samePins spotsTooNear tooNearOther crowded within spotOf spotsOf lawful movedPin pinMade pinUnmade made unmade standsAt foundAs allFound proper makeable takeable choose numbered anyOf eachOf noTwo
 moving = refl
 
--- Taking back: the placing of pin 0; a placing elsewhere; a move from another place; from outside the board; a removal of pin 1; one from where pin 0 stands.
-taking : map (takeable one) (Placed 0 (holding (place (pos 1) (pos 1))) ∷ Placed 0 (holding (place (pos 2) (pos 1))) ∷ Moved 0 (place (pos 2) (pos 1)) (place (pos 1) (pos 1))
-    ∷ Moved 0 (place (pos 20001) (pos 1)) (place (pos 1) (pos 1)) ∷ Removed 1 (holding (place (pos 2) (pos 1))) ∷ Removed 1 (holding (place (pos 1) (pos 1))) ∷ [])
+-- Taking back: the placing of pin 0; a placing elsewhere; a move from another place; from outside the board; a removal of pin 1; one from a place too near pin 0.
+taking : map (takeable one) (Placed 0 (holding (place (pos 20) (pos 20))) ∷ Placed 0 (holding (place (pos 40) (pos 20))) ∷ Moved 0 (place (pos 40) (pos 20)) (place (pos 20) (pos 20))
+    ∷ Moved 0 (place (pos 20001) (pos 20)) (place (pos 20) (pos 20)) ∷ Removed 1 (holding (place (pos 40) (pos 20))) ∷ Removed 1 (holding (place (pos 39) (pos 39))) ∷ [])
     ≡ true ∷ false ∷ true ∷ false ∷ true ∷ false ∷ []
 unfolding both either onBoard inside difference closer tooNear sameNumber samePlace isThere sameHeld samePin samePins spotsTooNear tooNearOther crowded within spotOf spotsOf lawful movedPin pinMade pinUnmade made unmade standsAt foundAs allFound proper makeable takeable choose numbered anyOf eachOf noTwo
 taking = refl

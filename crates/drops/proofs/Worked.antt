@@ -54,14 +54,10 @@ lamp = Watts (fin false 3 (pos 3))
 abbrev lost : List Float → Lost
 lost drops = record { verdict = Accepted; drops = padded mostPins nought drops }
 
--- The f32 next above 0.01.
-abbrev above : Float
-above = fin false 10737419 (negsuc 29)
-
--- W2, 2 amps over 5 steps, rounded up; the load of pin 2, which is absent, is a NaN and not looked at. W3, 2 amps at pin 1 and 24 watts at pin 2:
--- 4 amps over 6 steps, then 2 amps over 4 steps more.
-worked : (lostOf (feed W2) (loads (Spare ∷ Amps two ∷ Amps nan ∷ [])) sheet ≡ lost (nought ∷ above ∷ []))
-    × (lostOf (feed W3) (loads (Spare ∷ Amps two ∷ lamp ∷ [])) sheet ≡ lost (nought ∷ fin false 6442451 (negsuc 27) ∷ fin false 8589935 (negsuc 27) ∷ []))
+-- W2, 2 amps over 100 steps, rounded down; the load of pin 2, which is absent, is a NaN and not looked at. W3, 2 amps at pin 1 and 24 watts at pin 2:
+-- 4 amps over 120 steps, then 2 amps over 80 steps more.
+worked : (lostOf (feed W2) (loads (Spare ∷ Amps two ∷ Amps nan ∷ [])) sheet ≡ lost (nought ∷ fin false 13421773 (negsuc 25) ∷ []))
+    × (lostOf (feed W3) (loads (Spare ∷ Amps two ∷ lamp ∷ [])) sheet ≡ lost (nought ∷ fin false 1006633 (negsuc 20) ∷ fin false 10737419 (negsuc 23) ∷ []))
 unfolding lostOf dropsOf dropsAfter currentsOf plusLeadingOn ampsOf loadFits sheetFits add mul div ofInt le accepted firstOf noTwo anyOf eachOf clash common isEnd boxesShare overlap
     under belowBoth runsOf pinsOf runsAmong grown nextRun earliestOf earliest runsBetween runsFrom without pinsFrom keptIf sooner pairAt comesBefore byPart byNumber
     pairOf weightOf distanceOf difference larger both either choose
@@ -71,6 +67,10 @@ worked = (refl, refl)
 out-of-range : lostOf (feed W2) (loads (Watts nan ∷ Amps two ∷ [])) sheet ≡ noneLost OutOfRange
 unfolding lostOf noneLost dropsOf loadFits sheetFits le accepted firstOf noTwo anyOf eachOf runsOf pinsOf runsAmong grown pinsFrom keptIf both choose
 out-of-range = refl
+
+-- The f32 next above 0.01.
+abbrev above : Float
+above = fin false 10737419 (negsuc 29)
 
 -- 0.01 ohms pass, the next f32 does not; 500 amps and -0 pass, a NaN and infinite watts do not.
 ends : (sheetFits (sheetOf hundredth) ≡ true) × (sheetFits (sheetOf above) ≡ false) × (map loadFits (Amps fiveHundred ∷ Amps (fin true 0 (pos 0)) ∷ []) ≡ true ∷ true ∷ [])

@@ -43,12 +43,12 @@ jobs = refl
 abbrev placed : ℕ → ℕ → List ℕ → List ℕ
 placed pin x y = 0 ∷ 7 ∷ pin ∷ 0 ∷ 0 ∷ 0 ∷ 0 ∷ x ∷ y
 
--- W3 as a map of job 7: pins (0,0), (4,2) and (4,-2).
+-- W3 as a map of job 7: pins (0,0), (80,40) and (80,-40).
 abbrev W3 : List ℕ
-W3 = placed 0 0 (0 ∷ 0 ∷ 0 ∷ 0 ∷ []) ++ placed 1 4 (0 ∷ 0 ∷ 0 ∷ 2 ∷ []) ++ placed 2 4 (255 ∷ 255 ∷ 255 ∷ 254 ∷ [])
+W3 = placed 0 0 (0 ∷ 0 ∷ 0 ∷ 0 ∷ []) ++ placed 1 80 (0 ∷ 0 ∷ 0 ∷ 40 ∷ []) ++ placed 2 80 (255 ∷ 255 ∷ 255 ∷ 216 ∷ [])
 
 -- For W3 exactly these three lines are printed.
-W3-holds : mapAnswer W3 ≡ text "job 7 length 8 runs 2 weighed 5\n0 1 lower\n1 2 straight\n"
+W3-holds : mapAnswer W3 ≡ text "job 7 length 160 runs 2 weighed 5\n0 1 lower\n1 2 straight\n"
 unfolding jobOfMap openedWith wiredWith mapAnswer mapText jobText textForEach entryLine runLine jobLine digits wiredOf step effect answerOf
     sameJob sound soundTo soundSeat soundOpen soundClosed jobOf emptyDesk readMap wrongLength rowsFrom recordsIn withPinsOf recordOf numberAt faulty
     withPinOf own filled inTurn isThere spotsTooNear tooNearOther crowded within spotOf spotsOf lawful wiringOf wiringFavouring wiringWith
@@ -61,7 +61,7 @@ W3-holds = refl
 
 -- The third record has another job: 14.
 abbrev thirdOther : List ℕ
-thirdOther = placed 0 0 (0 ∷ 0 ∷ 0 ∷ 0 ∷ []) ++ placed 1 4 (0 ∷ 0 ∷ 0 ∷ 2 ∷ []) ++ (0 ∷ 8 ∷ 2 ∷ 0 ∷ 0 ∷ 0 ∷ 0 ∷ 4 ∷ 255 ∷ 255 ∷ 255 ∷ 254 ∷ [])
+thirdOther = placed 0 0 (0 ∷ 0 ∷ 0 ∷ 0 ∷ []) ++ placed 1 80 (0 ∷ 0 ∷ 0 ∷ 40 ∷ []) ++ (0 ∷ 8 ∷ 2 ∷ 0 ∷ 0 ∷ 0 ∷ 0 ∷ 80 ∷ 255 ∷ 255 ∷ 255 ∷ 216 ∷ [])
 
 -- It is refused with 14 and that record.
 other-job : mapAnswer thirdOther ≡ text "refused 14 record 2\n"
@@ -71,7 +71,7 @@ other-job = printed-refused thirdOther {v = OtherJob 2} (opened thirdOther) refl
 
 -- The second record's pin is not above the one before: 15.
 abbrev pinTwice : List ℕ
-pinTwice = placed 0 0 (0 ∷ 0 ∷ 0 ∷ 0 ∷ []) ++ placed 0 4 (0 ∷ 0 ∷ 0 ∷ 2 ∷ [])
+pinTwice = placed 0 0 (0 ∷ 0 ∷ 0 ∷ 0 ∷ []) ++ placed 0 80 (0 ∷ 0 ∷ 0 ∷ 40 ∷ [])
 
 -- It is refused with 15 and the second record.
 pin-twice : mapAnswer pinTwice ≡ text "refused 15 record 1\n"

@@ -40,8 +40,8 @@ recordOf part =
       place = record { x = numberAt part 4; y = numberAt part 8 };
     }
 
--- The record's pin is above 31 or not above the one before (`next` is one more than that), byte 3 is not zero, its place is outside, or it is that of an
--- earlier record, or too near to it.
+-- The record's pin is above 31 or not above the one before (`next` is one more than that), byte 3 is not zero, its place is outside, or it is too
+-- near to that of an earlier record.
 unfoldable pub faulty : ℕ → List Spot → MapRecord → Bool
 faulty next earlier r =
     either (leb mostPins (r .pin))

@@ -19,12 +19,12 @@ bytes-smallest : numberAt (128 ∷ 0 ∷ 0 ∷ 0 ∷ []) 0 ≡ negsuc 2147483647
 unfolding numberAt
 bytes-smallest = refl
 
--- 1 as D3 writes it.
-written-one : putAt (9 ∷ 9 ∷ 9 ∷ 9 ∷ 9 ∷ []) 0 (pos 1) ≡ (0 ∷ 0 ∷ 0 ∷ 1 ∷ 9 ∷ [])
+-- 20 as D3 writes it.
+written-twenty : putAt (9 ∷ 9 ∷ 9 ∷ 9 ∷ 9 ∷ []) 0 (pos 20) ≡ (0 ∷ 0 ∷ 0 ∷ 20 ∷ 9 ∷ [])
 unfolding putAt firstByte secondByte thirdByte fourthByte
-written-one = refl
+written-twenty = refl
 
--- -1 as D3 writes it.
-written-minus-one : putAt (9 ∷ 9 ∷ 9 ∷ 9 ∷ 9 ∷ []) 0 (negsuc 0) ≡ (255 ∷ 255 ∷ 255 ∷ 255 ∷ 9 ∷ [])
+-- -20 as D3 writes it.
+written-minus-twenty : putAt (9 ∷ 9 ∷ 9 ∷ 9 ∷ 9 ∷ []) 0 (negsuc 19) ≡ (255 ∷ 255 ∷ 255 ∷ 236 ∷ 9 ∷ [])
 unfolding putAt firstByte secondByte thirdByte fourthByte
-written-minus-one = refl
+written-minus-twenty = refl

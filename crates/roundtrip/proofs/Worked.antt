@@ -18,13 +18,13 @@ use Rattle.pinmap.specs.Record.{recordOf, faulty, recordBytes, pinBytes}
 use Rattle.pinmap.proofs.Judging.{refusedBy}
 use Rattle.pinmap.specs.Map.{recordsIn, withPinOf, withPinsOf, rowsFrom, wrongLength, readMap, mapFrom, mapOf, written, writeMap, bufferAfter, readAs}
 
--- Job 7, pin 0 at (1,-1).
+-- Job 7, pin 0 at (20,-20).
 abbrev onePin : List Pin
-onePin = there (holding (record { x = pos 1; y = negsuc 0 })) ∷ replicate 31 absent
+onePin = there (holding (record { x = pos 20; y = negsuc 19 })) ∷ replicate 31 absent
 
--- It is written 00 07 00 00 00 00 00 01 FF FF FF FF.
+-- It is written 00 07 00 00 00 00 00 14 FF FF FF EC.
 abbrev oneRecord : List ℕ
-oneRecord = 0 ∷ 7 ∷ 0 ∷ 0 ∷ 0 ∷ 0 ∷ 0 ∷ 1 ∷ 255 ∷ 255 ∷ 255 ∷ 255 ∷ []
+oneRecord = 0 ∷ 7 ∷ 0 ∷ 0 ∷ 0 ∷ 0 ∷ 0 ∷ 20 ∷ 255 ∷ 255 ∷ 255 ∷ 236 ∷ []
 
 -- A record of a job, a pin and a byte 3, at (x, 0) for an x below 256.
 abbrev given : ℕ → ℕ → ℕ → ℕ → List ℕ
@@ -78,25 +78,26 @@ unfolding readMap wrongLength either choose rowsFrom recordsIn withPinsOf record
 other-job-first = refl
 
 -- The first faulty record is named: record 1 has a byte 3 that is not zero, record 2 another job.
-first-faulty : readMap (given 7 0 0 0 ++ (given 7 1 5 3 ++ given 8 2 0 6)) 7 ≡ refusedBy (FaultyRecord 1)
+first-faulty : readMap (given 7 0 0 0 ++ (given 7 1 5 60 ++ given 8 2 0 120)) 7 ≡ refusedBy (FaultyRecord 1)
 unfolding readMap wrongLength either choose rowsFrom recordsIn withPinsOf recordOf numberAt faulty firstOf accepted inside onBoard both anyOf spotsTooNear spotOf spotsOf withPinOf
 first-faulty = refl
 
 -- A pin that comes twice is 15.
-not-ascending : readMap (given 7 3 0 0 ++ given 7 3 0 1) 7 ≡ refusedBy (FaultyRecord 1)
+not-ascending : readMap (given 7 3 0 0 ++ given 7 3 0 20) 7 ≡ refusedBy (FaultyRecord 1)
 unfolding readMap wrongLength either choose rowsFrom recordsIn withPinsOf recordOf numberAt faulty firstOf accepted inside onBoard both anyOf spotsTooNear spotOf spotsOf withPinOf
 not-ascending = refl
 
 -- A pin below the one before it is 15,
-descending : readMap (given 7 3 0 0 ++ given 7 2 0 1) 7 ≡ refusedBy (FaultyRecord 1)
+descending : readMap (given 7 3 0 0 ++ given 7 2 0 20) 7 ≡ refusedBy (FaultyRecord 1)
 unfolding readMap wrongLength either choose rowsFrom recordsIn withPinsOf recordOf numberAt faulty firstOf accepted inside onBoard both anyOf spotsTooNear spotOf spotsOf withPinOf
 descending = refl
 
--- and so is a place that comes again.
-place-twice : readMap (given 7 3 0 9 ++ given 7 4 0 9) 7 ≡ refusedBy (FaultyRecord 1)
+-- and so is a place that comes again, or one 19 steps from it; 20 steps are far enough.
+close-pins : (readMap (given 7 3 0 9 ++ given 7 4 0 9) 7 ≡ refusedBy (FaultyRecord 1)) × (readMap (given 7 3 0 9 ++ given 7 4 0 28) 7 ≡ refusedBy (FaultyRecord 1))
+    × (accepted (readMap (given 7 3 0 9 ++ given 7 4 0 29) 7 .verdict) ≡ true)
 unfolding readMap wrongLength either choose rowsFrom recordsIn withPinsOf recordOf numberAt faulty firstOf accepted inside onBoard both anyOf spotsTooNear spotOf spotsOf tooNear closer
     difference withPinOf
-place-twice = refl
+close-pins = (refl, refl, refl)
 
 -- x 20,000 is accepted, 20,001 is 15.
 limits : (accepted (readMap (0 ∷ 7 ∷ 0 ∷ 0 ∷ 0 ∷ 0 ∷ 78 ∷ 32 ∷ 0 ∷ 0 ∷ 0 ∷ 0 ∷ []) 7 .verdict) ≡ true)

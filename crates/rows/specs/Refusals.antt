@@ -5,7 +5,7 @@ use Prim.Native.Nat.{ℕ, _-_}
 use lib.Dec.{eqb, leb}
 use Rattle.basics.specs.Tests.{either}
 use Rattle.refusal.specs.Rows.{Row, given}
-use Rattle.refusal.specs.declared.Verdict.the-variants.{SeatAbove, NotOpen, OpenAlready, JobZero, JobElsewhere, NoSuchPin, PinThere, Outside, PlaceTaken, NothingStands, NothingTakenBack, JournalFull, DeskBroken}
+use Rattle.refusal.specs.declared.Verdict.the-variants.{SeatAbove, NotOpen, OpenAlready, JobZero, JobElsewhere, NoSuchPin, PinThere, Outside, PinTooNear, NothingStands, NothingTakenBack, JournalFull, DeskBroken}
 use Rattle.board.specs.Place.{inside}
 use Rattle.board.specs.Spots.{mostPins, crowded}
 use Rattle.drawing.specs.declared.Pin.{Pin}
@@ -58,12 +58,12 @@ makingRows l (Placing p h) =
     given (leb mostPins p) NoSuchPin
     ∷ given (isThere (pinAt l p)) PinThere
     ∷ given (not (inside (h .place))) Outside
-    ∷ given (crowded (spotsOf l) p (h .place)) PlaceTaken
+    ∷ given (crowded (spotsOf l) p (h .place)) PinTooNear
     ∷ []
 makingRows l (Moving p to) =
     given (notThere l p) NoSuchPin
     ∷ given (not (inside to)) Outside
-    ∷ given (either (standsAt (pinAt l p) to) (crowded (spotsOf l) p to)) PlaceTaken
+    ∷ given (either (standsAt (pinAt l p) to) (crowded (spotsOf l) p to)) PinTooNear
     ∷ []
 makingRows l (Removing p) = given (notThere l p) NoSuchPin ∷ []
 

@@ -93,7 +93,7 @@ fn turned_placing(pins: [Pin; PINS], pin: usize, held: Held) -> Verdict
         return Verdict::Outside;
     }
     if drawing::is_crowded(pins, pin, at) {
-        Verdict::PlaceTaken
+        Verdict::PinTooNear
     } else {
         Verdict::Accepted
     }
@@ -127,10 +127,10 @@ fn turned_moving(pins: [Pin; PINS], pin: usize, to: Place) -> Verdict
     }
     let there = drawing::pin_at(pins, pin);
     if drawing::stands_at(there, to) {
-        return Verdict::PlaceTaken;
+        return Verdict::PinTooNear;
     }
     if drawing::is_crowded(pins, pin, to) {
-        Verdict::PlaceTaken
+        Verdict::PinTooNear
     } else {
         Verdict::Accepted
     }

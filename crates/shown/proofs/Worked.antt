@@ -29,12 +29,12 @@ use Rattle.text.specs.Digits.{digits, integer, placeText}
 use Rattle.printed.specs.Answers.{carriedText, toldLine, wiredLine, jobLine, runLine, legLine, drawingLine, pinLine}
 use Rattle.shown.specs.Shown.{entryLine, legText, pinText, pinsText, wiredText, laidText, jobText, mapText, drawnText}
 
--- W3: (0,0), (4,2), (4,-2).
+-- W3: (0,0), (80,40), (80,-40).
 abbrev w3 : Laid
-w3 = wiringOf (At (record { x = pos 0; y = pos 0 }) ∷ At (record { x = pos 4; y = pos 2 }) ∷ At (record { x = pos 4; y = negsuc 1 }) ∷ []) 62 Favour.Lower
+w3 = wiringOf (At (record { x = pos 0; y = pos 0 }) ∷ At (record { x = pos 80; y = pos 40 }) ∷ At (record { x = pos 80; y = negsuc 39 }) ∷ []) 62 Favour.Lower
 
 -- W3 as a map of job 7.
-pub map-of-w3 : mapText 7 (w3 .wiring) ≡ text "job 7 length 8 runs 2 weighed 5\n0 1 lower\n1 2 straight\n"
+pub map-of-w3 : mapText 7 (w3 .wiring) ≡ text "job 7 length 160 runs 2 weighed 5\n0 1 lower\n1 2 straight\n"
 unfolding wiringOf wiringFavouring wiringWith answerWith turnedAway legEntries runEntries shapedRuns weighedOf sum weighedAt
     howMany bent bestChoice shortestOf shortest lengthOfChoice legsOfChoice choicesOf withShapes withShape shapesOf bentShapes lengthOf different
     anyOf stepsOfAll stepsOf smaller stepsUp stepsAcross sameStep legsOf lowerCorner upperCorner isStraight noTwo clash common isEnd
@@ -44,7 +44,7 @@ unfolding wiringOf wiringFavouring wiringWith answerWith turnedAway legEntries r
 map-of-w3 = refl
 
 -- W3 with its legs.
-pub laid-w3 : laidText w3 ≡ text "0 length 8 runs 2 legs 3 weighed 5\n0 1 lower\n1 2 straight\nleg 0 0 4 0\nleg 4 0 4 2\nleg 4 2 4 -2\n"
+pub laid-w3 : laidText w3 ≡ text "0 length 160 runs 2 legs 3 weighed 5\n0 1 lower\n1 2 straight\nleg 0 0 80 0\nleg 80 0 80 40\nleg 80 40 80 -40\n"
 unfolding wiringOf wiringFavouring wiringWith answerWith turnedAway legEntries runEntries shapedRuns weighedOf sum weighedAt
     howMany bent bestChoice shortestOf shortest lengthOfChoice legsOfChoice choicesOf withShapes withShape shapesOf bentShapes lengthOf different
     anyOf stepsOfAll stepsOf smaller stepsUp stepsAcross sameStep legsOf lowerCorner upperCorner isStraight noTwo clash common isEnd
@@ -58,11 +58,11 @@ pub refused-maps : mapText 7 (turnedAway MapLength .wiring) ++ mapText 7 (turned
 unfolding turnedAway runEntries accepted choose digits carriedText toldLine mapText
 refused-maps = refl
 
--- A drawing whose pins 1 and 2 are there: (1,-1) and (20000,-20000).
+-- A drawing whose pins 1 and 2 are there: (20,-20) and (20000,-20000).
 abbrev two : List Pin
-two = absent ∷ there (holding (record { x = pos 1; y = negsuc 0 })) ∷ there (holding (record { x = pos 20000; y = negsuc 19999 })) ∷ absent ∷ []
+two = absent ∷ there (holding (record { x = pos 20; y = negsuc 19 })) ∷ there (holding (record { x = pos 20000; y = negsuc 19999 })) ∷ absent ∷ []
 
 -- It is printed with its two pins counted and a line for each.
-pub drawn-two : drawnText 7 two 2 1 ≡ text "job 7 pins 2 standing 2 taken 1\npin 1 1 -1\npin 2 20000 -20000\n"
+pub drawn-two : drawnText 7 two 2 1 ≡ text "job 7 pins 2 standing 2 taken 1\npin 1 20 -20\npin 2 20000 -20000\n"
 unfolding choose digits integer placeText drawingLine pinLine pinText pinsText isThere howMany drawnText
 drawn-two = refl

@@ -1,4 +1,4 @@
--- Further cases, each computed: a move to the place where the pin already stands, and desks broken in each way of document 01's list. Assumes nothing.
+-- Further cases, each computed: moves to the place where the pin already stands and near it, a pin too near another, and desks broken in each way of document 01's list. Assumes nothing.
 use mathlib.Core.Path.{_≡_, refl}
 use mathlib.Core.Bool.{true}
 use mathlib.Core.List.{List, [], _∷_, map}
@@ -10,7 +10,7 @@ use Rattle.basics.specs.Lists.{padded, numbered}
 use Rattle.refusal.specs.Refusals.{accepted}
 use Rattle.refusal.specs.Rows.{firstOf}
 use Rattle.refusal.specs.declared.Verdict.{Verdict}
-use Rattle.refusal.specs.declared.Verdict.the-variants.{Accepted, PlaceTaken, DeskBroken}
+use Rattle.refusal.specs.declared.Verdict.the-variants.{Accepted, PinTooNear, DeskBroken}
 use Rattle.board.specs.Place.{place, onBoard, inside, difference, closer, tooNear, sameNumber, samePlace}
 use Rattle.board.specs.declared.Place.{Place}
 use Rattle.drawing.specs.declared.Pin.{Pin}
@@ -45,14 +45,15 @@ placing s p at = making s (Placing p (holding at))
 abbrev pub moving : ℕ → ℕ → Place → Call
 moving s p to = making s (Moving p to)
 
--- Pin 0 is placed at (1,1), and a move to (1,1) is 9.
-pub own-place-refused : answers emptyDesk (opening 0 7 [] ∷ placing 0 0 (place (pos 1) (pos 1)) ∷ moving 0 0 (place (pos 1) (pos 1)) ∷ [])
-    ≡ Accepted ∷ Accepted ∷ PlaceTaken ∷ []
+-- Pin 0 is placed at (20,20). A move to (20,20) is 9, one to (21,20), near its own former place, is accepted. Pin 1 at (40,39) is 9, 19 steps from pin 0 in x and in y; at (41,39) it is accepted.
+pub nearness : answers emptyDesk (opening 0 7 [] ∷ placing 0 0 (place (pos 20) (pos 20)) ∷ moving 0 0 (place (pos 20) (pos 20)) ∷ moving 0 0 (place (pos 21) (pos 20))
+    ∷ placing 0 1 (place (pos 40) (pos 39)) ∷ placing 0 1 (place (pos 41) (pos 39)) ∷ [])
+    ≡ Accepted ∷ Accepted ∷ PinTooNear ∷ Accepted ∷ PinTooNear ∷ Accepted ∷ []
 unfolding answers both either choose accepted firstOf onBoard inside difference closer tooNear sameNumber samePlace isThere sameHeld samePin samePins spotsTooNear
     tooNearOther crowded within spotOf spotsOf lawful movedPin pinMade pinUnmade made unmade standsAt foundAs allFound proper makeable takeable numbered heldBy recordsIn withPinsOf rowsFrom wrongLength readMap
     own kept filled inTurn sameJob jobOf soundOpen soundClosed soundSeat soundTo sound edited effect answerOf
     step emptyDesk anyOf eachOf noTwo
-own-place-refused = refl
+nearness = refl
 
 -- A seat open for a job, with these pins and so many standing edits.
 abbrev pub opened : ℕ → List Pin → ℕ → Seat
@@ -62,36 +63,36 @@ opened job l n = record { opened = true; job = job; pins = drawn l; standing = n
 abbrev pub deskOf : List Seat → List Record → ℕ → Desk
 deskOf l m n = record { seats = padded mostSeats closedSeat l; journal = filled m; used = n }
 
--- A pin at (1,1).
+-- A pin at (20,20).
 abbrev pub here : Pin
-here = pinAt (pos 1) (pos 1)
+here = pinAt (pos 20) (pos 20)
 
 -- The record of its placing as pin 0, which stands,
 abbrev pub stands : Record
-stands = recorded 0 (Placed 0 (holding (place (pos 1) (pos 1))))
+stands = recorded 0 (Placed 0 (holding (place (pos 20) (pos 20))))
 
--- and that of a placing of pin 1 at (2,2), which is taken back.
+-- and that of a placing of pin 1 at (40,40), which is taken back.
 abbrev pub takenBack : Record
-takenBack = recorded 0 (Placed 1 (holding (place (pos 2) (pos 2))))
+takenBack = recorded 0 (Placed 1 (holding (place (pos 40) (pos 40))))
 
 -- The desk with these two records, open at seat 0 for job 7.
 abbrev pub whole : Desk
 whole = deskOf (opened 7 (here ∷ []) 1 ∷ []) (stands ∷ takenBack ∷ []) 2
 
--- Broken desks: job 0; a repeated job; a closed seat with a record; a pin outside the board; two pins at one place;
+-- Broken desks: job 0; a repeated job; a closed seat with a record; a pin outside the board; two pins too near;
 -- a standing edit that could not have been made; a taken-back one that could not be redone; 257 used records; a record of seat 8; more
 -- standing edits than records; a closed seat that counts a standing edit.
 abbrev pub broken : List Desk
 broken =
     deskOf (opened 0 (here ∷ []) 1 ∷ []) (stands ∷ takenBack ∷ []) 2
     ∷ deskOf (opened 7 (here ∷ []) 1 ∷ opened 7 [] 0 ∷ []) (stands ∷ takenBack ∷ []) 2
-    ∷ deskOf (opened 7 (here ∷ []) 1 ∷ []) (stands ∷ takenBack ∷ recorded 1 (Placed 0 (holding (place (pos 1) (pos 1)))) ∷ []) 3
+    ∷ deskOf (opened 7 (here ∷ []) 1 ∷ []) (stands ∷ takenBack ∷ recorded 1 (Placed 0 (holding (place (pos 20) (pos 20)))) ∷ []) 3
     ∷ deskOf (opened 7 (here ∷ pinAt (pos 20001) (pos 0) ∷ []) 0 ∷ []) [] 0
-    ∷ deskOf (opened 7 (here ∷ here ∷ []) 0 ∷ []) [] 0
-    ∷ deskOf (opened 7 (here ∷ []) 1 ∷ []) (recorded 0 (Placed 0 (holding (place (pos 5) (pos 5)))) ∷ takenBack ∷ []) 2
-    ∷ deskOf (opened 7 (here ∷ []) 1 ∷ []) (stands ∷ recorded 0 (Placed 1 (holding (place (pos 1) (pos 1)))) ∷ []) 2
+    ∷ deskOf (opened 7 (here ∷ pinAt (pos 39) (pos 1) ∷ []) 0 ∷ []) [] 0
+    ∷ deskOf (opened 7 (here ∷ []) 1 ∷ []) (recorded 0 (Placed 0 (holding (place (pos 100) (pos 100)))) ∷ takenBack ∷ []) 2
+    ∷ deskOf (opened 7 (here ∷ []) 1 ∷ []) (stands ∷ recorded 0 (Placed 1 (holding (place (pos 1) (pos 39)))) ∷ []) 2
     ∷ deskOf (opened 7 (here ∷ []) 1 ∷ []) (stands ∷ takenBack ∷ []) 257
-    ∷ deskOf (opened 7 (here ∷ []) 1 ∷ []) (stands ∷ takenBack ∷ recorded 8 (Placed 0 (holding (place (pos 1) (pos 1)))) ∷ []) 3
+    ∷ deskOf (opened 7 (here ∷ []) 1 ∷ []) (stands ∷ takenBack ∷ recorded 8 (Placed 0 (holding (place (pos 20) (pos 20)))) ∷ []) 3
     ∷ deskOf (opened 7 (here ∷ []) 3 ∷ []) (stands ∷ takenBack ∷ []) 2
     ∷ deskOf (opened 7 (here ∷ []) 1 ∷ withPins closedSeat (closedSeat .pins) 1 ∷ []) (stands ∷ takenBack ∷ []) 2
     ∷ []

@@ -55,15 +55,15 @@ AllHold (c ∷ table) = Holds c × AllHold table
 
 -- D1, up to the first undo: both seats opened empty, a pin placed at each, seat 0 undone.
 abbrev D1 : List Call
-D1 = opening 0 7 [] ∷ opening 1 9 [] ∷ placing 0 0 (place (pos 1) (pos 1)) ∷ placing 1 0 (place (pos 2) (pos 2)) ∷ undoing 0 ∷ []
+D1 = opening 0 7 [] ∷ opening 1 9 [] ∷ placing 0 0 (place (pos 20) (pos 20)) ∷ placing 1 0 (place (pos 40) (pos 40)) ∷ undoing 0 ∷ []
 
 -- D2: pin 0 placed and moved, the move undone, pin 1 placed; the redo is 11.
 abbrev D2 : List Call
-D2 = opening 0 7 [] ∷ placing 0 0 (place (pos 1) (pos 1)) ∷ moving 0 0 (place (pos 4) (pos 4)) ∷ undoing 0 ∷ placing 0 1 (place (pos 2) (pos 2)) ∷ redoing 0 ∷ []
+D2 = opening 0 7 [] ∷ placing 0 0 (place (pos 20) (pos 20)) ∷ moving 0 0 (place (pos 80) (pos 80)) ∷ undoing 0 ∷ placing 0 1 (place (pos 40) (pos 40)) ∷ redoing 0 ∷ []
 
--- D3: job 7, pin 0 at (1,-1). Written into 14 bytes that hold 9, the last two stay.
+-- D3: job 7, pin 0 at (20,-20). Written into 14 bytes that hold 9, the last two stay.
 abbrev D3 : List Call
-D3 = opening 0 7 [] ∷ placing 0 0 (place (pos 1) (negsuc 0)) ∷ []
+D3 = opening 0 7 [] ∷ placing 0 0 (place (pos 20) (negsuc 19)) ∷ []
 
 -- The table: the boards with lower asked for, W2 with upper and with nothing said, D1 up to its first undo and to its end, D2, D3.
 abbrev pub table : List Case
@@ -71,11 +71,11 @@ table =
     wired Favour.Lower boards bare.answers
     ∷ wired Favour.Upper (W2 ∷ []) (bare.upperAnswer ∷ [])
     ∷ wired Favour.Unsaid (W2 ∷ []) (bare.upperAnswer ∷ [])
-    ∷ session D1 (Accepted ∷ Accepted ∷ Accepted ∷ Accepted ∷ Accepted ∷ []) (drawn []) (drawn (pinAt (pos 2) (pos 2) ∷ []))
+    ∷ session D1 (Accepted ∷ Accepted ∷ Accepted ∷ Accepted ∷ Accepted ∷ []) (drawn []) (drawn (pinAt (pos 40) (pos 40) ∷ []))
     ∷ session (D1 ++ (undoing 0 ∷ redoing 0 ∷ [])) (Accepted ∷ Accepted ∷ Accepted ∷ Accepted ∷ Accepted ∷ NothingStands ∷ Accepted ∷ [])
-    (drawn (pinAt (pos 1) (pos 1) ∷ [])) (drawn (pinAt (pos 2) (pos 2) ∷ []))
-    ∷ session D2 (Accepted ∷ Accepted ∷ Accepted ∷ Accepted ∷ Accepted ∷ NothingTakenBack ∷ []) (drawn (pinAt (pos 1) (pos 1) ∷ pinAt (pos 2) (pos 2) ∷ [])) (drawn [])
-    ∷ writes D3 (replicate 14 9) 12 (0 ∷ 7 ∷ 0 ∷ 0 ∷ 0 ∷ 0 ∷ 0 ∷ 1 ∷ 255 ∷ 255 ∷ 255 ∷ 255 ∷ 9 ∷ 9 ∷ [])
+    (drawn (pinAt (pos 20) (pos 20) ∷ [])) (drawn (pinAt (pos 40) (pos 40) ∷ []))
+    ∷ session D2 (Accepted ∷ Accepted ∷ Accepted ∷ Accepted ∷ Accepted ∷ NothingTakenBack ∷ []) (drawn (pinAt (pos 20) (pos 20) ∷ pinAt (pos 40) (pos 40) ∷ [])) (drawn [])
+    ∷ writes D3 (replicate 14 9) 12 (0 ∷ 7 ∷ 0 ∷ 0 ∷ 0 ∷ 0 ∷ 0 ∷ 20 ∷ 255 ∷ 255 ∷ 255 ∷ 236 ∷ 9 ∷ 9 ∷ [])
     ∷ []
 
 -- W1 TO W8 AND D1 TO D3 HOLD.

@@ -13,7 +13,7 @@ use lib.ListN.{length, getD}
 use borrow.Author.Needs.{needs}
 use borrow.Author.Tests.{not-true, not-false}
 use Rattle.refusal.specs.Refusals.{accepted}
-use Rattle.refusal.specs.declared.Verdict.the-variants.{Outside, PlaceTaken}
+use Rattle.refusal.specs.declared.Verdict.the-variants.{Outside, PinTooNear}
 use Rattle.board.specs.declared.Spot.{Spot}
 use Rattle.board.specs.Spots.{spotsFrom, allWithin, allApart}
 use Rattle.wiring.specs.Answer.{wiringOf}
@@ -133,7 +133,7 @@ returns-2 c =
     let w = i .before in
     let o = w .before .before .before .before .before .before in
     c .refused2 .ensures
-    ∙ turned _ _ _ _ PlaceTaken refl
+    ∙ turned _ _ _ _ PinTooNear refl
     (two-near _ _ (o .pre .0) (o .pre .1) (within w ∙ not-false _ (i .if1 .left)) (near n ∙ not-true _ (c .before .if2 .taken)))
 
 wire-feed-requires : tie.Need-wire-feed-requires Inv-loop μ-loop
