@@ -1,5 +1,5 @@
 #!/usr/bin/env python3
-"""Compares and measures the proved programs: bench.py agree [FIRST LAST] | calls | wire | drops | stack | frames. README.md beside it says what each does."""
+"""Compares and measures the proved programs: bench.py agree [FIRST LAST] | calls | wire | drops | mill | stack | frames. README.md beside it says what each does."""
 import os
 import random
 import re
@@ -156,10 +156,10 @@ def wire():
                 ratio(f"2,000 wirings of 32 pins, {what}, {how}", {name: best[name, log] - best[name, logs[0]] for name in programs})
 
 
-def drops():
-    """The time of 2,000 calls for the drops of a seat and of 2,000 wirings of the same seat, printed; a full board of 32 pins, opened from a map by the log's
-    first line. Both programs by turns, the best of 25, less the time of reading the same lines: naming seat 8 they are refused with 1."""
-    asked = {"wirings": lambda seat: f"wire {seat} 64\n", "calls for drops": drops_call}
+def beside_wirings(what_calls, call_of):
+    """The time of 2,000 calls on a seat and of 2,000 wirings of the same seat, printed; a full board of 32 pins, opened from a map by the log's first line.
+    Both programs by turns, the best of 25, less the time of reading the same lines: naming seat 8 they are refused with 1."""
+    asked = {"wirings": lambda seat: f"wire {seat} 64\n", what_calls: call_of}
     with tempfile.TemporaryDirectory() as folder:
         programs = {"proved": proved("replay"), "plain C": plain(folder)}
         for what, boards in full_boards().items():
@@ -174,7 +174,17 @@ def drops():
             for call, seconds in took.items():
                 ratio(f"2,000 {call} of a seat of 32 pins, {what}", seconds)
             for name in programs:
-                print(f"{name}: drops take {took['calls for drops'][name] / took['wirings'][name]:.2f} of the time of wirings")
+                print(f"{name}: {what_calls} take {took[what_calls][name] / took['wirings'][name]:.2f} of the time of wirings")
+
+
+def drops():
+    """The time of calls for the drops of a seat, beside wirings."""
+    beside_wirings("calls for drops", drops_call)
+
+
+def mill():
+    """The time of calls for the segments of a seat, beside wirings."""
+    beside_wirings("calls for segments", lambda seat: f"mill {seat} 64\n")
 
 
 def smallest(command, log):
@@ -201,7 +211,7 @@ def stack():
     opened = f"open 0 7 {pin_map.hex()}\n"
     bare = f"bare 64 {xs} {ys}\n"
     wired = opened + "wire 0 64\n"
-    every = wired + drops_call(0) + "write 0 1024\nmove 0 0 0 9\nremove 0 0\nplace 0 0 0 0\nundo 0\nredo 0\npins 0\nclose 0\n" + bare
+    every = wired + drops_call(0) + "mill 0 64\nwrite 0 1024\nmove 0 0 0 9\nremove 0 0\nplace 0 0 0 0\nundo 0\nredo 0\npins 0\nclose 0\n" + bare
     replay = proved("replay")
     for what, log in (("no call", "#\n"), ("a drawing shown", "pins 0\n"), ("a map opened and wired", wired), ("bare wiring", bare), ("every call", every)):
         print(f"replay, {what}: {smallest(replay, log.encode())}")
@@ -257,7 +267,7 @@ def frames():
 
 
 if __name__ == "__main__":
-    tasks = {"agree": agree, "calls": calls, "wire": wire, "drops": drops, "stack": stack, "frames": frames}
+    tasks = {"agree": agree, "calls": calls, "wire": wire, "drops": drops, "mill": mill, "stack": stack, "frames": frames}
     if len(sys.argv) < 2 or sys.argv[1] not in tasks:
         sys.exit(__doc__)
     tasks[sys.argv[1]](*sys.argv[2:])

@@ -218,12 +218,18 @@ def drops(at):
     return f"drops {at} {amount(1, 60, 5)} {amount(0, 0.01, 5)} {loads()}"
 
 
-def lamps(spread):
-    """A map opened, or a second one where the first is faulty; its drops asked for with several loads, at times an edit between them; the seat closed."""
+def lending(call, at, most):
+    """A wiring of a seat, or its copper as segments, most often with room for all, else for at most so many."""
+    return f"{call} {at} {plain(pick([64, 64, random.randint(0, most)]))}{favour()}"
+
+
+def asked(spread):
+    """A map opened, or a second one where the first is faulty; its drops with several loads and its segments asked for, at times an edit between them; the
+    seat closed."""
     at = random.randrange(8)
     lines = [f"open {at} {100 + at} {pin_map(100 + at, spread)}" for _ in range(2)]
     for _ in range(random.randint(1, 5)):
-        lines.append(drops(at))
+        lines.append(pick([drops(at), lending("mill", at, 12)]))
         if chance(30):
             lines.append(f"{pick(['place', 'move'])} {at} {random.randrange(32)} {part(spread)} {part(spread)}")
     return lines + [f"close {at}"]
@@ -231,13 +237,13 @@ def lamps(spread):
 
 def look(spread):
     at = plain(seat())
-    call = pick(["pins", "pins", "wire", "wire", "wire", "write", "drops", "drops"])
+    call = pick(["pins", "pins", "wire", "wire", "wire", "mill", "mill", "write", "drops", "drops"])
     if call == "pins":
         return f"pins {at}"
     if call == "drops":
         return drops(at)
-    if call == "wire":
-        return f"wire {at} {plain(pick([64, 64, random.randint(0, 65)]))}{favour()}"
+    if call in ("wire", "mill"):
+        return lending(call, at, 65)
     return f"write {at} {plain(pick([0, 12, 24, 383, 384, 1024, 1025, random.randint(0, 400)]))}"
 
 
@@ -310,7 +316,7 @@ def log():
     elif kind == 2:
         lines = [pick([opening(spread), opening(spread), f"close {seat()}", look(spread)]) for _ in range(150)]
     elif kind == 3:
-        lines = [line for _ in range(40) for line in lamps(spread)]
+        lines = [line for _ in range(40) for line in asked(spread)]
     else:
         lines = [f"open {s} {100 + s} -" for s in range(8) if chance(60)] + [call(spread) for _ in range(300)]
     spoil = pick([0, 0, 0, 2, 10])

@@ -364,9 +364,9 @@ static int in_order(const void *a, const void *b) {
     return s->from < t->from ? -1 : s->from > t->from;
 }
 
-// The unit steps covered by at least one leg, each counted once.
-static int64_t length_of(const Leg *leg, int legs) {
-    Stretch s[LEGS];
+// The copper of the legs as stretches in order, those that overlap or touch made one; how many are left.
+static int join_legs(const Leg *leg, int legs, Stretch *s) {
+    int n = 0;
     for (int i = 0; i < legs; i++) {
         Place a = leg[i].a, b = leg[i].b;
         bool upright = a.x == b.x;
@@ -374,13 +374,23 @@ static int64_t length_of(const Leg *leg, int legs) {
         s[i] = (Stretch){upright, upright ? a.x : a.y, f < t ? f : t, f < t ? t : f};
     }
     qsort(s, legs, sizeof *s, in_order);
-    int64_t length = 0;
-    int32_t end = 0;
     for (int i = 0; i < legs; i++) {
-        if (i == 0 || s[i].upright != s[i - 1].upright || s[i].line != s[i - 1].line || s[i].from > end) end = s[i].from;
-        if (s[i].to > end) length += s[i].to - end, end = s[i].to;
+        if (n == 0 || s[i].upright != s[n - 1].upright || s[i].line != s[n - 1].line || s[i].from > s[n - 1].to) s[n++] = s[i];
+        else if (s[i].to > s[n - 1].to) s[n - 1].to = s[i].to;
     }
-    return length;
+    return n;
+}
+
+static int64_t sum_of(const Stretch *s, int n) {
+    int64_t sum = 0;
+    for (int i = 0; i < n; i++) sum += s[i].to - s[i].from;
+    return sum;
+}
+
+// The unit steps covered by at least one leg, each counted once.
+static int64_t length_of(const Leg *leg, int legs) {
+    Stretch s[LEGS];
+    return sum_of(s, join_legs(leg, legs, s));
 }
 
 // How far the copper of a run from `at` to `other` leaves `at` straight on: to the right, up, to the left, down.
@@ -487,18 +497,28 @@ static Verdict join_pins(const Pin *pins, Run *run, int *runs) {
     return boxes_meet(pins, run, *runs) ? refused(18) : accepted;
 }
 
-// Wires the pins: 17, 18, 19.
-static Verdict wire_pins(const Pin *pins, unsigned room, Shape favoured, Wiring *w) {
+// Joins the pins by runs, chooses their shapes and lays their legs: 17, 18. The length is that of the sum over pins.
+static Verdict shape_pins(const Pin *pins, Shape favoured, Wiring *w) {
     Verdict v = join_pins(pins, w->run, &w->runs);
     if (v.number) return v;
-    int64_t length = choose_shapes(pins, w->run, w->runs, favoured);
+    w->length = choose_shapes(pins, w->run, w->runs, favoured);
 #ifdef EVERY_CHOICE
     try_every_choice(pins, w->run, w->runs, favoured);
 #endif
     w->legs = lay_legs(pins, w->run, w->runs, w->leg);
-    if ((unsigned)w->legs > room) return refused(19);
-    w->length = length_of(w->leg, w->legs);
+    return accepted;
+}
+
+static void expect_length(const Wiring *w, int64_t length) {
     if (w->length != length) fprintf(stderr, "the sum over pins is not the length\n"), exit(1);
+}
+
+// Wires the pins: 17, 18, 19.
+static Verdict wire_pins(const Pin *pins, unsigned room, Shape favoured, Wiring *w) {
+    Verdict v = shape_pins(pins, favoured, w);
+    if (v.number) return v;
+    if ((unsigned)w->legs > room) return refused(19);
+    expect_length(w, length_of(w->leg, w->legs));
     w->weighed = choices_weighed(pins, w->run, w->runs);
     return accepted;
 }
@@ -517,6 +537,20 @@ static Verdict wire_bare(const int32_t *xs, unsigned x_count, const int32_t *ys,
         if (outside(pins[i].at)) return refused(8);
     if (pins_break_rules(pins)) return refused(9);
     return wire_pins(pins, room, favoured, w);
+}
+
+// ---- A clean copper list for the mill ----
+
+// The copper of a seat's pins as stretches, which are in the order of the list and none of which can be joined to another: 28, 1, 2, 17, 18, 19.
+static Verdict mill_seat(const Desk *desk, uint32_t seat, unsigned room, Shape favoured, Stretch *s, int *segments) {
+    Wiring w;
+    Verdict v = seat_refusal(desk, seat);
+    if (v.number) return v;
+    v = shape_pins(desk->seats[seat].pins, favoured, &w);
+    if (v.number) return v;
+    *segments = join_legs(w.leg, w.legs, s);
+    expect_length(&w, sum_of(s, *segments));
+    return (unsigned)*segments > room ? refused(19) : accepted;
 }
 
 // ---- Volts lost to a lamp ----
@@ -703,6 +737,15 @@ static bool print_wiring(Verdict v, const Wiring *w) {
     return true;
 }
 
+static bool print_segments(Verdict v, const Stretch *s, int segments) {
+    if (v.number) return print_verdict(v);
+    printf("0 segments %d\n", segments);
+    for (int i = 0; i < segments; i++)
+        if (s[i].upright) printf("segment %d %d %d %d\n", s[i].line, s[i].from, s[i].line, s[i].to);
+        else printf("segment %d %d %d %d\n", s[i].from, s[i].line, s[i].to, s[i].line);
+    return true;
+}
+
 // The 32 drops, each as the eight hex digits of its bits.
 static bool print_drops(Verdict v, const float *drop) {
     if (v.number) return print_verdict(v);
@@ -773,6 +816,16 @@ static bool play_wire(const Desk *desk, uint32_t seat, const Word *word, int wor
     return print_wiring(v, &w);
 }
 
+static bool play_mill(const Desk *desk, uint32_t seat, const Word *word, int words) {
+    uint64_t room;
+    Shape favoured;
+    Stretch s[LEGS];
+    int segments = 0;
+    if (!read_favour(word, words, 3, &favoured) || !read_digits(word[2], WIRE_ROOM, &room)) return false;
+    Verdict v = mill_seat(desk, seat, room, favoured, s, &segments);
+    return print_segments(v, s, segments);
+}
+
 // Loads that are not said are spare, and drops are 0 until they are found.
 static bool play_drops(const Desk *desk, uint32_t seat, const Word *word, int words) {
     Sheet sheet;
@@ -790,6 +843,7 @@ static bool play_words(Desk *desk, const Word *word, int words) {
     if (is(word[0], "bare")) return play_bare(word, words);
     if (words < 2 || !read_digits(word[1], UINT32_MAX, &seat)) return false;
     if (is(word[0], "wire")) return play_wire(desk, seat, word, words);
+    if (is(word[0], "mill")) return play_mill(desk, seat, word, words);
     if (is(word[0], "drops")) return play_drops(desk, seat, word, words);
     if (words == 2) {
         if (is(word[0], "close")) return print_verdict(close_seat(desk, seat));

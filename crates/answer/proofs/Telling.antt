@@ -4,26 +4,17 @@ use mathlib.Core.Bool.{true, false}
 use mathlib.Core.List.{List, _∷_}
 use Prim.Native.Nat.{ℕ, zero, suc, _≤_}
 use native.Mathlib.Omega.{arith}
-use lib.IntN.{ℤ}
 use lib.ListN.{take, replicate}
 use Rattle.basics.specs.Tests.{choose}
 use Rattle.refusal.specs.Refusals.{accepted}
-use Rattle.copper.specs.declared.Favour.{Favour}
-use Rattle.wiring.specs.declared.Laid.{Laid}
-use Rattle.bare.specs.Bare.{bareOf}
-use Rattle.drops.specs.declared.Loaded.{Loaded}
-use Rattle.drops.specs.declared.Sheet.{Sheet}
 use Rattle.desk.specs.declared.Desk.{Desk}
 use Rattle.desk.specs.declared.Answered.{Answered}
 use Rattle.desk.specs.declared.Written.{Written}
-use Rattle.desk.specs.declared.Wired.{Wired}
-use Rattle.desk.specs.declared.Dropped.{Dropped}
 use Rattle.rows.specs.Calls.{Call}
-use Rattle.desk.specs.Desk.{step, writtenOf, bufferOf, wiredOf, droppedOf}
+use Rattle.desk.specs.Desk.{step, writtenOf, bufferOf}
 use Rattle.text.specs.Text.{mostRoom, answerBytes, Holds}
 use Rattle.text.proofs.Printing.{held}
-use Rattle.printed.specs.Answers.{mostLineBytes, verdictLine, writtenLine, lostLine}
-use Rattle.shown.specs.Shown.{laidText}
+use Rattle.printed.specs.Answers.{mostLineBytes, verdictLine, writtenLine}
 use Rattle.answer.specs.Answered.{callText, lentBytes, writingText}
 
 module _ (d : Desk) (old : List ℕ) {n : ℕ} {new : List ℕ} where
@@ -47,20 +38,10 @@ module _ (d : Desk) (old : List ℕ) {n : ℕ} {new : List ℕ} where
   unfolding writingText choose
   write-refused s buffer {w} e a h = rw (← e, a) (held old mostLineBytes {p = verdictLine (w .verdict)} (omega arith) refl h)
 
-  -- A wiring of a seat, printed as it is laid.
-  pub wire-done : (s legs : ℕ) (favour : Favour) {w : Wired} → w ≡ wiredOf d s legs favour → Holds answerBytes (laidText (w .laid)) old n new
-      → Holds answerBytes (laidText (wiredOf d s legs favour .laid)) old n new
-  wire-done s legs favour e h = rw (← e) h
-
-  -- Drops, printed as they are answered.
-  pub drops-done : (s : ℕ) (loads : List Loaded) (sheet : Sheet) {w : Dropped} → w ≡ droppedOf d s loads sheet
-      → Holds answerBytes (lostLine (w .lost)) old n new → Holds answerBytes (lostLine (droppedOf d s loads sheet .lost)) old n new
-  drops-done s loads sheet e h = rw (← e) h
-
--- A bare wiring is printed as it is laid.
-pub bare-done : (xs ys : List ℤ) (legs : ℕ) (favour : Favour) (old : List ℕ) {n : ℕ} {new : List ℕ} {l : Laid} → l ≡ bareOf xs ys legs favour
-    → Holds answerBytes (laidText l) old n new → Holds answerBytes (laidText (bareOf xs ys legs favour)) old n new
-bare-done xs ys legs favour old e h = rw (← e) h
+-- A wiring, a milling and drops are printed as they are answered.
+pub asked : {A : Type 0} (print : A → List ℕ) (answer : A) (old : List ℕ) {n : ℕ} {new : List ℕ} {a : A} → a ≡ answer
+    → Holds answerBytes (print a) old n new → Holds answerBytes (print answer) old n new
+asked print answer old e h = rw (← e) h
 
 -- The first of many equal bytes.
 first-same : (n m b : ℕ) → n ≤ m → take n (replicate m b) ≡ replicate n b

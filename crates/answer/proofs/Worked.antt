@@ -1,4 +1,4 @@
--- A log of a few lines with what it prints, by the definitions alone. Assumes nothing.
+-- Logs of a few lines with what they print, by the definitions alone. Assumes nothing.
 use mathlib.Core.Path.{_≡_, refl}
 use mathlib.Core.List.{List, [], _∷_, _++_}
 use Prim.Native.Nat.{ℕ, _+_}
@@ -9,23 +9,31 @@ use Rattle.basics.specs.Tests.{both, either, choose, anyOf, eachOf, noTwo}
 use Rattle.refusal.specs.Refusals.{accepted}
 use Rattle.refusal.specs.Rows.{firstOf}
 use Rattle.pinmap.specs.Number.{firstByte, secondByte, thirdByte, fourthByte}
-use Rattle.board.specs.Place.{onBoard, inside, difference, closer, tooNear, sameNumber, samePlace}
+use Rattle.board.specs.Place.{onBoard, inside, difference, isStraight, closer, tooNear, sameNumber, samePlace}
 use Rattle.board.specs.Spots.{spotsTooNear, crowded, within, tooNearOther}
 use Rattle.drawing.specs.Pins.{isThere, sameHeld, samePin, samePins, lawful, spotOf, spotsOf}
 use Rattle.drawing.specs.Edits.{movedPin, pinMade, pinUnmade, made, unmade, standsAt, foundAs, allFound, proper, makeable, takeable, heldBy}
+use Rattle.tree.specs.Growth.{pairAt, keptIf, pinsFrom, without, runsFrom, runsBetween, earliest, earliestOf, nextRun, grown, runsAmong, pinsOf, runsOf}
+use Rattle.tree.specs.Bends.{bent}
+use Rattle.copper.specs.Shapes.{legsOf}
+use Rattle.wiring.specs.Choices.{shapesOf, withShape, withShapes, choicesOf, legsOfChoice, lengthOfChoice, shortest, shortestOf, bestChoice}
+use Rattle.wiring.specs.Answer.{legEntries}
+use Rattle.spans.specs.Spans.{insert, add, addAll}
+use Rattle.mill.specs.Numbered.{counted, uncounted, rowNumber, spanOf, placeOf, segmentsOf}
+use Rattle.mill.specs.Answer.{copperOf, cutWith}
 use Rattle.pinmap.specs.Record.{recordBytes, pinBytes}
 use Rattle.pinmap.specs.Map.{recordsIn, withPinsOf, rowsFrom, wrongLength, readMap, mapFrom, mapOf, written}
 use Rattle.journal.specs.Journal.{own, kept, filled, inTurn}
 use Rattle.desk.specs.declared.Desk.{Desk}
 use Rattle.seats.specs.Seats.{sameJob}
-use Rattle.desk.specs.Desk.{jobOf, soundOpen, soundClosed, soundSeat, soundTo, sound, edited, effect, answerOf, step, emptyDesk, writtenOf, bufferOf}
-use Rattle.text.specs.Text.{text, same}
+use Rattle.desk.specs.Desk.{jobOf, soundOpen, soundClosed, soundSeat, soundTo, sound, edited, effect, answerOf, step, emptyDesk, writtenOf, bufferOf, milledOf}
+use Rattle.text.specs.Text.{text, textForEach, same}
 use Rattle.text.specs.Words.{endOf, beforeFirst, pieces, nonEmpty, wordsOf}
 use Rattle.text.specs.Numbers.{between, valueFrom, isNumber, hasMinus, isCoordinate, signed, isHex, hexValue, allPairs, bytesOf, isSpelled, isMap, spelled}
-use Rattle.script.specs.Said.{only, isSeatAlone, isPair, isPlacing, seatCall, pairCall, placeCall, openCall, saidAs, callIn, isSkipped, saidIn, isLong, saidBy, mapGiven}
+use Rattle.script.specs.Said.{only, isSeatAlone, isPair, isPlacing, seatCall, pairCall, placeCall, favourIn, endsInFavour, openCall, isLending, lendingCall, saidAs, callIn, isSkipped, saidIn, isLong, saidBy, mapGiven, favourGiven}
 use Rattle.text.specs.Digits.{digits, integer, placeText, hexDigit, hex}
-use Rattle.printed.specs.Answers.{carriedText, toldLine, hexPart, writtenLine, drawingLine, pinLine, notACallLine}
-use Rattle.shown.specs.Shown.{pinText, pinsText, drawnText}
+use Rattle.printed.specs.Answers.{carriedText, toldLine, hexPart, writtenLine, milledLine, legLine, drawingLine, pinLine, notACallLine}
+use Rattle.shown.specs.Shown.{pinText, pinsText, legText, milledText, cutText, drawnText}
 use Rattle.answer.specs.Answered.{followed, played, callText, writingText, seatText, printed, answered}
 
 -- What lines print one after the other, numbered from a number on.
@@ -47,3 +55,19 @@ unfolding told both either choose accepted firstOf onBoard inside difference clo
     hexDigit hex carriedText toldLine hexPart writtenLine drawingLine pinLine notACallLine pinText pinsText howMany drawnText followed played callText
     writingText seatText printed answered saidBy anyOf noTwo
 worked = refl
+
+-- Two pins in a row, milled: no pins to wire, one pin without copper, no room, a segment, and a seat that is not open.
+milled :
+    told emptyDesk 1
+    ("open 0 7 -" ∷ "mill 0 0" ∷ "place 0 0 20 -20" ∷ "mill 0 0" ∷ "place 0 1 0 -20" ∷ "mill 0 0 lower" ∷ "mill 0 1" ∷ "mill 1 64" ∷ [])
+    ≡ text "0\nrefused 17\n0\n0 segments 0\n0\nrefused 19\n0 segments 1\nsegment 0 -20 20 -20\nrefused 2\n"
+unfolding told both either choose accepted firstOf onBoard inside difference isStraight closer tooNear sameNumber samePlace isThere sameHeld samePin samePins
+    spotsTooNear tooNearOther crowded within spotOf spotsOf lawful pinMade pinUnmade made unmade standsAt foundAs allFound proper makeable takeable numbered heldBy
+    pairAt keptIf pinsFrom without runsFrom runsBetween earliest earliestOf nextRun grown runsAmong pinsOf runsOf bent legsOf shapesOf withShape withShapes choicesOf
+    legsOfChoice lengthOfChoice shortest shortestOf bestChoice legEntries insert add addAll counted uncounted rowNumber spanOf placeOf segmentsOf copperOf cutWith
+    recordsIn withPinsOf rowsFrom wrongLength readMap own kept filled inTurn sameJob jobOf soundOpen soundClosed soundSeat soundTo sound edited effect answerOf step
+    emptyDesk milledOf same endOf beforeFirst pieces nonEmpty wordsOf between eachOf valueFrom isNumber hasMinus isCoordinate signed isHex hexValue allPairs bytesOf
+    isSpelled isMap spelled only isPlacing placeCall favourIn endsInFavour openCall isLending lendingCall saidAs callIn isSkipped saidIn isLong mapGiven favourGiven
+    digits integer placeText carriedText toldLine milledLine legLine textForEach legText milledText cutText followed played callText printed answered saidBy anyOf
+    noTwo
+milled = refl

@@ -15,13 +15,13 @@ use Rattle.bare.specs.Bare.{bareOf}
 use Rattle.rows.specs.Calls.{Call, opening, closing, making, undoing, redoing}
 use Rattle.rows.specs.Refusals.{Look}
 use Rattle.desk.specs.declared.Desk.{Desk}
-use Rattle.desk.specs.Desk.{lookAt, namingAt, step, writtenOf, bufferOf, wiredOf, droppedOf}
+use Rattle.desk.specs.Desk.{lookAt, namingAt, step, writtenOf, bufferOf, wiredOf, milledOf, droppedOf}
 use Rattle.script.specs.declared.Said.{Said}
 use Rattle.script.specs.Said.{saidBy, mapGiven, xsGiven, ysGiven, favourGiven, sheetGiven, loadsGiven}
 use Rattle.printed.specs.Answers.{verdictLine, writtenLine, closedLine, lostLine, notACallLine}
-use Rattle.shown.specs.Shown.{laidText, drawnText}
+use Rattle.shown.specs.Shown.{laidText, cutText, drawnText}
 
--- What the desk is after what a line says. Writing, wiring, drops and showing leave the desk as it is, and so does what is not a call.
+-- What the desk is after what a line says. Writing, wiring, milling, drops and showing leave the desk as it is, and so does what is not a call.
 unfoldable pub followed : Desk → List ℕ → Said → Desk
 followed d line Said.Skip = d
 followed d line Said.NotACall = d
@@ -34,6 +34,7 @@ followed d line (Said.Undo s) = step d (undoing s) .desk
 followed d line (Said.Redo s) = step d (redoing s) .desk
 followed d line (Said.Write s room) = d
 followed d line (Said.Wire s room) = d
+followed d line (Said.Mill s room) = d
 followed d line (Said.Bare room) = d
 followed d line (Said.Drops s) = d
 followed d line (Said.Pins s) = d
@@ -81,6 +82,7 @@ printed d number line (Said.Undo s) = callText d (undoing s)
 printed d number line (Said.Redo s) = callText d (redoing s)
 printed d number line (Said.Write s room) = writingText d s (lentBytes room)
 printed d number line (Said.Wire s room) = laidText (wiredOf d s room (favourGiven 3 line) .laid)
+printed d number line (Said.Mill s room) = cutText (milledOf d s room (favourGiven 3 line) .cut)
 printed d number line (Said.Bare room) = laidText (bareOf (xsGiven line) (ysGiven line) room (favourGiven 4 line))
 printed d number line (Said.Drops s) = lostLine (droppedOf d s (loadsGiven line) (sheetGiven line) .lost)
 printed d number line (Said.Pins s) = seatText d s

@@ -8,6 +8,7 @@ use printed::print_verdict;
 use printed::print_written;
 use refusal::Verdict;
 use script::Said;
+use shown::print_cut;
 use shown::print_drawn;
 use shown::print_laid;
 use text::ANSWER_BYTES;
@@ -19,11 +20,11 @@ ghost use Prim.Native.Nat.{_≤_};
 ghost use lib.ListN.{length};
 ghost use Rattle.bare.specs.Bare.{bareOf};
 ghost use Rattle.rows.specs.Calls.{opening};
-ghost use Rattle.desk.specs.Desk.{step, wiredOf, droppedOf};
+ghost use Rattle.desk.specs.Desk.{step, wiredOf, milledOf, droppedOf};
 ghost use Rattle.text.specs.Text.{over, mostRoom, answerBytes, Holds};
 ghost use Rattle.script.specs.Said.{mapGiven, xsGiven, ysGiven, favourGiven, sheetGiven, loadsGiven};
 ghost use Rattle.printed.specs.Answers.{verdictLine, lostLine};
-ghost use Rattle.shown.specs.Shown.{laidText};
+ghost use Rattle.shown.specs.Shown.{laidText, cutText};
 ghost use Rattle.answer.specs.Answered.{played, callText, lentBytes, writingText, isNotOpen, seatText, answered};
 
 // What a line is answered: the desk that follows, and how many bytes of the lent buffer are the text to be printed.
@@ -89,6 +90,16 @@ fn wire(desk: Desk, seat: usize, room: usize, line: &[u8], out: &mut [u8; ANSWER
     let wired = desk.wire(seat, room, favour);
     let laid = wired.laid;
     print_laid(laid, out)
+}
+
+// Mills a seat, as the line says of the shape to favour.
+fn mill(desk: Desk, seat: usize, room: usize, line: &[u8], out: &mut [u8; ANSWER_BYTES]) -> usize
+    ensures { λ r. ⌜ Holds answerBytes (cutText (milledOf desk seat room (favourGiven 3 (now (line .entry))) .cut)) (now (out .entry)) r (now (out .exit)) ⌝ }
+{
+    let favour = script::given_favour(line, 3);
+    let milled = desk.mill(seat, room, favour);
+    let cut = milled.cut;
+    print_cut(cut, out)
 }
 
 // Wires the x and y that the line gives, as it says of the shape to favour.
@@ -170,6 +181,10 @@ pub fn answer_line(desk: Desk, number: usize, line: &[u8], out: &mut [u8; ANSWER
         }
         Said::Wire { seat, room } => {
             let bytes = wire(desk, seat, room, line, out);
+            Answer { desk, bytes }
+        }
+        Said::Mill { seat, room } => {
+            let bytes = mill(desk, seat, room, line, out);
             Answer { desk, bytes }
         }
         Said::Bare { room } => {

@@ -1,7 +1,7 @@
 -- DEMAND 2 FOR BARE LISTS: every accepted wiring of lists of x and y is what demand 2 and document 01 say, of the feed whose pins are numbered by position.
 -- Assumes nothing.
 use mathlib.Core.Path.{_≡_, sym, subst}
-use mathlib.Core.Bool.{true, false}
+use mathlib.Core.Bool.{true}
 use mathlib.Core.List.{List}
 use Prim.Native.Nat.{ℕ}
 use lib.IntN.{ℤ}
@@ -17,7 +17,7 @@ use Rattle.wiring.specs.Answer.{wiringOf}
 use Rattle.wiring.specs.Demand.{BestWiring, SameButShapes}
 use Rattle.wiring.proofs.Demand.{answer-comes, accepted-is-best}
 use Rattle.wiring.proofs.Either.{turned-either}
-use Rattle.lent.specs.Lent.{filledWith}
+use Rattle.lent.specs.Lent.{stripOf, filledWith}
 use Rattle.lent.proofs.Demand.{filled-best}
 use Rattle.bare.specs.Bare.{feedOfLists, listRows, bareOf}
 use Rattle.bare.proofs.Feeds.{feed-many}
@@ -37,7 +37,7 @@ bare-is-best xs ys room favour z =
 -- and so it is with the legs in a lent list.
 pub bare-lent-is-best : (xs ys : List ℤ) (lent : List Leg) (favour : Favour) → accepted (bareOf xs ys (length lent) favour .wiring .verdict) ≡ true
     → BestWiring (favoursUpper favour) (feedOfLists xs ys)
-    (record { wiring = bareOf xs ys (length lent) favour .wiring; list = filledWith (bareOf xs ys (length lent) favour) lent })
+    (record { wiring = bareOf xs ys (length lent) favour .wiring; list = filledWith (stripOf (bareOf xs ys (length lent) favour)) lent })
 bare-lent-is-best xs ys lent favour z = filled-best (bare-is-best xs ys (length lent) favour z) lent
 
 -- WHATEVER IS SAID OF THE SHAPE TO FAVOUR, THE WIRING OF BARE LISTS IS THE SAME BUT FOR SHAPES, accepted or refused.

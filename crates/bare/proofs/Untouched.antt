@@ -9,7 +9,7 @@ use Rattle.refusal.specs.Rows.{firstOf}
 use Rattle.copper.specs.declared.Favour.{Favour}
 use Rattle.copper.specs.declared.Leg.{Leg}
 use Rattle.wiring.specs.Answer.{wiringOf}
-use Rattle.lent.specs.Lent.{filledWith}
+use Rattle.lent.specs.Lent.{stripOf, filledWith}
 use Rattle.wiring.specs.Demand.{Alone, Empty}
 use Rattle.lent.proofs.Untouched.{turned-by, wiring-turned, alone-empty, untouched}
 use Rattle.bare.specs.Bare.{feedOfLists, listRows, bareOf}
@@ -28,5 +28,5 @@ refused-bare-is-empty xs ys room favour e = alone-empty (bareOf xs ys room favou
 
 -- and leaves the list as it was.
 pub bare-untouched : (xs ys : List ℤ) (room : ℕ) (lent : List Leg) (favour : Favour) → accepted (bareOf xs ys room favour .wiring .verdict) ≡ false
-    → filledWith (bareOf xs ys room favour) lent ≡ lent
+    → filledWith (stripOf (bareOf xs ys room favour)) lent ≡ lent
 bare-untouched xs ys room lent favour e = untouched (bareOf xs ys room favour) lent (bare-turned xs ys room favour) e

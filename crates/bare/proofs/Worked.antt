@@ -5,7 +5,7 @@ use Prim.Native.Nat.{ℕ}
 use lib.ListN.{length}
 use Rattle.basics.specs.Tests.{both, either, choose, anyOf, eachOf, noTwo}
 use Rattle.basics.specs.Lists.{padded, valuesFrom}
-use Rattle.basics.specs.Sums.{sum}
+use Rattle.basics.specs.Sums.{sum, different}
 use Rattle.refusal.specs.Refusals.{accepted}
 use Rattle.refusal.specs.Rows.{firstOf}
 use Rattle.refusal.specs.declared.Verdict.the-variants.{Accepted}
@@ -23,7 +23,7 @@ use Rattle.tree.specs.Trees.{mostRuns}
 use Rattle.copper.specs.declared.Favour.{Favour}
 use Rattle.copper.specs.declared.Shape.the-variants.{Straight, Lower, Upper}
 use Rattle.copper.specs.Shapes.{lowerCorner, upperCorner, legsOf}
-use Rattle.copper.specs.Length.{sameStep, stepsAcross, stepsUp, stepsOf, stepsOfAll, different, lengthOf}
+use Rattle.copper.specs.Length.{sameStep, stepsAcross, stepsUp, stepsOf, stepsOfAll, lengthOf}
 use Rattle.board.specs.Place.{smaller}
 use Rattle.wiring.specs.declared.RunEntry.{RunEntry}
 use Rattle.wiring.specs.declared.Wiring.{Wiring}

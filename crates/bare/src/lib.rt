@@ -4,6 +4,7 @@ use board::spots;
 use copper::Favour;
 use copper::Leg;
 use lent::fill;
+use lent::strip_of;
 use lent::wiring_of;
 use refusal::Verdict;
 use wiring::Laid;
@@ -11,7 +12,7 @@ use wiring::Wiring;
 ghost use mathlib.Core.Path.{_≡_};
 ghost use mathlib.Core.Bool.{false};
 ghost use lib.ListN.{length};
-ghost use Rattle.lent.specs.Lent.{filledWith};
+ghost use Rattle.lent.specs.Lent.{stripOf, filledWith};
 ghost use Rattle.bare.specs.Bare.{wrongLengths, bareOf};
 
 // Whether x and y lists differ in length, or exceed 32.
@@ -65,9 +66,10 @@ pub fn wire_bare(xs: &[i32], ys: &[i32], room: usize, favour: Favour) -> Laid
 
 // Wires lists of x and y, and fills the list that was lent with the legs; or says why not, and leaves the list as it was.
 pub fn wire_lent(xs: &[i32], ys: &[i32], legs: &mut [Leg], favour: Favour) -> Wiring
-    ensures { λ r. ⌜ (r ≡ bareOf (now (xs .entry)) (now (ys .entry)) (length (now (legs .entry))) favour .wiring) × (now (legs .exit) ≡ filledWith (bareOf (now (xs .entry)) (now (ys .entry)) (length (now (legs .entry))) favour) (now (legs .entry))) ⌝ }
+    ensures { λ r. ⌜ (r ≡ bareOf (now (xs .entry)) (now (ys .entry)) (length (now (legs .entry))) favour .wiring) × (now (legs .exit) ≡ filledWith (stripOf (bareOf (now (xs .entry)) (now (ys .entry)) (length (now (legs .entry))) favour)) (now (legs .entry))) ⌝ }
 {
     let laid = wire_bare(xs, ys, legs.len(), favour);
-    fill(laid, legs);
+    let strip = strip_of(laid);
+    fill(strip, legs);
     wiring_of(laid)
 }

@@ -235,7 +235,7 @@ fn try_drops(desk: Desk) {
     tell(b" drops ", verdict);
 }
 
-// Writes and wires seat 0, asks for its volts lost, and undoes at seat 8, where 28 comes before 1.
+// Writes, wires and mills seat 0, asks for its volts lost, and undoes at seat 8, where 28 comes before 1.
 fn try_others(desk: Desk) {
     let mut buffer = [0u8; MOST_BYTES];
     let written = desk.write(0, &mut buffer);
@@ -246,6 +246,11 @@ fn try_others(desk: Desk) {
     let wiring = laid.wiring;
     let verdict = wiring.verdict;
     tell(b" wire ", verdict);
+    let milled = desk.mill(0, LEGS, Favour::Unsaid);
+    let cut = milled.cut;
+    let milling = cut.milling;
+    let outcome = milling.verdict;
+    tell(b" mill ", outcome);
     try_drops(desk);
     tell_answer(b" undo at 8 ", desk.undo(8));
 }

@@ -10,9 +10,10 @@ use borrow.Author.Tests.{eq-eqb, ne-eqb, eqb-true}
 use Rattle.basics.specs.Tests.{both, either, choose, anyOf}
 use Rattle.basics.proofs.Tests.{opposite, both-left, both-right}
 use Rattle.board.proofs.Signed.{off}
-use Rattle.copper.specs.Length.{Step, across, up, sameStep, among, different}
+use Rattle.basics.specs.Sums.{different}
+use Rattle.copper.specs.Length.{Step, across, up, sameStep, among}
 use Rattle.copper.proofs.Numbers.{Low, back, back-off, same-back}
-use Rattle.copper.proofs.Sums.{oneIf, sumBelow, sum-same, sum-none, sum-only}
+use Rattle.basics.proofs.Sums.{oneIf, sumBelow, sum-same, sum-none, sum-only}
 use Rattle.copper.proofs.Cover.{Stride, along, rise, over}
 use Rattle.copper.proofs.Cover.{over-same, over-add, over-none}
 
@@ -124,7 +125,7 @@ module _ (m : ℕ) (f : Stride → Bool) (τ : Stride) where
       go σ false q = omega arith
 
 -- The count of different steps is the sum over the grid.
-pub counted : {m : ℕ} {ts : List Step} → Each m ts → different ts ≡ over m (λ σ. oneIf (among (stepAt σ) ts))
+pub counted : {m : ℕ} {ts : List Step} → Each m ts → different sameStep ts ≡ over m (λ σ. oneIf (among (stepAt σ) ts))
 unfolding different anyOf choose
 counted {m} none = sym (over-none m)
 counted {m} (more {t = t} {ts = ts} p q h) = go (among t ts) refl (counted h)
@@ -140,7 +141,7 @@ counted {m} (more {t = t} {ts = ts} p q h) = go (among t ts) refl (counted h)
         over-same m (λ σ. oneIf (among (stepAt σ) (t ∷ ts))) (λ σ. oneIf (either (sameStride σ (strideOf t)) (f σ)))
         (λ σ. ap oneIf (ap (λ (z : Bool). either z (f σ)) (same-step σ t p)))
 
-    go : (b : Bool) → among t ts ≡ b → different ts ≡ over m (λ σ. oneIf (f σ))
-        → choose b (different ts) (suc (different ts)) ≡ over m (λ σ. oneIf (among (stepAt σ) (t ∷ ts)))
+    go : (b : Bool) → among t ts ≡ b → different sameStep ts ≡ over m (λ σ. oneIf (f σ))
+        → choose b (different sameStep ts) (suc (different sameStep ts)) ≡ over m (λ σ. oneIf (among (stepAt σ) (t ∷ ts)))
     go true e ih = ih ∙ sym (again m f (strideOf t) (there ∙ e)) ∙ sym one-more
     go false e ih = ap suc ih ∙ sym (anew m f (strideOf t) (there ∙ e) q) ∙ sym one-more

@@ -8,7 +8,7 @@ use native.Mathlib.Omega.{arith}
 use lib.Dec.{eqb, ltb, leb}
 use Rattle.basics.specs.Tests.{both, either}
 use Rattle.board.proofs.Flat.{Site}
-use Rattle.copper.proofs.Sums.{oneIf, sumBelow, sum-same, sum-add, sum-none}
+use Rattle.basics.proofs.Sums.{oneIf, sumBelow, sum-same, sum-add, sum-none}
 
 -- A unit step of the moved grid: from (x, y) to (x + 1, y), or from (x, y) to (x, y + 1).
 pub data Stride : Type 0 where

@@ -1,5 +1,4 @@
 -- The laws of length that other crates cite: the length of legs as a sum over the grid.
-pub mod Sums
 pub mod Numbers
 pub mod Cover
 pub mod Counted

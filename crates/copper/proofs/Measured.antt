@@ -20,7 +20,7 @@ use Rattle.copper.specs.declared.Leg.{Leg}
 use Rattle.copper.specs.Length.{Step, across, up, sameStep, stepsAcross, stepsUp, stepsOf, stepsOfAll, among, lengthOf}
 use Rattle.board.specs.Place.{smaller}
 use Rattle.copper.proofs.Numbers.{Low, low-held, next-off, same-back, same-off, smaller-off, smaller-low, reach-off}
-use Rattle.copper.proofs.Sums.{oneIf}
+use Rattle.basics.proofs.Sums.{oneIf}
 use Rattle.copper.proofs.Cover.{Stride, along, rise, covers, over}
 use Rattle.copper.proofs.Cover.{over-same, Within}
 use Rattle.copper.proofs.Counted.{strideOf, stepAt, Each, none, more, each-join, counted}

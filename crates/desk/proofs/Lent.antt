@@ -1,20 +1,24 @@
--- Wiring into a lent list of legs: the legs fit, and what the answer and the list are. From what `wire` answers.
-use mathlib.Core.Path.{_≡_, ap, _∙_}
+-- Wiring into a lent list of legs and milling into one of segments: the entries fit, and what the answer and the list are. From what `wire` and `mill` answer.
+use mathlib.Core.Path.{_≡_, refl}
 use mathlib.Core.List.{List}
 use Prim.Native.Nat.{ℕ}
 use lib.ListN.{length}
 use Rattle.refusal.specs.Refusals.{accepted}
 use Rattle.refusal.specs.Rows.{firstOf}
-use Rattle.drawing.specs.Pins.{spotsOf}
+use Rattle.drawing.specs.Pins.{feedOf}
 use Rattle.copper.specs.declared.Favour.{Favour}
 use Rattle.copper.specs.declared.Leg.{Leg}
 use Rattle.wiring.specs.Answer.{wiringOf}
-use Rattle.lent.specs.Lent.{filledWith}
-use Rattle.lent.proofs.Fitting.{Fits, fits-either, wiring-fits}
+use Rattle.lent.specs.Lent.{stripOf, filledWith}
+use Rattle.lent.proofs.Fitting.{StripFits, Fits, fits-either, wiring-fits}
+use Rattle.mill.specs.Answer.{stripOfCut}
+use Rattle.mill.proofs.Fitting.{cut-fits}
+use Rattle.rows.specs.Calls.{asking, milling}
+use Rattle.rows.proofs.Rows.{rows-apart}
 use Rattle.desk.specs.declared.Desk.{Desk}
-use Rattle.desk.specs.declared.Wired.{Wired}
 use Rattle.desk.specs.declared.WiredSeat.{WiredSeat}
-use Rattle.desk.specs.Desk.{seatOf, namingAt, wiredOf, wiredSeatOf, lentOf}
+use Rattle.desk.specs.declared.MilledSeat.{MilledSeat}
+use Rattle.desk.specs.Desk.{seatOf, lookAt, namingAt, wiredOf, wiredSeatOf, lentOf, milledOf, milledSeatOf, segmentsLentOf}
 use Rattle.desk.proofs.Sound.{feed-whole}
 
 -- The legs of a seat's wiring are at most 62, and at most the room.
@@ -22,15 +26,34 @@ pub seat-fits : (d : Desk) (s room : ℕ) (favour : Favour) → Fits room (wired
 unfolding wiredOf
 seat-fits d s room favour =
     let v = firstOf (namingAt d s) in
-    fits-either (accepted v) v room (wiringOf (spotsOf (seatOf d s .pins)) room favour) (λ e. wiring-fits _ room favour (feed-whole d s e))
+    fits-either (accepted v) v room (wiringOf (feedOf (seatOf d s .pins)) room favour) (λ e. wiring-fits _ room favour (feed-whole d s e))
 
-module _ (d : Desk) (s : ℕ) (lent : List Leg) (favour : Favour) {w : Wired} (e : w ≡ wiredOf d s (length lent) favour) where
+module _ (d : Desk) (s : ℕ) (lent : List Leg) (favour : Favour) where
   -- What is answered,
-  pub seat-answered : _≡_ {A = WiredSeat} (record { desk = w .desk; wiring = w .laid .wiring }) (wiredSeatOf d s lent favour)
+  pub seat-answered : _≡_ {A = WiredSeat} (record { desk = wiredOf d s (length lent) favour .desk; wiring = wiredOf d s (length lent) favour .laid .wiring })
+      (wiredSeatOf d s lent favour)
   unfolding wiredSeatOf wiredOf
-  seat-answered = λ i. record { desk = e i .desk; wiring = e i .laid .wiring }
+  seat-answered = refl
 
   -- and what the list holds then.
-  pub legs-lent : {legs : List Leg} → legs ≡ filledWith (w .laid) lent → legs ≡ lentOf d s lent favour
+  pub legs-lent : filledWith (stripOf (wiredOf d s (length lent) favour .laid)) lent ≡ lentOf d s lent favour
   unfolding lentOf
-  legs-lent g = g ∙ ap (λ (u : Wired). filledWith (u .laid) lent) e
+  legs-lent = refl
+
+-- The segments of a seat's copper are at most 62, and at most the room.
+pub milling-fits : (d : Desk) (s room : ℕ) (favour : Favour) → StripFits room (stripOfCut (milledOf d s room favour .cut))
+unfolding milledOf
+milling-fits d s room favour =
+    cut-fits (namingAt d s) (feedOf (seatOf d s .pins)) room favour (rows-apart (lookAt d s) (asking s (milling room favour))) (feed-whole d s)
+
+module _ (d : Desk) (s : ℕ) (lent : List Leg) (favour : Favour) where
+  -- What is answered,
+  pub milling-answered : _≡_ {A = MilledSeat} (record { desk = milledOf d s (length lent) favour .desk; milling = milledOf d s (length lent) favour .cut .milling })
+      (milledSeatOf d s lent favour)
+  unfolding milledSeatOf milledOf
+  milling-answered = refl
+
+  -- and what the list holds then.
+  pub segments-lent : filledWith (stripOfCut (milledOf d s (length lent) favour .cut)) lent ≡ segmentsLentOf d s lent favour
+  unfolding segmentsLentOf
+  segments-lent = refl

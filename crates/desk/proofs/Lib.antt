@@ -4,3 +4,4 @@ pub mod Found
 mod Steps
 mod Writing
 mod Lent
+mod Lending

@@ -1,7 +1,7 @@
--- What writing a map, wiring a seat and telling its volts lost hand back: the answer, the number of bytes and the buffer, the legs, the drops. From what is found; assumes nothing.
+-- What writing a map, wiring a seat, milling its copper and telling its volts lost hand back: the answer, the number of bytes and the buffer, the legs, the segments, the drops. From what is found; assumes nothing.
 use mathlib.Core.Path.{_≡_, refl, ap, _∙_}
 use mathlib.Core.Bool.{Bool, true, false, not, false≢true}
-use mathlib.Core.List.{List, _++_}
+use mathlib.Core.List.{List, [], _++_}
 use Prim.Native.Nat.{ℕ}
 use borrow.Author.Tests.{leb-false, not-false}
 use lib.Dec.{leb}
@@ -9,23 +9,28 @@ use lib.ListN.{length}
 use Rattle.basics.specs.Tests.{choose}
 use Rattle.refusal.specs.Refusals.{accepted}
 use Rattle.refusal.specs.Rows.{Row, firstOf}
+use Rattle.refusal.specs.declared.Verdict.{Verdict}
 use Rattle.drawing.specs.Pins.{lawful, feedOf}
 use Rattle.pinmap.specs.declared.Writing.{Writing}
-use Rattle.pinmap.specs.Map.{mapOf, roomRows, writeBy, bufferBy}
+use Rattle.pinmap.specs.Map.{mapOf, roomRows, written, writeBy, bufferBy}
 use Rattle.drops.specs.declared.Loaded.{Loaded}
 use Rattle.drops.specs.declared.Sheet.{Sheet}
 use Rattle.drops.specs.declared.Lost.{Lost}
-use Rattle.drops.specs.Drops.{dropRows, dropsOf, lostBy}
+use Rattle.drops.specs.Drops.{noDrops, dropRows, dropsOf, lostBy}
 use Rattle.wiring.specs.declared.Laid.{Laid}
+use Rattle.mill.specs.declared.Cut.{Cut}
+use Rattle.mill.specs.Answer.{copperOf, millRows, cutWith, cutBy}
 use Rattle.journal.specs.Journal.{mostSeats}
+use Rattle.seats.specs.declared.Seat.{Seat}
 use Rattle.rows.specs.declared.Found.{Found}
-use Rattle.rows.specs.Calls.{asking, writing, dropping}
 use Rattle.rows.specs.Found.{namingFound, wiredBy}
+use Rattle.rows.proofs.Rows.{decided}
 use Rattle.desk.specs.declared.Desk.{Desk}
 use Rattle.desk.specs.declared.Written.{Written}
 use Rattle.desk.specs.declared.Wired.{Wired}
+use Rattle.desk.specs.declared.Milled.{Milled}
 use Rattle.desk.specs.declared.Dropped.{Dropped}
-use Rattle.desk.specs.Desk.{closedSeat, seatOf, namingAt, rowsAt, mapAt, sound, writtenOf, bufferOf, wiredOf, droppedOf}
+use Rattle.desk.specs.Desk.{closedSeat, seatOf, namingAt, sound, writtenOf, bufferOf, wiredOf, milledOf, droppedOf}
 use Rattle.desk.proofs.Sound.{pins-lawful}
 use Rattle.desk.proofs.Found.{foundAt}
 use Rattle.copper.specs.declared.Favour.{Favour}
@@ -50,28 +55,23 @@ bufferFound buffer f = bufferBy (rowsFound f buffer) (mapFound f) buffer
 abbrev lostFound : List Loaded → Sheet → Found → Lost
 lostFound loads sheet f = lostBy (namingFound f ++ dropRows (feedOf (f .state .pins)) loads sheet) (dropsOf (feedOf (f .state .pins)) loads sheet)
 
--- and how it is wired.
+-- how it is wired,
 abbrev wireFound : ℕ → Favour → Found → Laid
 wireFound room favour f = wiredBy (namingFound f) (feedOf (f .state .pins)) room favour
 
--- These look at the seat only where neither 28 nor 1 applies.
-module _ (d : Desk) (s : ℕ) where
-  -- What is found writes what the seat does,
-  written-by : (buffer : List ℕ) (b t : Bool) → not (sound d) ≡ b → leb mostSeats s ≡ t
-      → (writeFound buffer (foundAt d s) ≡ writeBy (rowsAt d (asking s (writing (length buffer)))) (mapAt d s))
-      × (bufferFound buffer (foundAt d s) ≡ bufferBy (rowsAt d (asking s (writing (length buffer)))) (mapAt d s) buffer)
-  unfolding sound accepted firstOf choose
-  written-by buffer true t k e = (rw k, rw k)
-  written-by buffer false true k e = (rw (k, e), rw (k, e))
-  written-by buffer false false k e = (rw (k, e), rw (k, e))
+-- and the segments.
+abbrev cutFound : ℕ → Favour → Found → Cut
+cutFound room favour f = cutBy (namingFound f ++ millRows (feedOf (f .state .pins)) room favour) (copperOf (feedOf (f .state .pins)) favour)
 
-  -- loses what it does,
-  lost-by : (loads : List Loaded) (sheet : Sheet) (b t : Bool) → not (sound d) ≡ b → leb mostSeats s ≡ t
-      → lostFound loads sheet (foundAt d s) ≡ lostBy (rowsAt d (asking s (dropping loads sheet))) (dropsOf (feedOf (seatOf d s .pins)) loads sheet)
+-- A call looks at the seat only where neither 28 nor 1 applies.
+module _ (d : Desk) (s : ℕ) where
+  -- What is decided of what is found is decided of the seat,
+  decided-by : {A B : Type 0} (answer : Verdict → A → B) (nothing : A) (asked : Seat → A) (more : Seat → List Row) (b t : Bool) → not (sound d) ≡ b → leb mostSeats s ≡ t
+      → decided answer (asked (foundAt d s .state)) nothing (namingFound (foundAt d s) ++ more (foundAt d s .state)) ≡ decided answer (asked (seatOf d s)) nothing (namingAt d s ++ more (seatOf d s))
   unfolding sound accepted firstOf choose
-  lost-by loads sheet true t k e = rw k
-  lost-by loads sheet false true k e = rw (k, e)
-  lost-by loads sheet false false k e = rw (k, e)
+  decided-by answer nothing asked more true t k e = rw k
+  decided-by answer nothing asked more false true k e = rw (k, e)
+  decided-by answer nothing asked more false false k e = rw (k, e)
 
   -- and is wired as it is.
   wired-by : (room : ℕ) (favour : Favour) (b t : Bool) → not (sound d) ≡ b → leb mostSeats s ≡ t
@@ -89,11 +89,20 @@ module _ (d : Desk) (s : ℕ) {f : Found} (g : f ≡ foundAt d s) where
       let q = e ∙ ap (wireFound room favour) g ∙ wired-by d s room favour _ _ refl refl in
       λ i. record { desk = d; laid = q i }
 
+  -- Milling: the answer with its segments.
+  pub mill-cut : (room : ℕ) (favour : Favour) {w : Cut} → w ≡ cutFound room favour f → _≡_ {A = Milled} (record { desk = d; cut = w }) (milledOf d s room favour)
+  unfolding milledOf
+  mill-cut room favour e =
+      let q = e ∙ ap (cutFound room favour) g
+      ∙ decided-by d s cutWith [] (λ t. copperOf (feedOf (t .pins)) favour) (λ t. millRows (feedOf (t .pins)) room favour) _ _ refl refl in
+      λ i. record { desk = d; cut = q i }
+
   -- Volts lost: the answer with its drops.
   pub drops-told : (loads : List Loaded) (sheet : Sheet) {w : Lost} → w ≡ lostFound loads sheet f → _≡_ {A = Dropped} (record { desk = d; lost = w }) (droppedOf d s loads sheet)
   unfolding droppedOf
   drops-told loads sheet e =
-      let q = e ∙ ap (lostFound loads sheet) g ∙ lost-by d s loads sheet _ _ refl refl in
+      let q = e ∙ ap (lostFound loads sheet) g
+      ∙ decided-by d s (λ v l. record { verdict = v; drops = l }) noDrops (λ t. dropsOf (feedOf (t .pins)) loads sheet) (λ t. dropRows (feedOf (t .pins)) loads sheet) _ _ refl refl in
       λ i. record { desk = d; lost = q i }
 
   -- Writing: the answer and the number of bytes,
@@ -101,13 +110,16 @@ module _ (d : Desk) (s : ℕ) {f : Found} (g : f ≡ foundAt d s) where
       → _≡_ {A = Written} (record { desk = d; verdict = w .verdict; bytes = w .bytes }) (writtenOf d s b)
   unfolding writtenOf
   write-done b e =
-      let q = e ∙ ap (writeFound b) g ∙ written-by d s b _ _ refl refl .0 in
+      let q = e ∙ ap (writeFound b) g
+      ∙ decided-by d s (λ v n. record { verdict = v; bytes = n }) 0 (λ t. length (mapOf (t .job) (t .pins))) (λ t. roomRows (t .job) (t .pins) (length b)) _ _ refl refl in
       λ i. record { desk = d; verdict = q i .verdict; bytes = q i .bytes }
 
   -- and the buffer.
   pub write-left : (b : List ℕ) {x : List ℕ} → x ≡ bufferFound b f → x ≡ bufferOf d s b
   unfolding bufferOf
-  write-left b e = e ∙ ap (bufferFound b) g ∙ written-by d s b _ _ refl refl .1
+  write-left b e =
+      e ∙ ap (bufferFound b) g
+      ∙ decided-by d s (λ v l. l) b (λ t. written (mapOf (t .job) (t .pins)) b) (λ t. roomRows (t .job) (t .pins) (length b)) _ _ refl refl
 
 -- Above 7 a closed seat is found, else that of the desk, which keeps the rules where it is open.
 lawful-by : (d : Desk) (s : ℕ) (t : Bool) → leb mostSeats s ≡ t → not (sound d) ≡ false → choose t closedSeat (seatOf d s) .opened ≡ true

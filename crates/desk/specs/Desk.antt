@@ -17,12 +17,13 @@ use Rattle.copper.specs.declared.Leg.{Leg}
 use Rattle.drops.specs.declared.Loaded.{Loaded}
 use Rattle.drops.specs.declared.Sheet.{Sheet}
 use Rattle.drops.specs.Drops.{dropsOf, lostBy}
-use Rattle.lent.specs.Lent.{filledWith}
+use Rattle.lent.specs.Lent.{stripOf, filledWith}
+use Rattle.mill.specs.Answer.{copperOf, cutBy, stripOfCut}
 use Rattle.journal.specs.declared.Record.{Record}
 use Rattle.journal.specs.Journal.{mostSeats, mostRecords, blank, own, kept, added, compacted}
 use Rattle.seats.specs.declared.Seat.{Seat}
 use Rattle.seats.specs.Seats.{editedSeat, undoneSeat, redoneSeat, takenBackCount}
-use Rattle.rows.specs.Calls.{Call, seatIn, opening, closing, making, undoing, redoing, asking, writing, dropping}
+use Rattle.rows.specs.Calls.{Call, seatIn, opening, closing, making, undoing, redoing, asking, writing, milling, dropping}
 use Rattle.rows.specs.Refusals.{Look, namingRows, rowsOf}
 use Rattle.rows.specs.Found.{wiredBy}
 use Rattle.desk.specs.declared.Desk.{Desk}
@@ -30,6 +31,8 @@ use Rattle.desk.specs.declared.Answered.{Answered}
 use Rattle.desk.specs.declared.Written.{Written}
 use Rattle.desk.specs.declared.Wired.{Wired}
 use Rattle.desk.specs.declared.WiredSeat.{WiredSeat}
+use Rattle.desk.specs.declared.Milled.{Milled}
+use Rattle.desk.specs.declared.MilledSeat.{MilledSeat}
 use Rattle.desk.specs.declared.Dropped.{Dropped}
 pub use Rattle.seats.specs.Seats.{closedSeat, noSeat, openSeat, withPins, jobsIn, jobsApart}
 pub use Rattle.seats.specs.Sound.{standingAmong, takenBackAmong}
@@ -155,7 +158,20 @@ wiredSeatOf d s lent favour = record { desk = d; wiring = wiredOf d s (length le
 
 -- The lent list of legs after wiring: filled with the legs, entries after these as they were; where it is refused, there are none.
 unfoldable pub lentOf : Desk → ℕ → List Leg → Favour → List Leg
-lentOf d s lent favour = filledWith (wiredOf d s (length lent) favour .laid) lent
+lentOf d s lent favour = filledWith (stripOf (wiredOf d s (length lent) favour .laid)) lent
+
+-- The copper of a seat as segments, with room for so many: the desk as it is, and the answer with its segments.
+unfoldable pub milledOf : Desk → ℕ → ℕ → Favour → Milled
+milledOf d s room favour =
+    record { desk = d; cut = cutBy (rowsAt d (asking s (milling room favour))) (copperOf (feedOf (seatOf d s .pins)) favour) }
+
+-- The same into a lent list of segments: its length is the room. The desk as it is, and the answer.
+unfoldable pub milledSeatOf : Desk → ℕ → List Leg → Favour → MilledSeat
+milledSeatOf d s lent favour = record { desk = d; milling = milledOf d s (length lent) favour .cut .milling }
+
+-- The lent list of segments afterwards: filled with the segments, entries after these as they were; where it is refused, there are none.
+unfoldable pub segmentsLentOf : Desk → ℕ → List Leg → Favour → List Leg
+segmentsLentOf d s lent favour = filledWith (stripOfCut (milledOf d s (length lent) favour .cut)) lent
 
 -- The volts lost to the pins of a seat, for these loads and this board sheet: the desk as it is, and the answer.
 unfoldable pub droppedOf : Desk → ℕ → List Loaded → Sheet → Dropped

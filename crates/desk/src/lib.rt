@@ -12,6 +12,8 @@ use journal::Compacted;
 use journal::RECORDS;
 use journal::Record;
 use journal::SEATS;
+use mill::Cut;
+use mill::Milling;
 use refusal::Verdict;
 use rows::Found;
 use seats::Seat;
@@ -29,7 +31,7 @@ ghost use Rattle.seats.specs.Seats.{takenBackCount};
 ghost use Rattle.rows.specs.Calls.{opening, closing, making, undoing, redoing};
 ghost use Rattle.rows.specs.Refusals.{makingRows, fullRow};
 ghost use Rattle.rows.specs.Found.{foundIn, namingFound};
-ghost use Rattle.desk.specs.Desk.{emptyDesk, inUse, sound, refused, step, writtenOf, bufferOf, wiredOf, wiredSeatOf, lentOf, droppedOf};
+ghost use Rattle.desk.specs.Desk.{emptyDesk, inUse, sound, refused, step, writtenOf, bufferOf, wiredOf, wiredSeatOf, lentOf, milledOf, milledSeatOf, segmentsLentOf, droppedOf};
 
 // A desk: its seats, and the journal that they share, of which the first `used` records are in use.
 pub struct Desk {
@@ -61,6 +63,18 @@ pub struct Wired {
 pub struct WiredSeat {
     pub desk: Desk,
     pub wiring: Wiring,
+}
+
+// What milling hands back: the desk as it is, and the answer with its segments.
+pub struct Milled {
+    pub desk: Desk,
+    pub cut: Cut,
+}
+
+// What milling into a lent list of segments hands back: the desk as it is, and the answer.
+pub struct MilledSeat {
+    pub desk: Desk,
+    pub milling: Milling,
 }
 
 // What the call for volts lost hands back: the desk as it is, and the answer.
@@ -286,6 +300,15 @@ impl Desk {
         Wired { desk: self, laid }
     }
 
+    // The copper of the drawing at `seat` as segments, with room for so many, as is said of the shape to favour; or says why not. The desk stays as it is.
+    pub fn mill(self, seat: usize, room: usize, favour: Favour) -> Milled
+        ensures { λ r. ⌜ r ≡ milledOf self seat room favour ⌝ }
+    {
+        let found = self.find(seat);
+        let cut = rows::feed_milled(found, room, favour);
+        Milled { desk: self, cut }
+    }
+
     // The volts lost to each pin of the drawing at `seat`, for these loads, one for each pin number, and this board sheet; or says why not. The desk stays as it is.
     pub fn drops(self, seat: usize, loads: [Loaded; PINS], sheet: Sheet) -> Dropped
         ensures { λ r. ⌜ r ≡ droppedOf self seat loads sheet ⌝ }
@@ -302,10 +325,26 @@ impl Desk {
     {
         let wired = self.wire(seat, legs.len(), favour);
         let laid = wired.laid;
-        lent::fill(laid, legs);
+        let strip = lent::strip_of(laid);
+        lent::fill(strip, legs);
         WiredSeat {
             desk: wired.desk,
             wiring: laid.wiring,
+        }
+    }
+
+    // Fills a lent list with the copper of the drawing at `seat` as segments, or says why not. Entries after the segments keep what they held.
+    pub fn mill_lent(self, seat: usize, segments: &mut [Leg], favour: Favour) -> MilledSeat
+        ensures { λ r. ⌜ r ≡ milledSeatOf self seat (now (segments .entry)) favour ⌝ }
+        ensures { λ _. ⌜ now (segments .exit) ≡ segmentsLentOf self seat (now (segments .entry)) favour ⌝ }
+    {
+        let milled = self.mill(seat, segments.len(), favour);
+        let cut = milled.cut;
+        let strip = mill::strip_of(cut);
+        lent::fill(strip, segments);
+        MilledSeat {
+            desk: milled.desk,
+            milling: cut.milling,
         }
     }
 }

@@ -13,7 +13,7 @@ use borrow.Author.Tests.{leb-true}
 use Rattle.basics.specs.Tests.{both, choose, eachOf}
 use Rattle.basics.proofs.Anyone.{each-first, each-rest}
 use Rattle.tree.specs.declared.Run.{Run}
-use Rattle.tree.specs.Spanning.{Among, first, later}
+use Rattle.basics.specs.Lists.{Among, first, later}
 use Rattle.tree.specs.Trees.{mostRuns}
 use Rattle.drops.specs.Drops.{nearsOf, plusLeadingOn, currentsOf}
 use Rattle.finite.specs.Bounds.{AtMost}

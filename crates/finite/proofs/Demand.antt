@@ -14,7 +14,7 @@ use Rattle.board.specs.Spots.{mostPins, allWithin}
 use Rattle.tree.specs.declared.Run.{Run}
 use Rattle.tree.specs.Growth.{pinsOf, runsOf}
 use Rattle.tree.specs.Reached.{runAt}
-use Rattle.tree.specs.Spanning.{Among, first, later}
+use Rattle.basics.specs.Lists.{Among, first, later}
 use Rattle.tree.proofs.Membership.{without-in, pins-once, pins-lowest}
 use Rattle.tree.proofs.Listing.{Listed, done, taking, runs-listed}
 use Rattle.spanning.proofs.Spanning.{far-among, entry-in, none-among, no-runs}

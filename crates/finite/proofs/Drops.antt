@@ -23,7 +23,7 @@ use Rattle.board.proofs.Flat.{same-or-not}
 use Rattle.tree.specs.declared.Run.{Run}
 use Rattle.tree.specs.Growth.{pinsOf, runsOf}
 use Rattle.tree.specs.Offers.{LowEnds}
-use Rattle.tree.specs.Spanning.{Among, first, later}
+use Rattle.basics.specs.Lists.{Among, first, later}
 use Rattle.tree.specs.Trees.{mostRuns, treeRows}
 use Rattle.tree.proofs.Answer.{runs-few}
 use Rattle.tree.proofs.Membership.{pin-in}

@@ -9,7 +9,7 @@ use lib.Ieee.{binary32}
 use Rattle.basics.specs.Tests.{eachOf}
 use Rattle.basics.proofs.Tests.{both-left, both-right}
 use Rattle.basics.proofs.Anyone.{each-first, each-rest}
-use Rattle.tree.specs.Spanning.{Among, first, later}
+use Rattle.basics.specs.Lists.{Among, first, later}
 use Rattle.drops.specs.declared.Sheet.{Sheet}
 use Rattle.drops.specs.declared.Load.{Load}
 use Rattle.drops.specs.declared.Load.the-variants.{Amps, Watts, Spare}

@@ -12,7 +12,7 @@ use Rattle.board.specs.declared.Spot.{Spot}
 use Rattle.board.specs.Spots.{mostPins, allWithin}
 use Rattle.tree.specs.declared.Run.{Run}
 use Rattle.tree.specs.Growth.{pinsOf, without, runsOf}
-use Rattle.tree.specs.Spanning.{Among, first, later}
+use Rattle.basics.specs.Lists.{Among, first, later}
 use Rattle.tree.proofs.Membership.{Distinct, also, without-in, pins-once}
 use Rattle.tree.proofs.Earliest.{Earliest}
 use Rattle.tree.proofs.Listing.{Listed, done, taking, runs-listed, pins-low}

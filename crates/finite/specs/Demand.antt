@@ -9,7 +9,7 @@ use Rattle.board.specs.Spots.{mostPins}
 use Rattle.tree.specs.declared.Run.{Run}
 use Rattle.tree.specs.Growth.{pinsOf, runsOf}
 use Rattle.tree.specs.Reached.{runAt}
-use Rattle.tree.specs.Spanning.{Among}
+use Rattle.basics.specs.Lists.{Among}
 use Rattle.drops.specs.declared.Sheet.{Sheet}
 use Rattle.drops.specs.declared.Loaded.{Loaded}
 use Rattle.drops.specs.Loads.{nought, loadAt, ampsOf}

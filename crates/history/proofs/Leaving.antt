@@ -14,7 +14,7 @@ use Rattle.copper.specs.declared.Leg.{Leg}
 use Rattle.wiring.specs.declared.Laid.{Laid}
 use Rattle.wiring.specs.Answer.{wiringOf}
 use Rattle.wiring.proofs.Demand.{answer-comes}
-use Rattle.lent.specs.Lent.{filledWith}
+use Rattle.lent.specs.Lent.{stripOf, filledWith}
 use Rattle.desk.specs.declared.Desk.{Desk}
 use Rattle.rows.specs.Calls.{Call, closing, asking, writing}
 use Rattle.rows.proofs.Passed.{OpenSeat, Passes, passes}
@@ -76,8 +76,8 @@ module _ (calls : List Call) (s : ℕ) where
 
   -- into a lent list too: the answer, and the legs that the list is filled with.
   pub lent-after-calls : (lent : List Leg) (favour : Favour) → accepted (wiredSeatOf desk s lent favour .wiring .verdict) ≡ true
-      → (wiredSeatOf desk s lent favour .wiring ≡ wiringOf (feedOf pins) (length lent) favour .wiring) × (lentOf desk s lent favour ≡ filledWith (wiringOf (feedOf pins) (length lent) favour) lent)
+      → (wiredSeatOf desk s lent favour .wiring ≡ wiringOf (feedOf pins) (length lent) favour .wiring) × (lentOf desk s lent favour ≡ filledWith (stripOf (wiringOf (feedOf pins) (length lent) favour)) lent)
   unfolding wiredSeatOf lentOf
   lent-after-calls lent favour z =
       let e = wired-after-calls (length lent) favour z in
-      (ap (λ (l : Laid). l .wiring) e, ap (λ (l : Laid). filledWith l lent) e)
+      (ap (λ (l : Laid). l .wiring) e, ap (λ (l : Laid). filledWith (stripOf l) lent) e)

@@ -16,3 +16,4 @@ pub mod Leaving
 pub mod Best
 pub mod Standing
 pub mod Lost
+pub mod Milled

@@ -30,7 +30,7 @@ use Rattle.wiring.specs.Answer.{wiringOf, feedRows}
 use Rattle.wiring.proofs.Refusing.{laid-behind, wiring-verdict}
 use Rattle.wiring.specs.Demand.{Alone, Empty}
 use Rattle.lent.proofs.Untouched.{turned-by, wiring-turned, alone-empty, untouched}
-use Rattle.rows.specs.Calls.{Call, opening, closing, making, undoing, redoing, asking, writing, wiring, dropping}
+use Rattle.rows.specs.Calls.{Call, opening, closing, making, undoing, redoing, asking, writing, wiring, milling, dropping}
 use Rattle.rows.specs.Refusals.{takingRows}
 use Rattle.rows.proofs.Rows.{naming-apart}
 use Rattle.desk.specs.declared.Desk.{Desk}
@@ -69,6 +69,10 @@ runs-never-18 d s r v x e =
 wiring-never-18 : (d : Desk) (s room : ℕ) (favour : Favour) → step d (asking s (wiring room favour)) .verdict ≡ BoxesMeet → ⊥
 wiring-never-18 d s room favour e = runs-never-18 d s _ _ (each-refusal-exactly d (asking s (wiring room favour))) e
 
+-- with its copper as segments,
+milling-never-18 : (d : Desk) (s room : ℕ) (favour : Favour) → step d (asking s (milling room favour)) .verdict ≡ BoxesMeet → ⊥
+milling-never-18 d s room favour e = runs-never-18 d s _ _ (each-refusal-exactly d (asking s (milling room favour))) e
+
 -- and with the volts lost in it.
 dropping-never-18 : (d : Desk) (s : ℕ) (loads : List Loaded) (sheet : Sheet) → step d (asking s (dropping loads sheet)) .verdict ≡ BoxesMeet → ⊥
 dropping-never-18 d s loads sheet e = runs-never-18 d s _ _ (each-refusal-exactly d (asking s (dropping loads sheet))) e
@@ -98,6 +102,7 @@ never-18 d (redoing s) e = other-rows (rowsAt d (redoing s)) (differs-by BoxesMe
 never-18 d (asking s (writing room)) e =
     other-rows (rowsAt d (asking s (writing room))) (differs-by BoxesMeet (rowsAt d (asking s (writing room))) refl) e
 never-18 d (asking s (wiring room favour)) e = wiring-never-18 d s room favour e
+never-18 d (asking s (milling room favour)) e = milling-never-18 d s room favour e
 never-18 d (asking s (dropping loads sheet)) e = dropping-never-18 d s loads sheet e
 
 -- nor does the answer of wiring a seat carry it.

@@ -10,7 +10,7 @@ use lib.Dec.{eqb}
 use borrow.Author.Tests.{eq-eqb, ne-eqb, eqb-true, eqb-false}
 use Rattle.basics.specs.Tests.{choose}
 use Rattle.copper.specs.Least.{lesserOf, best}
-use Rattle.copper.proofs.Sums.{sumBelow, sum-same, sum-but-one}
+use Rattle.basics.proofs.Sums.{sumBelow, sum-same, sum-but-one}
 
 -- What a run costs in the shape that was chosen, false for lower and true for upper.
 abbrev pub taken : Bool → ℕ → ℕ → ℕ

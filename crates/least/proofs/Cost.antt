@@ -12,7 +12,7 @@ use Rattle.copper.specs.declared.Arms.{Arms}
 use Rattle.copper.specs.declared.Tally.{Tally}
 use Rattle.copper.specs.Arms.{longest, spread, owed}
 use Rattle.copper.specs.Least.{best}
-use Rattle.copper.proofs.Sums.{sumBelow, sum-same, sum-less, sum-times}
+use Rattle.basics.proofs.Sums.{sumBelow, sum-same, sum-less, sum-times}
 use Rattle.least.proofs.Choices.{entered, shown, total}
 use Rattle.copper.proofs.Cover.{straight, gridLength}
 use Rattle.least.proofs.Sharing.{near-tip, far-tip, far-straight, straight-true, shared-turned}

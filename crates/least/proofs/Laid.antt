@@ -13,7 +13,7 @@ use Rattle.spanning.proofs.FourPins.{InBox}
 use Rattle.board.proofs.Flat.{Site, span}
 use Rattle.copper.specs.declared.Arms.{Arms}
 use Rattle.copper.specs.Arms.{noArms, longest, spread}
-use Rattle.copper.proofs.Sums.{oneIf, sumBelow, sum-same, sum-none, sum-only, sum-pair}
+use Rattle.basics.proofs.Sums.{oneIf, sumBelow, sum-same, sum-none, sum-only, sum-pair}
 use Rattle.least.proofs.Choices.{entered, shown}
 use Rattle.copper.proofs.Cover.{Stride, covers, straight, some, over, coversOf, covered, gridLength, over-same, over-add, over-none, over-sum, Within}
 use Rattle.least.proofs.Sharing.{

@@ -11,7 +11,7 @@ use Rattle.basics.proofs.Tests.{opposite, both-left, both-right, both-of, eithe
 use Rattle.board.proofs.Flat.{order, Site, gap, span}
 use Rattle.copper.specs.declared.Arms.{Arms}
 use Rattle.copper.specs.Arms.{noArms, longest, spread}
-use Rattle.copper.proofs.Sums.{oneIf, sumBelow, sum-same, sum-add, sum-none, sum-only}
+use Rattle.basics.proofs.Sums.{oneIf, sumBelow, sum-same, sum-add, sum-none, sum-only}
 use Rattle.copper.proofs.Cover.{Stride, along, rise, covers, over, over-same, over-add, over-none, over-sum, Within}
 use Rattle.least.proofs.Sharing.{On, in-row, in-column, on-of, on-covers, gap-same}
 

@@ -12,7 +12,7 @@ use Rattle.basics.specs.Tests.{choose}
 use Rattle.board.specs.declared.Place.{Place}
 use Rattle.tree.specs.Trees.{mostRuns}
 use Rattle.copper.specs.Least.{best, isBent, firstTally}
-use Rattle.copper.proofs.Sums.{sumBelow, sum-same, sum-none}
+use Rattle.basics.proofs.Sums.{sumBelow, sum-same, sum-none}
 use Rattle.least.proofs.Choices.{shown, total, best-least, best-reached}
 use Rattle.least.proofs.Tallies.{leastOf}
 use Rattle.least.specs.Asking.{base, nearPin, markOf, doubledIf, isBentInto, pinCost, pinBest, weighedFrom, weighedBelow, sizeFrom, Grown, Askable}

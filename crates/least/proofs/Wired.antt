@@ -22,7 +22,7 @@ use Rattle.copper.specs.Shapes.{lowerCorner, upperCorner, shapeOf, legsOf}
 use Rattle.copper.specs.Length.{lengthOf}
 use Rattle.copper.specs.Arms.{spread, owed}
 use Rattle.copper.specs.Least.{isBent}
-use Rattle.copper.proofs.Sums.{oneIf, sumBelow}
+use Rattle.basics.proofs.Sums.{oneIf, sumBelow}
 use Rattle.least.proofs.Choices.{May, best-least, best-reached}
 use Rattle.copper.proofs.Cover.{Stride, covers, straight, bend, runCovers, some, coversOf, covered, gridLength}
 use Rattle.copper.proofs.Cover.{over-same, Within}

@@ -1,5 +1,6 @@
--- What the proofs of lent legs share.
+-- What the proofs of lent lists share.
 pub mod Filling
 pub mod Fitting
 pub mod Untouched
 pub mod Demand
+pub mod Calling

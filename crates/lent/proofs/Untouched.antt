@@ -1,5 +1,5 @@
 -- A refused wiring has no legs, and leaves the list that was lent as it was. Assumes nothing.
-use mathlib.Core.Path.{_≡_, refl, ap, _∙_}
+use mathlib.Core.Path.{_≡_, refl}
 use mathlib.Core.Bool.{Bool, true, false, true≢false}
 use mathlib.Core.List.{List}
 use Prim.Native.Nat.{ℕ}
@@ -14,10 +14,11 @@ use Rattle.copper.specs.Shapes.{favoursUpper}
 use Rattle.copper.specs.declared.Shape.{Shape}
 use Rattle.copper.specs.declared.Leg.{Leg}
 use Rattle.wiring.specs.declared.Laid.{Laid}
+use Rattle.wiring.specs.declared.Strip.{Strip}
 use Rattle.wiring.specs.Choices.{bestChoice}
 use Rattle.wiring.specs.Demand.{Alone, Empty}
 use Rattle.wiring.specs.Answer.{runEntries, answerWith, turnedAway, wiringRows, wiringWith, wiringFavouring, wiringOf}
-use Rattle.lent.specs.Lent.{filledWith}
+use Rattle.lent.specs.Lent.{stripOf, filledWith}
 
 -- A wiring that was turned away has length, runs, legs and choices zero, and every run entry 0, 0, straight.
 away-empty : (v : Verdict) → Empty (turnedAway v .wiring)
@@ -47,11 +48,11 @@ wiring-turned feed room favour =
     let v = firstOf (wiringRows feed shapes room) in
     turned-by (accepted v) v (answerWith feed shapes) (answer-given feed shapes)
 
--- Such an answer fills nothing.
-pub turned-fills : (v : Verdict) (lent : List Leg) → filledWith (turnedAway v) lent ≡ lent
-unfolding filledWith turnedAway
-turned-fills v lent = refl
+-- A strip without entries fills nothing.
+pub none-filled : (strip : Strip) (lent : List Leg) → strip .count ≡ 0 → filledWith strip lent ≡ lent
+unfolding filledWith
+none-filled strip lent e = rw e refl
 
 -- A refused answer leaves the list that was lent as it was.
-pub untouched : (l : Laid) (lent : List Leg) → Alone l → accepted (l .wiring .verdict) ≡ false → filledWith l lent ≡ lent
-untouched l lent h e = ap (λ (m : Laid). filledWith m lent) (h e) ∙ turned-fills (l .wiring .verdict) lent
+pub untouched : (l : Laid) (lent : List Leg) → Alone l → accepted (l .wiring .verdict) ≡ false → filledWith (stripOf l) lent ≡ lent
+untouched l lent h e = none-filled (stripOf l) lent (alone-empty l h e .legs-zero)

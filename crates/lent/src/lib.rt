@@ -1,27 +1,27 @@
-// The list of legs that a host lends: filled with the legs of an answer, later entries unchanged.
+// The list that a host lends: filled with the legs of an answer or its segments, later entries unchanged.
 use copper::Leg;
 use wiring::Laid;
+use wiring::Strip;
 use wiring::Wiring;
 ghost use mathlib.Core.Path.{_≡_};
 ghost use Prim.Native.Nat.{_≤_, _<_};
 ghost use lib.ListN.{length, getD};
 ghost use Rattle.wiring.specs.Answer.{mostLegs, noLeg};
-ghost use Rattle.lent.specs.Lent.{filledWith};
+ghost use Rattle.lent.specs.Lent.{stripOf, filledWith};
 
-// How many legs an answer has.
-fn count_of(laid: Laid) -> usize
-    ensures { λ r. ⌜ r ≡ laid .wiring .legs ⌝ }
+// How many entries a strip has.
+fn count_of(strip: Strip) -> usize
+    ensures { λ r. ⌜ r ≡ strip .count ⌝ }
 {
-    let wiring = laid.wiring;
-    wiring.legs
+    strip.count
 }
 
-// One leg of an answer.
-fn leg_at(laid: Laid, at: usize) -> Leg
+// One entry of a strip.
+fn leg_at(strip: Strip, at: usize) -> Leg
     requires { ⌜ at < mostLegs ⌝ }
-    ensures { λ r. ⌜ r ≡ getD (laid .list) at noLeg ⌝ }
+    ensures { λ r. ⌜ r ≡ getD (strip .list) at noLeg ⌝ }
 {
-    laid.list[at]
+    strip.list[at]
 }
 
 // The wiring of an answer, without its legs.
@@ -31,15 +31,27 @@ pub fn wiring_of(laid: Laid) -> Wiring
     laid.wiring
 }
 
-// Fills the list that was lent with the legs of an answer; entries after these keep what they held.
-pub fn fill(laid: Laid, legs: &mut [Leg])
-    requires { ⌜ (laid .wiring .legs ≤ mostLegs) × (laid .wiring .legs ≤ length (now legs)) ⌝ }
-    ensures { λ _. ⌜ now (legs .exit) ≡ filledWith laid (now (legs .entry)) ⌝ }
+// The legs of an answer, with their number.
+pub fn strip_of(laid: Laid) -> Strip
+    ensures { λ r. ⌜ r ≡ stripOf laid ⌝ }
 {
-    let count = count_of(laid);
+    let wiring = laid.wiring;
+    let list = laid.list;
+    Strip {
+        count: wiring.legs,
+        list,
+    }
+}
+
+// Fills the list that was lent with the entries of a strip; entries after these keep what they held.
+pub fn fill(strip: Strip, lent: &mut [Leg])
+    requires { ⌜ (strip .count ≤ mostLegs) × (strip .count ≤ length (now lent)) ⌝ }
+    ensures { λ _. ⌜ now (lent .exit) ≡ filledWith strip (now (lent .entry)) ⌝ }
+{
+    let count = count_of(strip);
     let mut at = 0;
     while at < count {
-        legs[at] = leg_at(laid, at);
+        lent[at] = leg_at(strip, at);
         at += 1;
     }
 }

@@ -20,7 +20,7 @@ use Rattle.copper.specs.Shapes.{favoursUpper}
 use Rattle.wiring.specs.Choices.{bestChoice, legsOfChoice}
 use Rattle.wiring.specs.Answer.{mostLegs, turnedAway, wiringOf, feedRows}
 use Rattle.wiring.proofs.Refusing.{wiring-apart, wiring-verdict}
-use Rattle.lent.proofs.Fitting.{needed-few}
+use Rattle.wiring.proofs.Few.{needed-few}
 use Rattle.desk.specs.declared.Desk.{Desk}
 use Rattle.desk.specs.Desk.{seatOf, namingAt, wiredOf}
 use Rattle.desk.proofs.Sound.{feed-whole}

@@ -3,7 +3,7 @@ use mathlib.Core.Path.{_≡_, refl}
 use mathlib.Core.List.{List, [], _∷_, _++_, map}
 use Prim.Native.Nat.{ℕ}
 use Rattle.basics.specs.Tests.{both, either, choose, anyOf, eachOf, noTwo}
-use Rattle.basics.specs.Sums.{sum}
+use Rattle.basics.specs.Sums.{sum, different}
 use Rattle.refusal.specs.Refusals.{accepted}
 use Rattle.refusal.specs.Rows.{firstOf}
 use Rattle.refusal.specs.declared.Verdict.the-variants.{OtherJob, FaultyRecord}
@@ -18,7 +18,7 @@ use Rattle.tree.specs.Boxes.{belowBoth, under, overlap, boxesShare, isEnd, comm
 use Rattle.tree.specs.Bends.{bent}
 use Rattle.basics.specs.Sums.{howMany}
 use Rattle.copper.specs.Shapes.{lowerCorner, upperCorner, legsOf}
-use Rattle.copper.specs.Length.{sameStep, stepsAcross, stepsUp, stepsOf, stepsOfAll, different, lengthOf}
+use Rattle.copper.specs.Length.{sameStep, stepsAcross, stepsUp, stepsOf, stepsOfAll, lengthOf}
 use Rattle.board.specs.Place.{smaller}
 use Rattle.wiring.specs.Choices.{bentShapes, shapesOf, withShape, withShapes, choicesOf, legsOfChoice, lengthOfChoice, shortest, shortestOf, bestChoice, weighedAt, weighedOf}
 use Rattle.wiring.specs.Answer.{shapedRuns, runEntries, legEntries, turnedAway, answerWith, wiringWith, wiringFavouring, wiringOf}

@@ -23,13 +23,13 @@ mostLineBytes = 200
 abbrev pub mostRunBytes : ℕ
 mostRunBytes = 51
 
--- The word of a shape has at most so many bytes.
-abbrev pub mostShapeBytes : ℕ
-mostShapeBytes = 8
+-- The word of a shape, or `leg` or `segment` with the space after it, has at most so many bytes.
+abbrev pub mostWordBytes : ℕ
+mostWordBytes = 8
 
--- The line of a leg has at most so many bytes.
+-- The line of a leg or of a segment has at most so many bytes.
 abbrev pub mostLegBytes : ℕ
-mostLegBytes = 92
+mostLegBytes = 96
 
 -- The line of a pin has at most so many bytes.
 abbrev pub mostPinBytes : ℕ
@@ -74,6 +74,10 @@ unfoldable pub wiredLine : ℕ → ℕ → ℕ → ℕ → List ℕ
 wiredLine length runs legs weighed =
     field "0 length " length ++ field " runs " runs ++ field " legs " legs ++ field " weighed " weighed ++ text "\n"
 
+-- An accepted milling: `0 segments N`.
+unfoldable pub milledLine : ℕ → List ℕ
+milledLine segments = field "0 segments " segments ++ text "\n"
+
 -- An accepted wiring of a map: `job J length L runs R weighed W`.
 unfoldable pub jobLine : ℕ → ℕ → ℕ → ℕ → List ℕ
 jobLine job length runs weighed =
@@ -83,9 +87,9 @@ jobLine job length runs weighed =
 unfoldable pub runLine : ℕ → ℕ → List ℕ → List ℕ
 runLine near far shape = field "" near ++ field " " far ++ text " " ++ shape ++ text "\n"
 
--- A leg: `leg AX AY BX BY`.
-unfoldable pub legLine : Place → Place → List ℕ
-legLine a b = placeText (text "leg ") a ++ placeText (text " ") b ++ text "\n"
+-- A leg or a segment, after its word: `leg AX AY BX BY`, `segment AX AY BX BY`.
+unfoldable pub legLine : List ℕ → Place → Place → List ℕ
+legLine word a b = placeText word a ++ placeText (text " ") b ++ text "\n"
 
 -- A seat that is not open: `closed`.
 abbrev pub closedLine : List ℕ

@@ -20,7 +20,7 @@ ghost use lib.ListN.{length};
 ghost use lib.Seq.{sets};
 ghost use Rattle.board.specs.Spots.{mostPins};
 ghost use Rattle.text.specs.Text.{textForEach, over, mostRoom, answerBytes, Holds};
-ghost use Rattle.printed.specs.Answers.{mostLineBytes, mostRunBytes, mostLegBytes, mostPinBytes, mostShapeBytes, mostCarriedBytes, mostHexBytes, mostDropBytes, hexPart, carriedText, toldLine, verdictLine, writtenLine, wiredLine, jobLine, runLine, legLine, closedLine, drawingLine, pinLine, dropText, lostLine, notACallLine};
+ghost use Rattle.printed.specs.Answers.{mostLineBytes, mostRunBytes, mostLegBytes, mostPinBytes, mostWordBytes, mostCarriedBytes, mostHexBytes, mostDropBytes, hexPart, carriedText, toldLine, verdictLine, writtenLine, wiredLine, milledLine, jobLine, runLine, legLine, closedLine, drawingLine, pinLine, dropText, lostLine, notACallLine};
 
 // What is not a call: its line, counted from 1.
 pub fn print_not_a_call(line: usize, out: &mut [u8; ANSWER_BYTES]) -> usize
@@ -45,6 +45,14 @@ pub fn print_wired(
     let three = put_field(out, two, b" legs ", legs);
     let four = put_field(out, three, b" weighed ", weighed);
     put(out, four, b"\n")
+}
+
+// A milling: its segments.
+pub fn print_milled(segments: usize, out: &mut [u8; ANSWER_BYTES]) -> usize
+    ensures { λ r. ⌜ ((r ≡ length (milledLine segments)) × (r ≤ mostLineBytes)) × (now (out .exit) ≡ over (milledLine segments) (now (out .entry))) ⌝ }
+{
+    let next = put_field(out, 0, b"0 segments ", segments);
+    put(out, next, b"\n")
 }
 
 // The wiring of a map: its job, length and runs, and the choices weighed.
@@ -72,7 +80,7 @@ pub fn print_run(
     out: &mut [u8; ANSWER_BYTES],
     at: usize,
 ) -> usize
-    requires { ⌜ (length (now shape) ≤ mostShapeBytes) × (at + mostRunBytes ≤ answerBytes) ⌝ }
+    requires { ⌜ (length (now shape) ≤ mostWordBytes) × (at + mostRunBytes ≤ answerBytes) ⌝ }
     ensures { λ r. ⌜ (r ≡ at + length (runLine near far (now (shape .entry)))) × (r ≤ at + mostRunBytes) ⌝ }
     ensures { λ _. ⌜ now (out .exit) ≡ sets (now (out .entry)) at (runLine near far (now (shape .entry))) ⌝ }
 {
@@ -83,13 +91,13 @@ pub fn print_run(
     put(out, four, b"\n")
 }
 
-// A leg, from a position on: its two ends.
-pub fn print_leg(a: Place, b: Place, out: &mut [u8; ANSWER_BYTES], at: usize) -> usize
-    requires { ⌜ at + mostLegBytes ≤ answerBytes ⌝ }
-    ensures { λ r. ⌜ (r ≡ at + length (legLine a b)) × (r ≤ at + mostLegBytes) ⌝ }
-    ensures { λ _. ⌜ now (out .exit) ≡ sets (now (out .entry)) at (legLine a b) ⌝ }
+// A leg or a segment, from a position on: its word, and its two ends.
+pub fn print_leg(word: &[u8], a: Place, b: Place, out: &mut [u8; ANSWER_BYTES], at: usize) -> usize
+    requires { ⌜ (length (now word) ≤ mostWordBytes) × (at + mostLegBytes ≤ answerBytes) ⌝ }
+    ensures { λ r. ⌜ (r ≡ at + length (legLine (now (word .entry)) a b)) × (r ≤ at + mostLegBytes) ⌝ }
+    ensures { λ _. ⌜ now (out .exit) ≡ sets (now (out .entry)) at (legLine (now (word .entry)) a b) ⌝ }
 {
-    let one = put_place(out, at, b"leg ", a);
+    let one = put_place(out, at, word, a);
     let two = put_place(out, one, b" ", b);
     put(out, two, b"\n")
 }

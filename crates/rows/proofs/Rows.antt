@@ -1,5 +1,5 @@
--- The rows of every call are apart, and what was read of them first. From the laws of rows; assumes nothing.
-use mathlib.Core.Path.{_≡_, refl, ap, sym, _∙_}
+-- The rows of every call are apart, what was read of them first, and what they decide. From the laws of rows; assumes nothing.
+use mathlib.Core.Path.{_≡_, refl, ap, ap₂, sym, _∙_}
 use mathlib.Core.Bool.{Bool, true, false, not}
 use mathlib.Core.List.{List, [], _∷_, _++_}
 use Prim.Native.Nat.{ℕ, _<_}
@@ -22,10 +22,11 @@ use Rattle.pinmap.specs.declared.Reading.{Reading}
 use Rattle.pinmap.specs.declared.Writing.{Writing}
 use Rattle.pinmap.specs.Map.{recordsOf, withPinsOf, mapRows, readBy, written, writeBy, bufferBy}
 use Rattle.pinmap.proofs.Judging.{notOfMap, map-differs, map-apart}
-use Rattle.drops.specs.declared.Lost.{Lost}
+use Rattle.copper.specs.declared.Leg.{Leg}
+use Rattle.mill.specs.Answer.{cutWith, cutBy}
 use Rattle.drops.specs.Drops.{noDrops, noneLost, lostBy}
 use Rattle.journal.specs.Journal.{mostSeats}
-use Rattle.rows.specs.Calls.{Call, opening, closing, making, undoing, redoing, asking, Asking, writing, wiring, dropping}
+use Rattle.rows.specs.Calls.{Call, opening, closing, making, undoing, redoing, asking, Asking, writing, wiring, milling, dropping}
 use Rattle.rows.specs.declared.Found.{Found}
 use Rattle.rows.specs.Found.{namingFound}
 use Rattle.rows.specs.Refusals.{Look, namingRows, takingRows, makingRows, rowsOf}
@@ -63,6 +64,7 @@ rows-apart l (undoing s) = apart-by (rowsOf l (undoing s)) refl
 rows-apart l (redoing s) = apart-by (rowsOf l (redoing s)) refl
 rows-apart l (asking s (writing room)) = apart-by (rowsOf l (asking s (writing room))) refl
 rows-apart l (asking s (wiring room favour)) = apart-by (rowsOf l (asking s (wiring room favour))) refl
+rows-apart l (asking s (milling room favour)) = apart-by (rowsOf l (asking s (milling room favour))) refl
 rows-apart l (asking s (dropping loads sheet)) = apart-by (rowsOf l (asking s (dropping loads sheet))) refl
 
 -- ---- what was read first
@@ -130,44 +132,56 @@ module _ (f : Found) {v : Verdict} (e : v ≡ firstOf (namingFound f)) where
       seat-open (f .broken) (f .seat) (f .state .opened)
       (none-holds (namingFound f) (naming-apart (f .broken) (f .seat) (f .state .opened)) (ap accepted (sym e) ∙ y))
 
--- What rows decide, where the first of them were asked before.
+-- ---- what rows decide
+
+-- An answer made of the verdict, and of what was asked for or, where it is refused, of nothing.
+abbrev pub decided : {A B : Type 0} → (Verdict → A → B) → A → A → List Row → B
+decided answer asked nothing rows = answer (firstOf rows) (choose (accepted (firstOf rows)) asked nothing)
+
+-- Where the first rows were asked before:
 module _ (rows more : List Row) (a : Apart rows) {v : Verdict} (e : v ≡ firstOf rows) where
-  -- Turned away by one of those, a map is not read;
+  module _ {A B : Type 0} (answer : Verdict → A → B) (asked nothing : A) where
+    -- turned away by one of those, nothing is given;
+    pub decided-away : accepted v ≡ false → answer v nothing ≡ decided answer asked nothing (rows ++ more)
+    decided-away n =
+        let w = stops rows more a e n in
+        ap₂ answer w (sym (choose-no asked nothing (ap accepted (sym w) ∙ n)))
+
+    -- else the later rows decide.
+    pub decided-on : accepted v ≡ true → decided answer asked nothing more ≡ decided answer asked nothing (rows ++ more)
+    decided-on y = ap (λ (x : Verdict). answer x (choose (accepted x) asked nothing)) (goes rows more a e y refl)
+
+  -- So it is with a map that is not read,
   pub read-away : (map : List ℕ) → accepted v ≡ false → _≡_ {A = Reading} (record { verdict = v; pins = noPins }) (readBy (rows ++ more) map)
-  read-away map n =
-      let w = stops rows more a e n in
-      λ i. record { verdict = w i; pins = sym (choose-no (withPinsOf noPins (recordsOf map)) noPins (ap accepted (sym w) ∙ n)) i }
+  read-away map n = decided-away (λ v pins. record { verdict = v; pins = pins }) (withPinsOf noPins (recordsOf map)) noPins n
 
-  -- else the later rows decide.
+  -- and one that is;
   pub read-on : (map : List ℕ) → accepted v ≡ true → readBy more map ≡ readBy (rows ++ more) map
-  read-on map y =
-      ap (λ (x : Verdict). record { verdict = x; pins = choose (accepted x) (withPinsOf noPins (recordsOf map)) noPins }) (goes rows more a e y refl)
+  read-on map y = decided-on (λ v pins. record { verdict = v; pins = pins }) (withPinsOf noPins (recordsOf map)) noPins y
 
-  -- So it is with a map that is not written,
+  -- with a map that is not written,
   pub write-away : (map buffer : List ℕ) → accepted v ≡ false
       → _≡_ {A = Writing} (record { verdict = v; bytes = 0 }) (writeBy (rows ++ more) map) × (buffer ≡ bufferBy (rows ++ more) map buffer)
-  write-away map buffer n =
-      let w = stops rows more a e n in
-      let f = ap accepted (sym w) ∙ n in
-      (λ i. record { verdict = w i; bytes = sym (choose-no (length map) 0 f) i }, sym (choose-no _ _ f))
+  write-away map buffer n = (decided-away (λ v bytes. record { verdict = v; bytes = bytes }) (length map) 0 n, decided-away (λ v b. b) (written map buffer) buffer n)
 
-  -- and one that is.
+  -- and one that is;
   pub write-on : (map buffer : List ℕ) → accepted v ≡ true
       → (writeBy more map ≡ writeBy (rows ++ more) map) × (bufferBy more map buffer ≡ bufferBy (rows ++ more) map buffer)
-  write-on map buffer y =
-      let w = goes rows more a e y refl in (
-        ap (λ (x : Verdict). record { verdict = x; bytes = choose (accepted x) (length map) 0 }) w,
-        ap (λ (x : Verdict). choose (accepted x) (written map buffer) buffer) w,
-      )
+  write-on map buffer y = (decided-on (λ v bytes. record { verdict = v; bytes = bytes }) (length map) 0 y, decided-on (λ v b. b) (written map buffer) buffer y)
 
-  -- So it is with volts lost that are not told,
+  -- with volts lost that are not told,
   pub lost-away : (drops : List Float) → accepted v ≡ false → noneLost v ≡ lostBy (rows ++ more) drops
   unfolding noneLost
-  lost-away drops n =
-      let w = stops rows more a e n in
-      let f = ap accepted (sym w) ∙ n in
-      λ i. record { verdict = w i; drops = sym (choose-no drops noDrops f) i }
+  lost-away drops n = decided-away (λ v l. record { verdict = v; drops = l }) drops noDrops n
 
-  -- and with those that are.
+  -- and those that are;
   pub lost-on : (drops : List Float) → accepted v ≡ true → lostBy more drops ≡ lostBy (rows ++ more) drops
-  lost-on drops y = ap (λ (x : Verdict). record { verdict = x; drops = choose (accepted x) drops noDrops }) (goes rows more a e y refl)
+  lost-on drops y = decided-on (λ v l. record { verdict = v; drops = l }) drops noDrops y
+
+  -- with segments that are not given,
+  pub cut-away : (segments : List Leg) → accepted v ≡ false → cutWith v [] ≡ cutBy (rows ++ more) segments
+  cut-away segments n = decided-away cutWith segments [] n
+
+  -- and those that are.
+  pub cut-on : (segments : List Leg) → accepted v ≡ true → cutBy more segments ≡ cutBy (rows ++ more) segments
+  cut-on segments y = decided-on cutWith segments [] y

@@ -6,11 +6,12 @@ use Rattle.copper.specs.declared.Favour.{Favour}
 use Rattle.drops.specs.declared.Loaded.{Loaded}
 use Rattle.drops.specs.declared.Sheet.{Sheet}
 
--- What is asked of a drawing: to write its map into lent room (bytes), to wire it into lent room (legs) with what is said of the shape to favour, or to tell
--- the volts lost to its pins, for these loads and this board sheet.
+-- What is asked of a drawing: to write its map into lent room (bytes), to wire it into lent room (legs) with what is said of the shape to favour, to give its
+-- copper as segments into lent room (segments) with the same said, or to tell the volts lost to its pins, for these loads and this board sheet.
 pub data Asking : Type 0 where
   writing : ℕ → Asking
   wiring : ℕ → Favour → Asking
+  milling : ℕ → Favour → Asking
   dropping : List Loaded → Sheet → Asking
 
 -- Opening from a pin map, closing, making an edit (placing, moving, removing a pin), undo, redo, and asking.

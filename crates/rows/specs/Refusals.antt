@@ -17,9 +17,10 @@ use Rattle.drawing.specs.Pins.{pinAt}
 use Rattle.pinmap.specs.Map.{mapRows, roomRows}
 use Rattle.drops.specs.Drops.{dropRows}
 use Rattle.wiring.specs.Answer.{feedRows}
+use Rattle.mill.specs.Answer.{millRows}
 use Rattle.journal.specs.Journal.{mostSeats, mostRecords}
 use Rattle.seats.specs.Seats.{jobAmong}
-use Rattle.rows.specs.Calls.{Call, opening, closing, making, undoing, redoing, asking, Asking, writing, wiring, dropping}
+use Rattle.rows.specs.Calls.{Call, opening, closing, making, undoing, redoing, asking, Asking, writing, wiring, milling, dropping}
 
 -- What a call looks at: whether the desk is broken; of the seat that it names whether it is open, its job, pins, standing and
 -- taken-back edits; the jobs of the open seats (0 for a closed one); the used records.
@@ -79,10 +80,11 @@ undoingRow standing = given (eqb standing 0) NothingStands ∷ []
 abbrev pub redoingRow : ℕ → List Row
 redoingRow takenBack = given (eqb takenBack 0) NothingTakenBack ∷ []
 
--- Writing: 19. Wiring: 17, 18, 19. Volts lost: 17, 18, 20.
+-- Writing: 19. Wiring: 17, 18, 19. Milling: 17, 18, 19, counted in segments. Volts lost: 17, 18, 20.
 abbrev pub askingRows : ℕ → List Pin → Asking → List Row
 askingRows job l (writing room) = roomRows job l room
 askingRows job l (wiring room favour) = feedRows (feedOf l) room favour
+askingRows job l (milling room favour) = millRows (feedOf l) room favour
 askingRows job l (dropping loads sheet) = dropRows (feedOf l) loads sheet
 
 -- The rows of each call.

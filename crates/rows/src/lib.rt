@@ -1,4 +1,4 @@
-// Rows of refusals: what a call finds at the seat that it names, for each call its row in document 01's order over that, and what opening reads, writing writes and wiring answers.
+// Rows of refusals: what a call finds at the seat that it names, for each call its row in document 01's order over that, and what opening reads, writing writes, and wiring, milling and drops answer.
 use board::PINS;
 use board::Place;
 use copper::Favour;
@@ -11,6 +11,7 @@ use drops::Sheet;
 use journal::RECORDS;
 use journal::Record;
 use journal::SEATS;
+use mill::Cut;
 use pinmap::Reading;
 use pinmap::Writing;
 use refusal::Verdict;
@@ -28,6 +29,7 @@ ghost use Rattle.pinmap.specs.Map.{mapRows, mapOf, readBy, roomRows, writeBy, b
 ghost use Rattle.journal.specs.Journal.{mostRecords, own};
 ghost use Rattle.seats.specs.Seats.{takenBackCount, jobsIn};
 ghost use Rattle.rows.specs.Refusals.{takingRows, makingRows, fullRow, undoingRow, redoingRow};
+ghost use Rattle.mill.specs.Answer.{copperOf, millRows, cutBy};
 ghost use Rattle.drops.specs.Drops.{dropRows, dropsOf, lostBy};
 ghost use Rattle.rows.specs.Found.{foundIn, namingFound, wiredBy};
 
@@ -288,6 +290,25 @@ pub fn feed_wired(found: Found, room: usize, favour: Favour) -> Laid
         wiring::wire_feed(&xs, &ys, &there, room, favour)
     } else {
         wiring::refused(verdict)
+    }
+}
+
+// The copper of a seat as segments, with room for so many and what is said of the shape to favour: 28, 1, 2, then what is answered for the drawing's feed, 17, 18 or 19 among it.
+pub fn feed_milled(found: Found, room: usize, favour: Favour) -> Cut
+    requires { ⌜ (found .broken ≡ false → found .state .opened ≡ true → lawful (found .state .pins) ≡ true) ⌝ }
+    ensures { λ r. ⌜ r ≡ cutBy (namingFound found ++ millRows (feedOf (found .state .pins)) room favour) (copperOf (feedOf (found .state .pins)) favour) ⌝ }
+{
+    let verdict = turned_naming(found);
+    if refusal::is_accepted(verdict) {
+        let s = found.state;
+        let pins = s.pins;
+        let lists = drawing::lists_of(pins);
+        let xs = lists.xs;
+        let ys = lists.ys;
+        let there = lists.there;
+        mill::mill_feed(&xs, &ys, &there, room, favour)
+    } else {
+        mill::refused(verdict)
     }
 }
 

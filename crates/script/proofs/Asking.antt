@@ -21,7 +21,7 @@ use Rattle.text.specs.declared.Coordinate.{Coordinate}
 use Rattle.text.proofs.Steps.{picked, unpicked}
 use Rattle.text.proofs.Cutting.{same-is}
 use Rattle.text.proofs.Values.{number-read, number-unread, coordinate-read, coordinate-unread}
-use Rattle.script.specs.Said.{mostLine, mostLegsLent, only, numberIn, placeIn, isSeatAlone, isPair, isPlacing, seatCall, pairCall, placeCall, favourIn, endsInFavour, openCall, wireCall, bareCall, dropsCall, calls, saidAs, callIn, isSkipped, saidIn, isLong, saidBy}
+use Rattle.script.specs.Said.{mostLine, mostLegsLent, only, numberIn, placeIn, isSeatAlone, hasTwo, isPlacing, seatCall, placeCall, favourIn, endsInFavour, openCall, bareCall, dropsCall, calls, saidAs, callIn, isSkipped, saidIn, isLong, saidBy}
 use Rattle.script.specs.declared.Said.{Said}
 use Rattle.script.specs.Loads.{isLoads}
 use Rattle.script.specs.declared.Pair.{Pair}
@@ -51,10 +51,10 @@ unread-as a b h = sym (choose-no a b h)
 
 -- Words counted: as many as asked for, or not.
 module _ (words : List (List ℕ)) {n : ℕ} (k : ℕ) (e : n ≡ length words) where
-  count-yes : n ≡ k → eqb (length words) k ≡ true
+  pub count-yes : n ≡ k → eqb (length words) k ≡ true
   count-yes h = eq-eqb (length words) k (sym e ∙ h)
 
-  count-no : (n ≡ k → ⊥) → eqb (length words) k ≡ false
+  pub count-no : (n ≡ k → ⊥) → eqb (length words) k ≡ false
   count-no h = ne-eqb (length words) k (λ q. h (e ∙ q))
 
 module _ (top : ℕ) {w v : List ℕ} (e : w ≡ v) where
@@ -100,28 +100,14 @@ module _ (words : List (List ℕ)) where
         let same : s ≡ numberIn 1 words = cc in
         only-yes (h .0) (ap call same)
 
--- Two numbers that were not read did not pass,
-two-unread : {t : Bool} (a b : ℕ) → Pair.Unread ≡ choose t (Pair.Of a b) Pair.Unread → t ≡ false
-two-unread {t} a b f = unpicked t (λ q. opposite {t = true} refl cc) f
-
--- and two that were read passed, and are those asked for.
-two-read : {t : Bool} (a b : ℕ) {s m : ℕ} → Pair.Of s m ≡ choose t (Pair.Of a b) Pair.Unread → (t ≡ true) × ((s ≡ a) × (m ≡ b))
-two-read {t} a b {s} {m} f =
-    let h : (t ≡ true) × (Pair.Of s m ≡ Pair.Of a b) = picked t (λ q. opposite {t = true} refl cc) f in
-    let seat : s ≡ a = cc in
-    let number : m ≡ b = cc in
-    (h .0, (seat, number))
+-- Words that pass a test, read as a seat and one number more.
+abbrev pairRead : Bool → List (List ℕ) → Pair
+pairRead t words = choose t (Pair.Of (numberIn 1 words) (numberIn 2 words)) Pair.Unread
 
 -- NAME SEAT and one number more.
 module _ (top : ℕ) (words : List (List ℕ)) where
-  abbrev twoThere : Bool
-  twoThere = both (isNumber mostNumber (word 1 words)) (isNumber top (word 2 words))
-
   abbrev twoRead : Pair
-  twoRead = choose twoThere (Pair.Of (numberIn 1 words) (numberIn 2 words)) Pair.Unread
-
-  abbrev pairRead : Pair
-  pairRead = choose (isPair top words) (Pair.Of (numberIn 1 words) (numberIn 2 words)) Pair.Unread
+  twoRead = pairRead (hasTwo top words) words
 
   module _ {v : List ℕ} (f : v ≡ word 1 words) where
     -- A seat that is no number is not read,
@@ -139,29 +125,32 @@ module _ (top : ℕ) (words : List (List ℕ)) where
           read-as _ (both-by (number-there mostNumber f p) (number-there top g q))
           (λ i. Pair.Of (number-value mostNumber f p i) (number-value top g q i))
 
-  module _ {n : ℕ} (e : n ≡ length words) where
-    -- Fewer or more than three words are not read,
-    pub pair-few : (n ≡ 3 → ⊥) → Pair.Unread ≡ pairRead
-    unfolding isPair
-    pair-few h = unread-as _ _ (both-no _ (count-no words 3 e h))
+  module _ {t : Bool} where
+    -- Fewer or more words than asked for are not read,
+    pub pair-few : t ≡ false → Pair.Unread ≡ pairRead (both t (hasTwo top words)) words
+    pair-few h = unread-as _ _ (both-no _ h)
 
-    -- and three by the second and the third.
-    pub pair-three : n ≡ 3 → {r : Pair} → r ≡ twoRead → r ≡ pairRead
-    unfolding isPair
-    pair-three h g = g ∙ rw (both-by (count-yes words 3 e h) refl)
+    -- and as many by the second and the third.
+    pub pair-all : t ≡ true → {r : Pair} → r ≡ twoRead → r ≡ pairRead (both t (hasTwo top words)) words
+    pair-all h g = g ∙ rw (both-by h refl)
 
-  module _ (call : ℕ → ℕ → Said) where
-    -- What is not read is not a call,
-    pub pair-no : Pair.Unread ≡ pairRead → Said.NotACall ≡ pairCall top call words
-    unfolding pairCall
-    pair-no f = only-no _ (two-unread _ _ f)
+-- A call that asks for words that pass a test.
+module _ (passes : List (List ℕ) → Bool) (call : ℕ → ℕ → Said) (words : List (List ℕ)) where
+  abbrev asked : Said
+  asked = only (passes words) (call (numberIn 1 words) (numberIn 2 words))
 
-    -- and what is read is one with that number.
-    pub pair-yes : {s m : ℕ} → Pair.Of s m ≡ pairRead → call s m ≡ pairCall top call words
-    unfolding pairCall
-    pair-yes f =
-        let h = two-read _ _ f in
-        only-yes (h .0) (λ i. call (h .1 .0 i) (h .1 .1 i))
+  -- What is not read is not a call,
+  pub pair-no : Pair.Unread ≡ pairRead (passes words) words → Said.NotACall ≡ asked
+  pair-no f = only-no _ (unpicked (passes words) (λ q. opposite {t = true} refl cc) f)
+
+  -- and what is read is one with that number.
+  pub pair-yes : {s m : ℕ} → Pair.Of s m ≡ pairRead (passes words) words → call s m ≡ asked
+  pair-yes {s} {m} f =
+      let read : Pair = Pair.Of (numberIn 1 words) (numberIn 2 words) in
+      let h : (passes words ≡ true) × (Pair.Of s m ≡ read) = picked (passes words) (λ q. opposite {t = true} refl cc) f in
+      let seat : s ≡ numberIn 1 words = cc in
+      let number : m ≡ numberIn 2 words = cc in
+      only-yes (h .0) (λ i. call (seat i) (number i))
 
 -- NAME SEAT PIN X Y.
 module _ (words : List (List ℕ)) where
@@ -312,26 +301,6 @@ module _ (words : List (List ℕ)) {n : ℕ} (k : ℕ) (e : n ≡ length words) 
     ends-many h =
         sym (either-right _ (count-no words k e (λ q. omega (arith, more, q))) ∙ both-no _ (count-no words (k + 1) e (λ q. h (omega (arith, q)))))
 
--- wire SEAT ROOM [FAVOUR].
-module _ (words : List (List ℕ)) where
-  -- Fewer or more words wire no seat,
-  pub wire-few : endsInFavour 3 words ≡ false → Said.NotACall ≡ wireCall words
-  unfolding wireCall
-  wire-few h = only-no _ (both-no _ h)
-
-  module _ (h : endsInFavour 3 words ≡ true) where
-    -- nor do a seat and a room that are not read,
-    pub wire-no : Pair.Unread ≡ twoRead mostLegsLent words → Said.NotACall ≡ wireCall words
-    unfolding wireCall
-    wire-no f = only-no _ (both-by h (two-unread _ _ f))
-
-    -- and a seat and a room that are read are a wiring.
-    pub wire-yes : {s m : ℕ} → Pair.Of s m ≡ twoRead mostLegsLent words → Said.Wire s m ≡ wireCall words
-    unfolding wireCall
-    wire-yes f =
-        let g = two-read _ _ f in
-        only-yes (both-by h (g .0)) (λ i. Said.Wire (g .1 .0 i) (g .1 .1 i))
-
 -- bare ROOM XS YS [FAVOUR].
 module _ (words : List (List ℕ)) where
   -- Fewer or more words wire nothing bare,
@@ -418,10 +387,10 @@ named name words e h = ap (λ (n : List ℕ). saidAs calls n words) (sym (same-i
 pub none-named : (words : List (List ℕ)) {w : List ℕ} → w ≡ word 0 words
     → same w (text "open") ≡ false → same w (text "close") ≡ false → same w (text "place") ≡ false → same w (text "move") ≡ false
     → same w (text "remove") ≡ false → same w (text "undo") ≡ false → same w (text "redo") ≡ false → same w (text "write") ≡ false
-    → same w (text "wire") ≡ false → same w (text "bare") ≡ false → same w (text "drops") ≡ false → same w (text "pins") ≡ false
-    → Said.NotACall ≡ callIn words
+    → same w (text "wire") ≡ false → same w (text "mill") ≡ false → same w (text "bare") ≡ false → same w (text "drops") ≡ false
+    → same w (text "pins") ≡ false → Said.NotACall ≡ callIn words
 unfolding callIn saidAs choose
-none-named words e h1 h2 h3 h4 h5 h6 h7 h8 h9 h10 h11 h12 = rw (← e, h1, h2, h3, h4, h5, h6, h7, h8, h9, h10, h11, h12)
+none-named words e h1 h2 h3 h4 h5 h6 h7 h8 h9 h10 h11 h12 h13 = rw (← e, h1, h2, h3, h4, h5, h6, h7, h8, h9, h10, h11, h12, h13)
 
 -- A line without a first word is skipped;
 pub skipped-none : (name : List ℕ) → length name ≡ 0 → true ≡ isSkipped name

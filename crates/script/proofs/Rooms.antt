@@ -8,7 +8,7 @@ use Rattle.basics.proofs.Tests.{both-right}
 use Rattle.text.specs.Text.{mostRoom}
 use Rattle.text.specs.Words.{word}
 use Rattle.text.proofs.Values.{number-top}
-use Rattle.script.specs.Said.{only, numberIn, isPair, seatCall, pairCall, placeCall, openCall, wireCall, bareCall, dropsCall, saidAs, callIn, isSkipped, saidIn, isLong, wordsIn, saidBy}
+use Rattle.script.specs.Said.{only, numberIn, isPair, seatCall, pairCall, placeCall, openCall, lendingCall, bareCall, dropsCall, saidAs, callIn, isSkipped, saidIn, isLong, wordsIn, saidBy}
 use Rattle.script.specs.declared.Said.{Said}
 
 -- The room of a writing is at most the most room.
@@ -24,6 +24,7 @@ Fits (Said.Undo s) = Unit {0}
 Fits (Said.Redo s) = Unit {0}
 Fits (Said.Write s room) = room ≤ mostRoom
 Fits (Said.Wire s room) = Unit {0}
+Fits (Said.Mill s room) = Unit {0}
 Fits (Said.Bare room) = Unit {0}
 Fits (Said.Drops s) = Unit {0}
 Fits (Said.Pins s) = Unit {0}
@@ -47,7 +48,7 @@ pair-top top words h = number-top top (word 2 words) (both-right _ _ (both-right
 
 -- It holds of what any words say by the calls that there are,
 call-fits : (words : List (List ℕ)) → Fits (callIn words)
-unfolding callIn saidAs openCall seatCall placeCall pairCall wireCall bareCall dropsCall Fits
+unfolding callIn saidAs openCall seatCall placeCall pairCall lendingCall bareCall dropsCall Fits
 call-fits words =
     chosen Fits _ (passed Fits tt _ (λ h. tt))
     (chosen Fits _ (passed Fits tt _ (λ h. tt))
@@ -58,7 +59,8 @@ call-fits words =
     (chosen Fits _ (passed Fits tt _ (λ h. tt))
     (chosen Fits _ (passed Fits tt _ (λ h. pair-top mostRoom words h))
     (chosen Fits _ (passed Fits tt _ (λ h. tt))
-    (chosen Fits _ (passed Fits tt _ (λ h. tt)) (chosen Fits _ (passed Fits tt _ (λ h. tt)) (chosen Fits _ (passed Fits tt _ (λ h. tt)) tt)))))))))))
+    (chosen Fits _ (passed Fits tt _ (λ h. tt))
+    (chosen Fits _ (passed Fits tt _ (λ h. tt)) (chosen Fits _ (passed Fits tt _ (λ h. tt)) (chosen Fits _ (passed Fits tt _ (λ h. tt)) tt))))))))))))
 
 -- and of what any line says.
 line-fits : (line : List ℕ) → Fits (saidBy line)

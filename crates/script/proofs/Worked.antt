@@ -13,7 +13,7 @@ use Rattle.drops.specs.Loads.{hundredth, spare}
 use Rattle.text.specs.Text.{text, same}
 use Rattle.text.specs.Words.{endOf, beforeFirst, pieces, nonEmpty, wordsOf}
 use Rattle.text.specs.Numbers.{between, valueFrom, isNumber, hasMinus, isCoordinate, signed, listed, isRowOf, isList, isHex, hexValue, allPairs, bytesOf, isSpelled, isMap, spelled, isBits, hexFrom, floatOf}
-use Rattle.script.specs.Said.{only, isSeatAlone, isPair, isPlacing, seatCall, pairCall, placeCall, favourIn, endsInFavour, openCall, wireCall, bareCall, dropsCall, saidAs, callIn, isSkipped, saidIn, isLong, saidBy, mapGiven, xsGiven, ysGiven, favourGiven, sheetGiven, loadsGiven}
+use Rattle.script.specs.Said.{only, isSeatAlone, isPair, isPlacing, seatCall, pairCall, placeCall, favourIn, endsInFavour, openCall, isLending, lendingCall, bareCall, dropsCall, saidAs, callIn, isSkipped, saidIn, isLong, saidBy, mapGiven, xsGiven, ysGiven, favourGiven, sheetGiven, loadsGiven}
 use Rattle.script.specs.Loads.{beginsWith, isLoad, loadOf, isLoads, loadsListed, allSpare, loadsIn}
 use Rattle.script.specs.declared.Said.{Said}
 
@@ -26,8 +26,8 @@ saidByEach (line ∷ rest) = saidBy (text line) ∷ saidByEach rest
 pub each-call :
     saidByEach
     ("open 00 0007 -" ∷ "open 1 9 0009fF" ∷ "close 7" ∷ "  place   0 0 -0 007  " ∷ "move 3 31 -5 12" ∷ "remove 0 4294967295"
-    ∷ "undo 0" ∷ "redo 0\r" ∷ "write 1 1024" ∷ "wire 1 64" ∷ "wire 2 0 lower" ∷ "wire 3 62  upper " ∷ "bare 64 0,-0 1,002" ∷ "bare 0 - 5"
-    ∷ "bare 1 5 - upper"
+    ∷ "undo 0" ∷ "redo 0\r" ∷ "write 1 1024" ∷ "wire 1 64" ∷ "wire 2 0 lower" ∷ "wire 3 62  upper "
+    ∷ "mill 0 00064" ∷ "mill 4294967295 0 lower" ∷ "mill 1 5 upper\r" ∷ "bare 64 0,-0 1,002" ∷ "bare 0 - 5" ∷ "bare 1 5 - upper"
     ∷ "drops 0 41400000 3C23d70a -" ∷ "drops 4294967295 7fc00000 ffFFffFF a3f800000,w42c80000,s" ∷ "pins 8" ∷ [])
     ≡ Said.Open 0 7
     ∷ Said.Open 1 9
@@ -41,6 +41,9 @@ pub each-call :
     ∷ Said.Wire 1 64
     ∷ Said.Wire 2 0
     ∷ Said.Wire 3 62
+    ∷ Said.Mill 0 64
+    ∷ Said.Mill 4294967295 0
+    ∷ Said.Mill 1 5
     ∷ Said.Bare 64
     ∷ Said.Bare 0
     ∷ Said.Bare 1
@@ -50,7 +53,7 @@ pub each-call :
     ∷ []
 unfolding saidByEach both either choose same endOf beforeFirst pieces nonEmpty wordsOf between eachOf valueFrom isNumber hasMinus isCoordinate signed
     isRowOf isList isBits beginsWith isLoad isLoads isHex allPairs isSpelled isMap only isSeatAlone isPair isPlacing seatCall pairCall placeCall endsInFavour
-    openCall wireCall bareCall dropsCall saidAs callIn isSkipped saidIn isLong saidBy
+    openCall isLending lendingCall bareCall dropsCall saidAs callIn isSkipped saidIn isLong saidBy
 each-call = refl
 
 -- What such lines give: the bytes of a map, x and y, and the shape to favour.
@@ -82,14 +85,15 @@ pub no-calls :
     ∷ "place 0 2 99999999999999999999999999999999 0" ∷ "place 0 2 2147483648 0" ∷ "place 0 2 0 -2147483649"
     ∷ "place 4294967296 2 0 0" ∷ "open 2 65536 -" ∷ "undo 0 # x" ∷ "undo" ∷ "Undo 0" ∷ "\t" ∷ "place\t0 3 0 1"
     ∷ "open 1 9 0009Ff0" ∷ "open 1 9 0g" ∷ "open 1 9 --" ∷ "write 2 1025" ∷ "wire 1 65"
-    ∷ "wire 1 64 Lower" ∷ "wire 1 64 straight" ∷ "wire 1 64 lower upper" ∷ "wire 1 upper" ∷ "bare 64 - - -" ∷ "bare 64 1,,2 1,2,3"
+    ∷ "wire 1 64 Lower" ∷ "wire 1 64 straight" ∷ "wire 1 64 lower upper" ∷ "wire 1 upper" ∷ "mill 1" ∷ "mill 1 65" ∷ "mill -0 64" ∷ "mill 1 -"
+    ∷ "mill 1 64 straight" ∷ "mill 1 64 lower lower" ∷ "Mill 1 64" ∷ "bare 64 - - -" ∷ "bare 64 1,,2 1,2,3"
     ∷ "bare 64 1, 2" ∷ "bare 64 , ," ∷ "bare 64 -,1 1,2" ∷ "bare 65 - -" ∷ "drops 0 41400000 3c23d70a" ∷ "drops 0 4140000 3c23d70a -"
     ∷ "drops 0 41400000 3c23d70g -" ∷ "drops 0 41400000 3c23d70a A3f800000" ∷ "drops 0 41400000 3c23d70a a3f80000" ∷ "drops 0 41400000 3c23d70a s,"
     ∷ "drops 0 41400000 3c23d70a s0" ∷ "drops 0 41400000 3c23d70a s,s,s,s,s,s,s,s,s,s,s,s,s,s,s,s,s,s,s,s,s,s,s,s,s,s,s,s,s,s,s,s,s" ∷ [])
-    ≡ replicate 37 Said.NotACall
+    ≡ replicate 44 Said.NotACall
 unfolding saidByEach both either choose same endOf beforeFirst pieces nonEmpty wordsOf between eachOf valueFrom isNumber hasMinus isCoordinate signed
     isRowOf isList isBits beginsWith isLoad isLoads isHex allPairs isSpelled isMap only isSeatAlone isPair isPlacing seatCall pairCall placeCall endsInFavour
-    openCall wireCall bareCall dropsCall saidAs callIn isSkipped saidIn isLong saidBy
+    openCall isLending lendingCall bareCall dropsCall saidAs callIn isSkipped saidIn isLong saidBy
 no-calls = refl
 
 -- Lines with no word, and remarks.

@@ -22,7 +22,7 @@ use Rattle.script.specs.Loads.{isLoads, loadsIn}
 abbrev pub mostLine : ℕ
 mostLine = 16384
 
--- The most legs that a call lends.
+-- The most legs or segments that a call lends.
 abbrev pub mostLegsLent : ℕ
 mostLegsLent = 64
 
@@ -38,9 +38,13 @@ numberIn k words = valueOf (word k words)
 unfoldable pub isSeatAlone : List (List ℕ) → Bool
 isSeatAlone words = both (eqb (length words) 2) (isNumber mostNumber (word 1 words))
 
--- NAME SEAT and one number more, up to the given one.
+-- After the name a seat and one number more, up to the given one.
+abbrev pub hasTwo : ℕ → List (List ℕ) → Bool
+hasTwo top words = both (isNumber mostNumber (word 1 words)) (isNumber top (word 2 words))
+
+-- NAME SEAT and such a number.
 unfoldable pub isPair : ℕ → List (List ℕ) → Bool
-isPair top words = both (eqb (length words) 3) (both (isNumber mostNumber (word 1 words)) (isNumber top (word 2 words)))
+isPair top words = both (eqb (length words) 3) (hasTwo top words)
 
 -- NAME SEAT PIN X Y.
 unfoldable pub isPlacing : List (List ℕ) → Bool
@@ -82,12 +86,13 @@ openCall words =
     (both (eqb (length words) 4) (both (isNumber mostNumber (word 1 words)) (both (isNumber mostJob (word 2 words)) (isMap (word 3 words)))))
     (Said.Open (numberIn 1 words) (numberIn 2 words))
 
--- wire SEAT ROOM [FAVOUR].
-unfoldable pub wireCall : List (List ℕ) → Said
-wireCall words =
-    only
-    (both (endsInFavour 3 words) (both (isNumber mostNumber (word 1 words)) (isNumber mostLegsLent (word 2 words))))
-    (Said.Wire (numberIn 1 words) (numberIn 2 words))
+-- NAME SEAT ROOM [FAVOUR].
+unfoldable pub isLending : List (List ℕ) → Bool
+isLending words = both (endsInFavour 3 words) (hasTwo mostLegsLent words)
+
+-- A call that lends a list for what is asked of a seat.
+unfoldable pub lendingCall : (ℕ → ℕ → Said) → List (List ℕ) → Said
+lendingCall call words = only (isLending words) (call (numberIn 1 words) (numberIn 2 words))
 
 -- bare ROOM XS YS [FAVOUR].
 unfoldable pub bareCall : List (List ℕ) → Said
@@ -115,7 +120,8 @@ calls =
     ∷ ("undo", seatCall Said.Undo)
     ∷ ("redo", seatCall Said.Redo)
     ∷ ("write", pairCall mostRoom Said.Write)
-    ∷ ("wire", wireCall)
+    ∷ ("wire", lendingCall Said.Wire)
+    ∷ ("mill", lendingCall Said.Mill)
     ∷ ("bare", bareCall)
     ∷ ("drops", dropsCall)
     ∷ ("pins", seatCall Said.Pins)

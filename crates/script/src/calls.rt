@@ -20,12 +20,12 @@ use text::words::word;
 ghost use mathlib.Core.Path.{_≡_};
 ghost use Prim.Native.Nat.{_≤_};
 ghost use Rattle.text.specs.Text.{text as bytesOf, same as sameBytes, mostRoom};
-ghost use Rattle.text.specs.Words.{wordsOf, word as wordIn};
-ghost use Rattle.text.specs.Numbers.{mostNumber, isNumber};
-ghost use Rattle.basics.specs.Tests.{both, either, choose};
-ghost use Rattle.script.specs.Said.{mostLegsLent, numberIn, placeIn, isSeatAlone, isPair, isPlacing, seatCall, pairCall, placeCall, favourIn, endsInFavour, openCall, wireCall, bareCall, dropsCall, callIn, isSkipped as skipped};
+ghost use Rattle.text.specs.Words.{wordsOf};
+ghost use Rattle.text.specs.Numbers.{mostNumber};
+ghost use Rattle.basics.specs.Tests.{either, choose};
+ghost use Rattle.script.specs.Said.{numberIn, placeIn, isSeatAlone, hasTwo, isPair, isPlacing, seatCall, pairCall, placeCall, favourIn, endsInFavour, openCall, isLending, lendingCall, bareCall, dropsCall, callIn, isSkipped as skipped};
 
-// The most legs that a call lends.
+// The most legs or segments that a call lends.
 const MOST_LEGS_LENT: usize = 64;
 
 // The largest job.
@@ -44,7 +44,7 @@ fn seat_alone(text: &[u8]) -> Number
 // The seat that is the word after the name, and the number after it, from 0 to `top`.
 fn two_numbers(text: &[u8], top: usize) -> Pair
     requires { ⌜ top ≤ mostNumber ⌝ }
-    ensures { λ r. ⌜ r ≡ choose (both (isNumber mostNumber (wordIn 1 (wordsOf (now (text .entry))))) (isNumber top (wordIn 2 (wordsOf (now (text .entry)))))) (Pair.Of (numberIn 1 (wordsOf (now (text .entry)))) (numberIn 2 (wordsOf (now (text .entry))))) Pair.Unread ⌝ }
+    ensures { λ r. ⌜ r ≡ choose (hasTwo top (wordsOf (now (text .entry)))) (Pair.Of (numberIn 1 (wordsOf (now (text .entry)))) (numberIn 2 (wordsOf (now (text .entry))))) Pair.Unread ⌝ }
 {
     let Number::Of(seat) = number(word(text, 1), MOST) else {
         return Pair::Unread;
@@ -211,17 +211,34 @@ fn read_write(text: &[u8]) -> Said
     Said::Write { seat, room }
 }
 
-// wire SEAT ROOM [FAVOUR]
-fn read_wire(text: &[u8]) -> Said
-    ensures { λ r. ⌜ r ≡ wireCall (wordsOf (now (text .entry))) ⌝ }
+// NAME SEAT ROOM [FAVOUR]
+fn lending(text: &[u8]) -> Pair
+    ensures { λ r. ⌜ r ≡ choose (isLending (wordsOf (now (text .entry)))) (Pair.Of (numberIn 1 (wordsOf (now (text .entry)))) (numberIn 2 (wordsOf (now (text .entry))))) Pair.Unread ⌝ }
 {
     if !ends_in_favour(text, 3) {
-        return Said::NotACall;
+        return Pair::Unread;
     }
-    let Pair::Of(seat, room) = two_numbers(text, MOST_LEGS_LENT) else {
+    two_numbers(text, MOST_LEGS_LENT)
+}
+
+// wire SEAT ROOM [FAVOUR]
+fn read_wire(text: &[u8]) -> Said
+    ensures { λ r. ⌜ r ≡ lendingCall Said.Wire (wordsOf (now (text .entry))) ⌝ }
+{
+    let Pair::Of(seat, room) = lending(text) else {
         return Said::NotACall;
     };
     Said::Wire { seat, room }
+}
+
+// mill SEAT ROOM [FAVOUR]
+fn read_mill(text: &[u8]) -> Said
+    ensures { λ r. ⌜ r ≡ lendingCall Said.Mill (wordsOf (now (text .entry))) ⌝ }
+{
+    let Pair::Of(seat, room) = lending(text) else {
+        return Said::NotACall;
+    };
+    Said::Mill { seat, room }
 }
 
 // bare ROOM XS YS [FAVOUR]
@@ -306,6 +323,9 @@ pub(crate) fn read_call(text: &[u8]) -> Said
     }
     if same(name, b"wire") {
         return read_wire(text);
+    }
+    if same(name, b"mill") {
+        return read_mill(text);
     }
     if same(name, b"bare") {
         return read_bare(text);

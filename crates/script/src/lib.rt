@@ -40,8 +40,8 @@ pub enum Placing {
     Of(usize, usize, Place),
 }
 
-// What a line says: nothing, no call, or a call with its numbers. The map of an opening, the lists of a bare wiring, the shape that a
-// wiring favours and what drops are asked for are read from the line by functions of their own, map and lists into lent buffers.
+// What a line says: nothing, no call, or a call with its numbers. The map of an opening, the lists of a bare wiring, the shape to
+// favour and what drops are asked for are read from the line by functions of their own, map and lists into lent buffers.
 pub enum Said {
     Skip,
     NotACall,
@@ -54,6 +54,7 @@ pub enum Said {
     Redo { seat: usize },
     Write { seat: usize, room: usize },
     Wire { seat: usize, room: usize },
+    Mill { seat: usize, room: usize },
     Bare { room: usize },
     Drops { seat: usize },
     Pins { seat: usize },

@@ -2,7 +2,7 @@
 use mathlib.Core.Path.{_≡_, sym, _∙_, ap}
 use mathlib.Core.Bool.{true, false}
 use mathlib.Core.List.{List, [], _∷_, _++_, append-assoc, append-nil}
-use Prim.Native.Nat.{ℕ, suc, _+_, _≤_, _<_, min}
+use Prim.Native.Nat.{ℕ, suc, _+_, _<_, min}
 use native.Mathlib.Nat.{add-zero, zero-add}
 use native.Mathlib.Omega.{arith}
 use lib.ListN.{length, take, drop, getD}
@@ -14,11 +14,12 @@ use Rattle.refusal.specs.Refusals.{accepted}
 use Rattle.basics.proofs.Tests.{choose-yes, choose-no}
 use Rattle.wiring.specs.declared.Wiring.{Wiring}
 use Rattle.wiring.specs.declared.Laid.{Laid}
-use Rattle.text.specs.Text.{over, answerBytes, Holds}
-use Rattle.printed.specs.Answers.{verdictLine, wiredLine, jobLine}
+use Rattle.mill.specs.declared.Cut.{Cut}
+use Rattle.text.specs.Text.{text, over}
+use Rattle.printed.specs.Answers.{verdictLine, wiredLine, milledLine, jobLine}
 use Rattle.text.proofs.Printing.{Put, take-smaller}
 use Rattle.text.proofs.Steps.{front, first-more}
-use Rattle.shown.specs.Shown.{runsText, legsText, pinText, pinsText, pinsThere, wiredText, laidText, jobText, mapText}
+use Rattle.shown.specs.Shown.{runsText, legsText, pinText, pinsText, pinsThere, wiredText, laidText, milledText, cutText, jobText, mapText}
 
 -- As many elements as are asked for, or all there are.
 pub first-all : {A : Type 0} (l : List A) (count n i : ℕ) → length l ≡ n → i ≡ min count n → take i l ≡ take count l
@@ -68,10 +69,21 @@ laid-refused laid h = sym (choose-no (wiredText (laid .wiring) (laid .list)) (ve
 pub laid-accepted : (laid : Laid) → accepted (laid .wiring .verdict) ≡ true
     → wiredLine (laid .wiring .length) (laid .wiring .runs) (laid .wiring .legs) (laid .wiring .weighed)
     ++ runsText (take (laid .wiring .runs) (laid .wiring .entries))
-    ++ legsText (take (laid .wiring .legs) (laid .list))
+    ++ legsText (text "leg ") (take (laid .wiring .legs) (laid .list))
     ≡ laidText laid
 unfolding laidText wiredText
 laid-accepted laid h = sym (choose-yes (wiredText (laid .wiring) (laid .list)) (verdictLine (laid .wiring .verdict)) h)
+
+-- The answer of a milling with its segments, where it is refused,
+pub cut-refused : (cut : Cut) → accepted (cut .milling .verdict) ≡ false → verdictLine (cut .milling .verdict) ≡ cutText cut
+unfolding cutText
+cut-refused cut h = sym (choose-no (milledText (cut .milling) (cut .list)) (verdictLine (cut .milling .verdict)) h)
+
+-- and where it is accepted.
+pub cut-accepted : (cut : Cut) → accepted (cut .milling .verdict) ≡ true
+    → milledLine (cut .milling .segments) ++ legsText (text "segment ") (take (cut .milling .segments) (cut .list)) ≡ cutText cut
+unfolding cutText milledText
+cut-accepted cut h = sym (choose-yes (milledText (cut .milling) (cut .list)) (verdictLine (cut .milling .verdict)) h)
 
 -- The answer of the wiring of a map, where it is refused,
 pub map-refused : (job : ℕ) (wiring : Wiring) → accepted (wiring .verdict) ≡ false → verdictLine (wiring .verdict) ≡ mapText job wiring

@@ -1,12 +1,12 @@
--- The lines of W3, of refused maps and of a small drawing, computed from the definitions. Assumes nothing.
+-- The lines of W3, of its segments, of refused maps and of a small drawing, computed from the definitions. Assumes nothing.
 use mathlib.Core.Path.{_≡_, refl}
 use mathlib.Core.List.{List, [], _∷_, _++_}
 use lib.IntN.{pos, negsuc}
 use Rattle.basics.specs.Tests.{both, either, choose, anyOf, noTwo}
-use Rattle.basics.specs.Sums.{sum}
+use Rattle.basics.specs.Sums.{sum, different}
 use Rattle.refusal.specs.Refusals.{accepted}
 use Rattle.refusal.specs.Rows.{firstOf}
-use Rattle.refusal.specs.declared.Verdict.the-variants.{MapLength, OtherJob}
+use Rattle.refusal.specs.declared.Verdict.the-variants.{Accepted, RoomTooSmall, MapLength, OtherJob}
 use Rattle.board.specs.declared.Spot.the-variants.{At}
 use Rattle.drawing.specs.declared.Pin.{Pin}
 use Rattle.drawing.specs.Pins.{absent, there, holding, isThere}
@@ -19,15 +19,15 @@ use Rattle.tree.specs.Bends.{bent}
 use Rattle.basics.specs.Sums.{howMany}
 use Rattle.copper.specs.declared.Favour.{Favour}
 use Rattle.copper.specs.Shapes.{lowerCorner, upperCorner, legsOf}
-use Rattle.copper.specs.Length.{sameStep, stepsAcross, stepsUp, stepsOf, stepsOfAll, different, lengthOf}
+use Rattle.copper.specs.Length.{sameStep, stepsAcross, stepsUp, stepsOf, stepsOfAll, lengthOf}
 use Rattle.board.specs.Place.{smaller}
 use Rattle.wiring.specs.declared.Laid.{Laid}
 use Rattle.wiring.specs.Choices.{bentShapes, shapesOf, withShape, withShapes, choicesOf, legsOfChoice, lengthOfChoice, shortest, shortestOf, bestChoice, weighedAt, weighedOf}
-use Rattle.wiring.specs.Answer.{shapedRuns, runEntries, legEntries, turnedAway, answerWith, wiringWith, wiringFavouring, wiringOf}
+use Rattle.wiring.specs.Answer.{shapedRuns, noLeg, runEntries, legEntries, turnedAway, answerWith, wiringWith, wiringFavouring, wiringOf}
 use Rattle.text.specs.Text.{text, textForEach}
 use Rattle.text.specs.Digits.{digits, integer, placeText}
-use Rattle.printed.specs.Answers.{carriedText, toldLine, wiredLine, jobLine, runLine, legLine, drawingLine, pinLine}
-use Rattle.shown.specs.Shown.{entryLine, legText, pinText, pinsText, wiredText, laidText, jobText, mapText, drawnText}
+use Rattle.printed.specs.Answers.{carriedText, toldLine, wiredLine, milledLine, jobLine, runLine, legLine, drawingLine, pinLine}
+use Rattle.shown.specs.Shown.{entryLine, legText, pinText, pinsText, wiredText, laidText, milledText, cutText, jobText, mapText, drawnText}
 
 -- W3: (0,0), (80,40), (80,-40).
 abbrev w3 : Laid
@@ -52,6 +52,20 @@ unfolding wiringOf wiringFavouring wiringWith answerWith turnedAway legEntries r
     pairAt comesBefore byPart byNumber pairOf weightOf distanceOf difference larger sameNumber accepted firstOf both either choose digits integer
     placeText wiredLine runLine legLine entryLine textForEach legText wiredText laidText
 laid-w3 = refl
+
+-- The segments of W3, the entry after them not printed; and a milling without room.
+pub cut-w3 :
+    cutText
+    (record {
+      milling = record { verdict = Accepted; segments = 2 };
+      list =
+          record { from = record { x = pos 0; y = pos 0 }; to = record { x = pos 80; y = pos 0 } }
+          ∷ record { from = record { x = pos 80; y = negsuc 39 }; to = record { x = pos 80; y = pos 40 } } ∷ noLeg ∷ [];
+    })
+    ++ cutText (record { milling = record { verdict = RoomTooSmall; segments = 0 }; list = noLeg ∷ [] })
+    ≡ text "0 segments 2\nsegment 0 0 80 0\nsegment 80 -40 80 40\nrefused 19\n"
+unfolding accepted choose digits integer placeText carriedText toldLine milledLine legLine textForEach legText milledText cutText
+cut-w3 = refl
 
 -- Refused maps: of a wrong length, and with a record of another job.
 pub refused-maps : mapText 7 (turnedAway MapLength .wiring) ++ mapText 7 (turnedAway (OtherJob 2) .wiring) ≡ text "refused 13\nrefused 14 record 2\n"

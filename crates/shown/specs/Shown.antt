@@ -1,4 +1,4 @@
--- Answers of several lines: a wiring with its runs and legs, the wiring of a map, and a drawing with its pins.
+-- Answers of several lines: a wiring with its runs and legs, a milling with its segments, the wiring of a map, and a drawing with its pins.
 use mathlib.Core.List.{List, [], _∷_, _++_}
 use Prim.Native.Nat.{ℕ, suc, _+_}
 use lib.ListN.{take}
@@ -15,8 +15,10 @@ use Rattle.copper.specs.declared.Leg.{Leg}
 use Rattle.wiring.specs.declared.RunEntry.{RunEntry}
 use Rattle.wiring.specs.declared.Wiring.{Wiring}
 use Rattle.wiring.specs.declared.Laid.{Laid}
+use Rattle.mill.specs.declared.Milling.{Milling}
+use Rattle.mill.specs.declared.Cut.{Cut}
 use Rattle.text.specs.Text.{text, textForEach}
-use Rattle.printed.specs.Answers.{verdictLine, wiredLine, jobLine, runLine, legLine, drawingLine, pinLine}
+use Rattle.printed.specs.Answers.{verdictLine, wiredLine, milledLine, jobLine, runLine, legLine, drawingLine, pinLine}
 
 -- The word of a shape.
 abbrev pub shapeWord : Shape → List ℕ
@@ -32,13 +34,13 @@ entryLine run = runLine (run .near) (run .far) (shapeWord (run .shape))
 abbrev pub runsText : List RunEntry → List ℕ
 runsText runs = textForEach entryLine runs
 
--- The line of a leg: its two ends.
-unfoldable pub legText : Leg → List ℕ
-legText leg = legLine (leg .from) (leg .to)
+-- The line of a leg or of a segment: its word, and its two ends.
+unfoldable pub legText : List ℕ → Leg → List ℕ
+legText word leg = legLine word (leg .from) (leg .to)
 
--- A line for each leg.
-abbrev pub legsText : List Leg → List ℕ
-legsText legs = textForEach legText legs
+-- A line for each leg or segment.
+abbrev pub legsText : List ℕ → List Leg → List ℕ
+legsText word legs = textForEach (legText word) legs
 
 -- The line of a pin that is there; none for one that is not.
 unfoldable pub pinText : ℕ → Stand → List ℕ
@@ -59,12 +61,20 @@ unfoldable pub wiredText : Wiring → List Leg → List ℕ
 wiredText wiring legs =
     wiredLine (wiring .length) (wiring .runs) (wiring .legs) (wiring .weighed)
     ++ runsText (take (wiring .runs) (wiring .entries))
-    ++ legsText (take (wiring .legs) legs)
+    ++ legsText (text "leg ") (take (wiring .legs) legs)
 
 -- The answer of a wiring with its legs; where it is refused, the line of its verdict alone.
 unfoldable pub laidText : Laid → List ℕ
 laidText laid =
     choose (accepted (laid .wiring .verdict)) (wiredText (laid .wiring) (laid .list)) (verdictLine (laid .wiring .verdict))
+
+-- An accepted milling: its line, its segments.
+unfoldable pub milledText : Milling → List Leg → List ℕ
+milledText milling list = milledLine (milling .segments) ++ legsText (text "segment ") (take (milling .segments) list)
+
+-- The answer of a milling with its segments; where it is refused, the line of its verdict alone.
+unfoldable pub cutText : Cut → List ℕ
+cutText cut = choose (accepted (cut .milling .verdict)) (milledText (cut .milling) (cut .list)) (verdictLine (cut .milling .verdict))
 
 -- An accepted wiring of a map: its line and its runs.
 unfoldable pub jobText : ℕ → Wiring → List ℕ

@@ -1,13 +1,15 @@
-// Answers of several lines printed into a lent buffer: a wiring, the wiring of a map, a drawing.
+// Answers of several lines printed into a lent buffer: a wiring, a milling, the wiring of a map, a drawing.
 use basics::smaller;
 use board::PINS;
 use copper::Leg;
 use copper::Shape;
 use drawing::Pin;
 use drawing::Stand;
+use mill::Cut;
 use printed::print_drawing;
 use printed::print_job;
 use printed::print_leg;
+use printed::print_milled;
 use printed::print_pin;
 use printed::print_run;
 use printed::print_verdict;
@@ -26,8 +28,8 @@ ghost use Rattle.board.specs.Spots.{mostPins};
 ghost use Rattle.tree.specs.Trees.{mostRuns};
 ghost use Rattle.wiring.specs.Answer.{mostLegs};
 ghost use Rattle.text.specs.Text.{over, answerBytes};
-ghost use Rattle.printed.specs.Answers.{mostRunBytes, mostLegBytes, mostPinBytes};
-ghost use Rattle.shown.specs.Shown.{entryLine, runsText, legText, legsText, pinText, pinsText, pinsThere, laidText, mapText, drawnText};
+ghost use Rattle.printed.specs.Answers.{mostRunBytes, mostWordBytes, mostLegBytes, mostPinBytes};
+ghost use Rattle.shown.specs.Shown.{entryLine, runsText, legText, legsText, pinText, pinsText, pinsThere, laidText, cutText, mapText, drawnText};
 
 // A run, from a position on.
 fn put_entry(run: RunEntry, out: &mut [u8; ANSWER_BYTES], at: usize) -> usize
@@ -60,29 +62,35 @@ fn put_runs(runs: [RunEntry; RUNS], count: usize, out: &mut [u8; ANSWER_BYTES], 
     next
 }
 
-// A leg, from a position on.
-fn put_leg(leg: Leg, out: &mut [u8; ANSWER_BYTES], at: usize) -> usize
-    requires { ⌜ at + mostLegBytes ≤ answerBytes ⌝ }
-    ensures { λ r. ⌜ (r ≡ at + length (legText leg)) × (r ≤ at + mostLegBytes) ⌝ }
-    ensures { λ _. ⌜ now (out .exit) ≡ sets (now (out .entry)) at (legText leg) ⌝ }
+// A leg or a segment, after its word, from a position on.
+fn put_leg(word: &[u8], leg: Leg, out: &mut [u8; ANSWER_BYTES], at: usize) -> usize
+    requires { ⌜ (length (now word) ≤ mostWordBytes) × (at + mostLegBytes ≤ answerBytes) ⌝ }
+    ensures { λ r. ⌜ (r ≡ at + length (legText (now (word .entry)) leg)) × (r ≤ at + mostLegBytes) ⌝ }
+    ensures { λ _. ⌜ now (out .exit) ≡ sets (now (out .entry)) at (legText (now (word .entry)) leg) ⌝ }
 {
     let from = leg.from;
     let to = leg.to;
-    print_leg(from, to, out, at)
+    print_leg(word, from, to, out, at)
 }
 
-// The first legs of a list, from a position on.
-fn put_legs(legs: [Leg; LEGS], count: usize, out: &mut [u8; ANSWER_BYTES], at: usize) -> usize
-    requires { ⌜ at + mostLegs * mostLegBytes ≤ answerBytes ⌝ }
-    ensures { λ r. ⌜ (r ≡ at + length (legsText (take count legs))) × (r ≤ at + mostLegs * mostLegBytes) ⌝ }
-    ensures { λ _. ⌜ now (out .exit) ≡ sets (now (out .entry)) at (legsText (take count legs)) ⌝ }
+// The first legs or segments of a list, each after the same word, from a position on.
+fn put_legs(
+    word: &[u8],
+    legs: [Leg; LEGS],
+    count: usize,
+    out: &mut [u8; ANSWER_BYTES],
+    at: usize,
+) -> usize
+    requires { ⌜ (length (now word) ≤ mostWordBytes) × (at + mostLegs * mostLegBytes ≤ answerBytes) ⌝ }
+    ensures { λ r. ⌜ (r ≡ at + length (legsText (now (word .entry)) (take count legs))) × (r ≤ at + mostLegs * mostLegBytes) ⌝ }
+    ensures { λ _. ⌜ now (out .exit) ≡ sets (now (out .entry)) at (legsText (now (word .entry)) (take count legs)) ⌝ }
 {
     let most = smaller(count, LEGS);
     let mut next = at;
     let mut i = 0;
     while i < most {
         let leg = legs[i];
-        next = put_leg(leg, out, next);
+        next = put_leg(word, leg, out, next);
         i += 1;
     }
     next
@@ -151,7 +159,21 @@ pub fn print_laid(laid: Laid, out: &mut [u8; ANSWER_BYTES]) -> usize
     let weighed = wiring.weighed as usize;
     let one = print_wired(length, wiring.runs, wiring.legs, weighed, out);
     let two = put_runs(runs, wiring.runs, out, one);
-    put_legs(legs, wiring.legs, out, two)
+    put_legs(b"leg ", legs, wiring.legs, out, two)
+}
+
+// Prints the answer of a milling with its segments, and answers how many bytes that is.
+pub fn print_cut(cut: Cut, out: &mut [u8; ANSWER_BYTES]) -> usize
+    ensures { λ r. ⌜ ((r ≡ length (cutText cut)) × (r ≤ answerBytes)) × (now (out .exit) ≡ over (cutText cut) (now (out .entry))) ⌝ }
+{
+    let milling = cut.milling;
+    let verdict = milling.verdict;
+    if !refusal::is_accepted(verdict) {
+        return print_verdict(verdict, out);
+    }
+    let list = cut.list;
+    let next = print_milled(milling.segments, out);
+    put_legs(b"segment ", list, milling.segments, out, next)
 }
 
 // Prints the answer of the wiring of a map, and answers how many bytes that is.

@@ -15,7 +15,8 @@ use Rattle.tree.specs.declared.Run.{Run}
 use Rattle.board.specs.Spots.{mostPins, allWithin}
 use Rattle.tree.specs.Growth.{run, pairAt, pinsOf, runsAmong, runsOf}
 use Rattle.tree.specs.Reached.{runAt}
-use Rattle.tree.specs.Spanning.{Among, first, later, EndsAre, Way, stay, along, Out, top, under, JoinsAll, CutBefore, EitherWay, SameRuns}
+use Rattle.basics.specs.Lists.{Among, first, later}
+use Rattle.tree.specs.Spanning.{EndsAre, Way, stay, along, Out, top, under, JoinsAll, CutBefore, EitherWay, SameRuns}
 use Rattle.tree.proofs.Membership.{without-in}
 use Rattle.tree.proofs.Earliest.{Keyed}
 use Rattle.tree.proofs.Numbering.{keyAt, keyed}

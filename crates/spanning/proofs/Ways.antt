@@ -7,7 +7,8 @@ use mathlib.Core.Logic.{_⊎_, inl, inr, ⊎-elim}
 use Prim.Native.Nat.{ℕ}
 use native.Mathlib.Omega.{arith}
 use Rattle.tree.specs.declared.Run.{Run}
-pub use Rattle.tree.specs.Spanning.{Among, first, later, EndsAre, Way, stay, along, Out, top, under}
+pub use Rattle.basics.specs.Lists.{Among, first, later}
+pub use Rattle.tree.specs.Spanning.{EndsAre, Way, stay, along, Out, top, under}
 
 -- The ends of a run are its ends in either direction.
 pub ends-turn : {r : Run} {a b : ℕ} → EndsAre r a b → EndsAre r b a

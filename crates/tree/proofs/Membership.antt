@@ -15,7 +15,8 @@ use Rattle.board.proofs.Flat.{same-or-not}
 use Rattle.tree.specs.declared.Run.{Run}
 use Rattle.board.specs.Spots.{present}
 use Rattle.tree.specs.Growth.{run, keptIf, pinsFrom, without, runsFrom, runsBetween, pinsOf}
-pub use Rattle.tree.specs.Spanning.{Among, first, later}
+pub use Rattle.basics.specs.Lists.{Among, first, later}
+pub use Rattle.basics.proofs.Members.{in-front, in-back, in-either}
 
 -- No member stands twice.
 pub data Distinct : List ℕ → Type 0 where
@@ -25,22 +26,6 @@ pub data Distinct : List ℕ → Type 0 where
 -- Nor does one of those after the first.
 pub distinct-rest : {a : ℕ} {l : List ℕ} → Distinct (a ∷ l) → Distinct l
 distinct-rest (also out d) = d
-
--- What stands in a list stands in it with others after it,
-pub in-front : {A : Type 0} {a : A} {l : List A} (m : List A) → Among a l → Among a (l ++ m)
-in-front m (first e) = first e
-in-front m (later h) = later (in-front m h)
-
--- and with others before it;
-pub in-back : {A : Type 0} {a : A} (l : List A) {m : List A} → Among a m → Among a (l ++ m)
-in-back [] h = h
-in-back (b ∷ l) h = later (in-back l h)
-
--- and what stands in two lists joined stands in one of them.
-pub in-either : {A : Type 0} {a : A} (l : List A) {m : List A} → Among a (l ++ m) → Among a l ⊎ Among a m
-in-either [] h = inr h
-in-either (b ∷ l) (first e) = inl (first e)
-in-either (b ∷ l) (later h) = ⊎-elim (λ k. inl (later k)) (λ k. inr k) (in-either l h)
 
 -- ---- a number before others, where a test holds
 -- Where the test holds, the number comes first;

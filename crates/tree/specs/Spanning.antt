@@ -6,15 +6,11 @@ use mathlib.Core.List.{List, _∷_}
 use mathlib.Core.Logic.{_⊎_}
 use Prim.Native.Nat.{ℕ, suc}
 use lib.ListN.{length}
+use Rattle.basics.specs.Lists.{Among}
 use Rattle.board.specs.declared.Spot.{Spot}
 use Rattle.tree.specs.declared.Run.{Run}
 use Rattle.tree.specs.Weight.{comesBefore}
 use Rattle.tree.specs.Growth.{pairAt, pinsOf}
-
--- a is one of a list.
-pub data Among {A : Type 0} (a : A) : List A → Type 0 where
-  first : {b : A} {l : List A} → a ≡ b → Among a (b ∷ l)
-  later : {b : A} {l : List A} → Among a l → Among a (b ∷ l)
 
 -- a and b are the two ends of a run.
 abbrev pub EndsAre : Run → ℕ → ℕ → Type 0

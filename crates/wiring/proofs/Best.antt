@@ -24,7 +24,7 @@ use Rattle.copper.specs.declared.Leg.{Leg}
 use Rattle.copper.specs.Shapes.{shapeOf, legsOf}
 use Rattle.copper.specs.Length.{lengthOf}
 use Rattle.copper.specs.Least.{isBent}
-use Rattle.copper.proofs.Sums.{sumBelow, sum-same}
+use Rattle.basics.proofs.Sums.{sumBelow, sum-same}
 use Rattle.least.proofs.Choices.{May}
 use Rattle.least.proofs.Tallies.{leastOf}
 use Rattle.least.proofs.Wired.{legsOfRuns, first-shortest, joinBelow, join-first, runs-joined}

@@ -16,7 +16,7 @@ use Rattle.board.specs.Place.{distanceOf}
 use Rattle.board.specs.Spots.{mostPins, placeAt, allWithin}
 use Rattle.tree.specs.declared.Run.{Run}
 use Rattle.tree.specs.Growth.{run, pinsOf, runsOf}
-use Rattle.tree.specs.Spanning.{Among, first, later}
+use Rattle.basics.specs.Lists.{Among, first, later}
 use Rattle.tree.specs.Trees.{mostRuns}
 use Rattle.spanning.proofs.Spanning.{none-among}
 use Rattle.spanning.proofs.TheTree.{runs-are-the-tree}

@@ -18,7 +18,7 @@ use Rattle.board.specs.Place.{difference, sameNumber, isStraight, smaller, dist
 use Rattle.board.proofs.Board.{number-same, number-self}
 use Rattle.tree.specs.declared.Run.{Run}
 use Rattle.tree.specs.Bends.{bent}
-use Rattle.tree.specs.Spanning.{Among, first, later}
+use Rattle.basics.specs.Lists.{Among, first, later}
 use Rattle.tree.proofs.Membership.{in-either}
 use Rattle.spanning.proofs.Spanning.{none-among}
 use Rattle.copper.specs.declared.Shape.{Shape}

@@ -12,7 +12,7 @@ use Rattle.basics.specs.Tests.{choose}
 use Rattle.tree.specs.Trees.{mostRuns}
 use Rattle.copper.specs.declared.Shape.{Shape}
 use Rattle.copper.specs.declared.Shape.the-variants.{Straight, Lower, Upper}
-use Rattle.copper.proofs.Sums.{oneIf, sumBelow, sum-same}
+use Rattle.basics.proofs.Sums.{oneIf, sumBelow, sum-same}
 use Rattle.least.specs.Asking.{differs, markAt, markOf}
 use Rattle.wiring.specs.Reaching.{upperIn}
 

@@ -10,6 +10,7 @@ use lib.Dec.{ltb}
 use lib.ListN.{length, take}
 use borrow.Author.Tests.{ltb-true, ltb-false}
 use Rattle.basics.specs.Tests.{choose}
+use Rattle.basics.specs.Sums.{different}
 use Rattle.basics.proofs.Lists.{padded-first}
 use Rattle.refusal.specs.Refusals.{accepted}
 use Rattle.refusal.specs.Rows.{firstOf}
@@ -22,7 +23,7 @@ use Rattle.tree.proofs.Membership.{Among, first, later, in-back, in-either}
 use Rattle.spanning.proofs.Spanning.{none-among}
 use Rattle.copper.specs.declared.Shape.{Shape}
 use Rattle.copper.specs.declared.Leg.{Leg}
-use Rattle.copper.specs.Length.{stepsOfAll, different, lengthOf}
+use Rattle.copper.specs.Length.{stepsOfAll, lengthOf}
 use Rattle.wiring.specs.declared.Laid.{Laid}
 use Rattle.wiring.specs.Choices.{choicesOf, legsOfChoice, lengthOfChoice, shortest, shortestOf, bestChoice}
 use Rattle.wiring.specs.Answer.{mostLegs, noLeg, legEntries, turnedAway, answerWith, wiringRows, wiringWith, wiringFavouring}

@@ -28,7 +28,7 @@ use Rattle.tree.specs.Reached.{runAt, reachedPin, reachedNear, reachedPlace}
 use Rattle.spanning.proofs.Positions.{near-before, near-pin, far-pin, first-pin, reached-once}
 use Rattle.spanning.proofs.Bent.{six-leading}
 use Rattle.copper.specs.Least.{isBent}
-use Rattle.copper.proofs.Sums.{sumBelow, sum-same, sum-none, sum-only}
+use Rattle.basics.proofs.Sums.{sumBelow, sum-same, sum-none, sum-only}
 use Rattle.least.specs.Asking.{doubledIf}
 use Rattle.least.specs.Asking as asked
 use Rattle.least.proofs.Whole as whole

@@ -6,13 +6,14 @@ use mathlib.Core.List.{List, _∷_, _++_, map}
 use mathlib.Core.Logic.{_⊎_}
 use Prim.Native.Nat.{ℕ, _*_, _-_, _≤_, _<_}
 use lib.ListN.{length, take, drop, replicate}
+use Rattle.basics.specs.Lists.{Among}
 use Rattle.refusal.specs.Refusals.{accepted}
 use Rattle.board.specs.declared.Spot.{Spot}
 use Rattle.board.specs.Place.{distanceOf}
 use Rattle.board.specs.Spots.{placeAt}
 use Rattle.tree.specs.declared.Run.{Run}
 use Rattle.tree.specs.Growth.{run, pinsOf, runsOf}
-use Rattle.tree.specs.Spanning.{Among, IsTree}
+use Rattle.tree.specs.Spanning.{IsTree}
 use Rattle.tree.specs.Trees.{mostRuns}
 use Rattle.copper.specs.declared.Shape.{Shape}
 use Rattle.copper.specs.declared.Shape.the-variants.{Straight}

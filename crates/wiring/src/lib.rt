@@ -62,7 +62,7 @@ fn no_run() -> RunEntry
 }
 
 // A leg that is not filled.
-fn no_leg() -> Leg
+pub fn no_leg() -> Leg
     ensures { λ r. ⌜ r ≡ noLeg ⌝ }
 {
     let middle = board::middle();

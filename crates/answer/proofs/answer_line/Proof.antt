@@ -108,17 +108,23 @@ wire-requires c κs = search needs
 enum-known-said-10 : tie.Need-enum-known-said-10
 enum-known-said-10 c = search needs
 
-wire-bare-requires : tie.Need-wire-bare-requires
-wire-bare-requires c κs = search needs
+mill-requires : tie.Need-mill-requires
+mill-requires c κs = search needs
 
 enum-known-said-11 : tie.Need-enum-known-said-11
 enum-known-said-11 c = search needs
 
-drops-requires : tie.Need-drops-requires
-drops-requires c κs = search needs
+wire-bare-requires : tie.Need-wire-bare-requires
+wire-bare-requires c κs = search needs
 
 enum-known-said-12 : tie.Need-enum-known-said-12
 enum-known-said-12 c = search needs
+
+drops-requires : tie.Need-drops-requires
+drops-requires c κs = search needs
+
+enum-known-said-13 : tie.Need-enum-known-said-13
+enum-known-said-13 c = search needs
 
 show-pins-requires : tie.Need-show-pins-requires
 show-pins-requires c κs = search needs
@@ -231,7 +237,7 @@ returns-12 c =
     let r = o .before .before in
     let s = begun r in
     answers (s .args .desk) (s .args .number) (s .args .line .now) (s .args .out .now) (r .read-line .ensures) (o .said10 .given .1)
-    (refl, c .wire-bare .ensures)
+    (refl, c .mill .ensures)
 
 returns-13 : tie.Need-returns-13
 unfolding followed printed
@@ -240,7 +246,7 @@ returns-13 c =
     let r = o .before .before in
     let s = begun r in
     answers (s .args .desk) (s .args .number) (s .args .line .now) (s .args .out .now) (r .read-line .ensures) (o .said11 .given .1)
-    (refl, c .drops .ensures)
+    (refl, c .wire-bare .ensures)
 
 returns-14 : tie.Need-returns-14
 unfolding followed printed
@@ -249,6 +255,15 @@ returns-14 c =
     let r = o .before .before in
     let s = begun r in
     answers (s .args .desk) (s .args .number) (s .args .line .now) (s .args .out .now) (r .read-line .ensures) (o .said12 .given .1)
+    (refl, c .drops .ensures)
+
+returns-15 : tie.Need-returns-15
+unfolding followed printed
+returns-15 c =
+    let o = c .before .before .before in
+    let r = o .before .before in
+    let s = begun r in
+    answers (s .args .desk) (s .args .number) (s .args .line .now) (s .args .out .now) (r .read-line .ensures) (o .said13 .given .1)
     (refl, c .show-pins .ensures)
 
 pub answer-line-spec : {M : Type 1} → statement M
@@ -284,10 +299,12 @@ answer-line-spec =
     enum-known-said-9
     wire-requires
     enum-known-said-10
-    wire-bare-requires
+    mill-requires
     enum-known-said-11
-    drops-requires
+    wire-bare-requires
     enum-known-said-12
+    drops-requires
+    enum-known-said-13
     show-pins-requires
     returns
     returns-2
@@ -302,4 +319,5 @@ answer-line-spec =
     returns-11
     returns-12
     returns-13
-    returns-14)
+    returns-14
+    returns-15)

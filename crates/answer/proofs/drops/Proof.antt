@@ -1,6 +1,9 @@
 -- `answer::drops` meets its contract. Assumes nothing.
+use Rattle.desk.specs.declared.Dropped.{Dropped}
+use Rattle.desk.specs.Desk.{droppedOf}
 use Rattle.script.specs.Said.{sheetGiven, loadsGiven}
-use Rattle.answer.proofs.Telling.{drops-done}
+use Rattle.printed.specs.Answers.{lostLine}
+use Rattle.answer.proofs.Telling.{asked}
 use borrow.Author.Needs.{needs}
 use Rattle.answer.proofs.drops.Statement.{statement}
 use Rattle.answer.proofs.drops.Tie as tie
@@ -21,8 +24,8 @@ returns : tie.Need-returns
 returns c =
     let w = c .before .before .before in
     let g = w .before in
-    let s = g .before .before .before in
-    drops-done (s .args .desk) (s .args .out .now) (s .args .seat) (loadsGiven (s .args .line .now)) (sheetGiven (s .args .line .now))
+    let s = g .before .before .before .args in
+    asked (λ (w : Dropped). lostLine (w .lost)) (droppedOf (s .desk) (s .seat) (loadsGiven (s .line .now)) (sheetGiven (s .line .now))) (s .out .now)
     (rw (g .before .given-loads .ensures, g .given-sheet .ensures) at (w .drops .ensures)) (c .print-drops .ensures)
 
 pub drops-spec : {M : Type 1} → statement M

@@ -1,6 +1,9 @@
 -- `answer::wire` meets its contract. Assumes nothing.
+use Rattle.desk.specs.declared.Wired.{Wired}
+use Rattle.desk.specs.Desk.{wiredOf}
 use Rattle.script.specs.Said.{favourGiven}
-use Rattle.answer.proofs.Telling.{wire-done}
+use Rattle.shown.specs.Shown.{laidText}
+use Rattle.answer.proofs.Telling.{asked}
 use borrow.Author.Needs.{needs}
 use Rattle.answer.proofs.wire.Statement.{statement}
 use Rattle.answer.proofs.wire.Tie as tie
@@ -18,8 +21,8 @@ returns : tie.Need-returns
 returns c =
     let w = c .before .before .before in
     let g = w .before in
-    let s = g .before .before in
-    wire-done (s .args .desk) (s .args .out .now) (s .args .seat) (s .args .room) (favourGiven 3 (s .args .line .now))
+    let s = g .before .before .args in
+    asked (λ (w : Wired). laidText (w .laid)) (wiredOf (s .desk) (s .seat) (s .room) (favourGiven 3 (s .line .now))) (s .out .now)
     (rw (g .given-favour .ensures) at (w .wire .ensures)) (c .print-laid .ensures)
 
 pub wire-spec : {M : Type 1} → statement M

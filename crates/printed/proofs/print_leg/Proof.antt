@@ -8,14 +8,11 @@ use borrow.Author.Needs.{needs}
 use Rattle.printed.proofs.print_leg.Statement.{statement}
 use Rattle.printed.proofs.print_leg.Tie as tie
 
-slice-aggregate-put-place : tie.Need-slice-aggregate-put-place
-slice-aggregate-put-place c = search needs
-
 put-place-requires : tie.Need-put-place-requires
 put-place-requires c κs = search needs
 
-slice-aggregate-put-place-2 : tie.Need-slice-aggregate-put-place-2
-slice-aggregate-put-place-2 c = search needs
+slice-aggregate-put-place : tie.Need-slice-aggregate-put-place
+slice-aggregate-put-place c = search needs
 
 put-place-requires-2 : tie.Need-put-place-requires-2
 put-place-requires-2 c κs = search needs
@@ -35,7 +32,7 @@ returns c =
     let d = c .put .ensures in
     let h =
     put-all3 (s .out .now) (s .at)
-    (placeText (text "leg ") (s .a))
+    (placeText (s .word .now) (s .a))
     (placeText (text " ") (s .b))
     (text "\n")
     (a .0 .0, a .1)
@@ -47,9 +44,8 @@ pub print-leg-spec : {M : Type 1} → statement M
 print-leg-spec =
     tie.close
     (tie.spec
-    slice-aggregate-put-place
     put-place-requires
-    slice-aggregate-put-place-2
+    slice-aggregate-put-place
     put-place-requires-2
     slice-aggregate-put
     put-requires

@@ -4,6 +4,7 @@ use native.Mathlib.Omega.{arith}
 use borrow.Author.Tests.{not-true, not-false}
 use lib.ListN.{take}
 use Rattle.printed.specs.Answers.{mostLineBytes, wiredLine}
+use Rattle.text.specs.Text.{text}
 use Rattle.text.proofs.Printing.{put-as, put-all3, line, held}
 use Rattle.shown.specs.Shown.{runsText, legsText, laidText}
 use Rattle.shown.proofs.Lines.{begun, laid-refused, laid-accepted}
@@ -29,26 +30,29 @@ print-wired-requires c κs = search needs
 put-runs-requires : tie.Need-put-runs-requires
 put-runs-requires c κs = search needs
 
+slice-aggregate-put-legs : tie.Need-slice-aggregate-put-legs
+slice-aggregate-put-legs c = search needs
+
 put-legs-requires : tie.Need-put-legs-requires
 put-legs-requires c κs = search needs
 
 returns-2 : tie.Need-returns-2
 returns-2 c =
-    let s = c .before .before .before .before .before .before .before .before .before .before .before .args in
+    let s = c .before .before .before .before .before .before .before .before .before .before .before .before .args in
     let w = s .laid .wiring in
-    let a = c .before .before .before .before .print-wired .ensures in
-    let b = c .before .before .put-runs .ensures in
+    let a = c .before .before .before .before .before .print-wired .ensures in
+    let b = c .before .before .before .put-runs .ensures in
     let d = c .put-legs .ensures in
     let j =
-    sym (c .before .before .before .before .before .before .before .before .before .is-accepted .ensures)
-    ∙ not-false _ (c .before .before .before .before .before .before .before .before .if1 .left) in
+    sym (c .before .before .before .before .before .before .before .before .before .before .is-accepted .ensures)
+    ∙ not-false _ (c .before .before .before .before .before .before .before .before .before .if1 .left) in
     let h =
     line (s .out .now) (laidText (s .laid))
     (put-as (s .out .now) 0 (laid-accepted (s .laid) j)
     (put-all3 (s .out .now) 0
     (wiredLine (w .length) (w .runs) (w .legs) (w .weighed))
     (runsText (take (w .runs) (w .entries)))
-    (legsText (take (w .legs) (s .laid .list)))
+    (legsText (text "leg ") (take (w .legs) (s .laid .list)))
     (begun (s .out .now) (wiredLine (w .length) (w .runs) (w .legs) (w .weighed)) (a .0 .0) (a .1))
     (b .0 .0, b .1)
     (d .0 .0, d .1))) in
@@ -63,5 +67,6 @@ print-laid-spec =
     returns
     print-wired-requires
     put-runs-requires
+    slice-aggregate-put-legs
     put-legs-requires
     returns-2)

@@ -14,10 +14,10 @@ use Rattle.shown.proofs.put_legs.Statement.{statement}
 use Rattle.shown.proofs.put_legs.Tie as tie
 
 abbrev Inv-loop : tie.InvT-loop
-Inv-loop count out₀ at legs most next₀ i₀ out next i = ((i ≤ most) × (next ≤ at + i * mostLegBytes)) × Put out₀ at (textForEach legText (take i legs)) next out
+Inv-loop word count out₀ at legs most next₀ i₀ out next i = ((i ≤ most) × (next ≤ at + i * mostLegBytes)) × Put out₀ at (textForEach (legText word) (take i legs)) next out
 
 abbrev μ-loop : tie.MeasureT-loop
-μ-loop count out₀ at legs most next₀ i₀ out next i = most - i
+μ-loop word count out₀ at legs most next₀ i₀ out next i = most - i
 
 smaller-requires : tie.Need-smaller-requires Inv-loop μ-loop
 smaller-requires c κs = search needs
@@ -43,20 +43,20 @@ loop-less c = search needs
 
 loop-again : tie.Need-loop-again Inv-loop μ-loop
 loop-again c =
-    let s = c .before .before .before .before .before .before .args in
+    let s = c .before .before .before .before .before .before .before .args in
     let q = c .before .before .before .before .loop in
     let e = c .put-leg .ensures in
-    let a = getD (s .t1) (q .i) noLeg in
-    let h = then-put (s .out .now) (s .at) (textForEach legText (take (q .i) (s .t1))) (legText a) (q .inv .1) (e .0 .0, e .1) in
-    ((omega arith, omega (arith, e .0 .1)), put-as (s .out .now) (s .at) (each-more legText noLeg (s .t1) (q .i) (omega arith)) h)
+    let a = getD (s .t2) (q .i) noLeg in
+    let h = then-put (s .out .now) (s .at) (textForEach (legText (s .word .now)) (take (q .i) (s .t2))) (legText (s .word .now) a) (q .inv .1) (e .0 .0, e .1) in
+    ((omega arith, omega (arith, e .0 .1)), put-as (s .out .now) (s .at) (each-more (legText (s .word .now)) noLeg (s .t2) (q .i) (omega arith)) h)
 
 returns : tie.Need-returns Inv-loop μ-loop
 returns c =
-    let s = c .before .before .before .args in
+    let s = c .before .before .before .before .args in
     let q = c .before .loop in
     let n = c .before .before .smaller .ensures in
-    let e = first-all (s .t1) (s .count) mostLegs (q .i) (omega arith) (omega (arith, n)) in
-    let h = put-as (s .out .now) (s .at) (ap (textForEach legText) e) (q .inv .1) in
+    let e = first-all (s .t2) (s .count) mostLegs (q .i) (omega arith) (omega (arith, n)) in
+    let h = put-as (s .out .now) (s .at) (ap (textForEach (legText (s .word .now))) e) (q .inv .1) in
     ((h .0, omega (arith, n)), h .1)
 
 pub put-legs-spec : {M : Type 1} → statement M

@@ -42,6 +42,9 @@ at10 c = at9 (c .before .before .before)
 abbrev at11 : tie.Else11 → tie.After-word
 at11 c = at10 (c .before .before .before)
 
+abbrev at12 : tie.Else12 → tie.After-word
+at12 c = at11 (c .before .before .before)
+
 word-requires : tie.Need-word-requires
 word-requires c κs = search needs
 
@@ -186,14 +189,14 @@ slice-aggregate-same-10 c = search needs
 same-requires-10 : tie.Need-same-requires-10
 same-requires-10 c κs = search needs
 
-read-bare-requires : tie.Need-read-bare-requires
-read-bare-requires c κs = search needs
+read-mill-requires : tie.Need-read-mill-requires
+read-mill-requires c κs = search needs
 
 returns-10 : tie.Need-returns-10
 unfolding saidAs same both choose
 returns-10 c =
-    c .read-bare .ensures
-    ∙ named "bare" _ (at9 (c .before .before .before .before) .word .ensures) (sym (c .before .before .same10 .ensures) ∙ c .before .if10 .taken)
+    c .read-mill .ensures
+    ∙ named "mill" _ (at9 (c .before .before .before .before) .word .ensures) (sym (c .before .before .same10 .ensures) ∙ c .before .if10 .taken)
 
 slice-aggregate-same-11 : tie.Need-slice-aggregate-same-11
 slice-aggregate-same-11 c = search needs
@@ -201,14 +204,14 @@ slice-aggregate-same-11 c = search needs
 same-requires-11 : tie.Need-same-requires-11
 same-requires-11 c κs = search needs
 
-read-drops-requires : tie.Need-read-drops-requires
-read-drops-requires c κs = search needs
+read-bare-requires : tie.Need-read-bare-requires
+read-bare-requires c κs = search needs
 
 returns-11 : tie.Need-returns-11
 unfolding saidAs same both choose
 returns-11 c =
-    c .read-drops .ensures
-    ∙ named "drops" _ (at10 (c .before .before .before .before) .word .ensures) (sym (c .before .before .same11 .ensures) ∙ c .before .if11 .taken)
+    c .read-bare .ensures
+    ∙ named "bare" _ (at10 (c .before .before .before .before) .word .ensures) (sym (c .before .before .same11 .ensures) ∙ c .before .if11 .taken)
 
 slice-aggregate-same-12 : tie.Need-slice-aggregate-same-12
 slice-aggregate-same-12 c = search needs
@@ -216,18 +219,34 @@ slice-aggregate-same-12 c = search needs
 same-requires-12 : tie.Need-same-requires-12
 same-requires-12 c κs = search needs
 
-read-pins-requires : tie.Need-read-pins-requires
-read-pins-requires c κs = search needs
+read-drops-requires : tie.Need-read-drops-requires
+read-drops-requires c κs = search needs
 
 returns-12 : tie.Need-returns-12
 unfolding saidAs same both choose
 returns-12 c =
-    c .read-pins .ensures
-    ∙ named "pins" _ (at11 (c .before .before .before .before) .word .ensures) (sym (c .before .before .same12 .ensures) ∙ c .before .if12 .taken)
+    c .read-drops .ensures
+    ∙ named "drops" _ (at11 (c .before .before .before .before) .word .ensures) (sym (c .before .before .same12 .ensures) ∙ c .before .if12 .taken)
+
+slice-aggregate-same-13 : tie.Need-slice-aggregate-same-13
+slice-aggregate-same-13 c = search needs
+
+same-requires-13 : tie.Need-same-requires-13
+same-requires-13 c κs = search needs
+
+read-pins-requires : tie.Need-read-pins-requires
+read-pins-requires c κs = search needs
 
 returns-13 : tie.Need-returns-13
+unfolding saidAs same both choose
 returns-13 c =
-    let e11 = c .before .before .before in
+    c .read-pins .ensures
+    ∙ named "pins" _ (at12 (c .before .before .before .before) .word .ensures) (sym (c .before .before .same13 .ensures) ∙ c .before .if13 .taken)
+
+returns-14 : tie.Need-returns-14
+returns-14 c =
+    let e12 = c .before .before .before in
+    let e11 = e12 .before .before .before in
     let e10 = e11 .before .before .before in
     let e9 = e10 .before .before .before in
     let e8 = e9 .before .before .before in
@@ -250,7 +269,8 @@ returns-13 c =
     (sym (e9 .before .same9 .ensures) ∙ e9 .if9 .left)
     (sym (e10 .before .same10 .ensures) ∙ e10 .if10 .left)
     (sym (e11 .before .same11 .ensures) ∙ e11 .if11 .left)
-    (sym (c .before .same12 .ensures) ∙ c .if12 .left)
+    (sym (e12 .before .same12 .ensures) ∙ e12 .if12 .left)
+    (sym (c .before .same13 .ensures) ∙ c .if13 .left)
 
 pub read-call-spec : {M : Type 1} → statement M
 read-call-spec =
@@ -295,14 +315,18 @@ read-call-spec =
     returns-9
     slice-aggregate-same-10
     same-requires-10
-    read-bare-requires
+    read-mill-requires
     returns-10
     slice-aggregate-same-11
     same-requires-11
-    read-drops-requires
+    read-bare-requires
     returns-11
     slice-aggregate-same-12
     same-requires-12
-    read-pins-requires
+    read-drops-requires
     returns-12
-    returns-13)
+    slice-aggregate-same-13
+    same-requires-13
+    read-pins-requires
+    returns-13
+    returns-14)

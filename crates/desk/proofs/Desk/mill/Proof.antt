@@ -1,0 +1,20 @@
+-- `desk::Desk::mill` meets its contract, by what is found. Assumes nothing.
+use borrow.Author.Needs.{needs}
+use Rattle.desk.proofs.Writing.{found-lawful, mill-cut}
+use Rattle.desk.proofs.Desk.mill.Statement.{statement}
+use Rattle.desk.proofs.Desk.mill.Tie as tie
+
+find-requires : tie.Need-find-requires
+find-requires c κs = search needs
+
+feed-milled-requires : tie.Need-feed-milled-requires
+feed-milled-requires c κs = found-lawful (c .before .args .self) (c .before .args .seat) (c .find .ensures)
+
+returns : tie.Need-returns
+returns c =
+    let f = c .before in
+    let a = f .before .args in
+    mill-cut (a .self) (a .seat) (f .find .ensures) (a .room) (a .favour) (c .feed-milled .ensures)
+
+pub mill-spec : {M : Type 1} → statement M
+mill-spec = tie.close (tie.spec find-requires feed-milled-requires returns)

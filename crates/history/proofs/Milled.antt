@@ -1,0 +1,156 @@
+-- THE COPPER OF A SEAT AS SEGMENTS, on any desk: the verdict is what the call is answered, each refusal given exactly under its condition; accepted, the segments are
+-- what document 02, [5] says of the seat's wiring, after any calls of the pins of its past; refused, there are none, and a lent list is as it was. Assumes nothing.
+use mathlib.Core.Path.{_≡_, refl, sym, ap, _∙_, subst}
+use mathlib.Core.Bool.{true, false}
+use mathlib.Core.List.{List, []}
+use Prim.Native.Nat.{ℕ}
+use borrow.Author.Tests.{not-false}
+use lib.ListN.{length, take, drop}
+use lib.Seq.{take-at, drop-at}
+use Rattle.basics.specs.Tests.{choose}
+use Rattle.basics.proofs.Tests.{choose-yes, choose-no}
+use Rattle.refusal.specs.Refusals.{accepted}
+use Rattle.refusal.specs.Rows.{Exactly}
+use Rattle.refusal.specs.declared.Verdict.the-variants.{Accepted}
+use Rattle.refusal.proofs.Rows.{none-accepted, none-before, none-after, none-holds}
+use Rattle.drawing.specs.declared.Pin.{Pin}
+use Rattle.drawing.specs.Pins.{feedOf}
+use Rattle.drawing.proofs.Rules.{lawful-parts, feed-long}
+use Rattle.copper.specs.declared.Favour.{Favour}
+use Rattle.copper.specs.declared.Leg.{Leg}
+use Rattle.tree.specs.Trees.{treeRows}
+use Rattle.wiring.specs.declared.Laid.{Laid}
+use Rattle.wiring.specs.Answer.{mostLegs}
+use Rattle.wiring.specs.Demand.{legsIn}
+use Rattle.mill.specs.declared.Cut.{Cut}
+use Rattle.mill.specs.Segments.{SameSteps}
+use Rattle.mill.specs.Answer.{copperOf, millRows, cutWith, stripOfCut}
+use Rattle.mill.specs.Demand.{segmentsIn, CleanCopper}
+use Rattle.mill.proofs.Refusing.{wired-verdict}
+use Rattle.mill.proofs.Demand.{cut-accepted, copper-demanded, clean-in-list}
+use Rattle.lent.specs.Lent.{filledWith}
+use Rattle.rows.specs.Calls.{Call, asking, milling}
+use Rattle.rows.proofs.Rows.{rows-apart}
+use Rattle.rows.proofs.Passed.{OpenSeat, Passes, passes}
+use Rattle.desk.specs.declared.Desk.{Desk}
+use Rattle.desk.specs.Desk.{seatOf, lookAt, namingAt, rowsAt, answerOf, step, emptyDesk, wiredOf, milledOf, milledSeatOf, segmentsLentOf}
+use Rattle.desk.proofs.Sound.{pins-lawful}
+use Rattle.history.specs.History.{pinsIn, pastOf, nothing, history, after}
+use Rattle.history.proofs.Refused.{each-refusal-exactly}
+use Rattle.history.proofs.Leaving.{open-as-past, wired-is}
+
+-- ---- on any desk
+module _ (d : Desk) (s room : ℕ) (favour : Favour) where
+  -- The verdict in the answer is what the call is answered,
+  pub milled-verdict : milledOf d s room favour .cut .milling .verdict ≡ answerOf d (asking s (milling room favour))
+  unfolding milledOf answerOf cutWith
+  milled-verdict = refl
+
+  -- so each of its refusals is given exactly under its condition, and after those before it.
+  pub milled-exactly : Exactly (rowsAt d (asking s (milling room favour))) (milledOf d s room favour .cut .milling .verdict)
+  unfolding step
+  milled-exactly = rw milled-verdict (each-refusal-exactly d (asking s (milling room favour)))
+
+  -- The answer hands back the desk that it was given.
+  pub milled-leaves-the-desk : milledOf d s room favour .desk ≡ d
+  unfolding milledOf
+  milled-leaves-the-desk = refl
+
+  -- A refusal is its verdict, with no segments.
+  pub refused-has-no-segments : accepted (milledOf d s room favour .cut .milling .verdict) ≡ false
+      → milledOf d s room favour .cut ≡ cutWith (milledOf d s room favour .cut .milling .verdict) []
+  unfolding milledOf cutWith
+  refused-has-no-segments e = ap (cutWith _) (choose-no _ _ e)
+
+  module _ (e : accepted (milledOf d s room favour .cut .milling .verdict) ≡ true) where
+    -- An accepted call finds the seat open,
+    pub milled-open : OpenSeat (lookAt d s)
+    unfolding milledOf cutWith Passes
+    milled-open = passes (lookAt d s) (asking s (milling room favour)) e .0
+
+    -- and gives the segments of the copper of its drawing's feed:
+    pub milled-is : milledOf d s room favour .cut ≡ cutWith Accepted (copperOf (feedOf (seatOf d s .pins)) favour)
+    unfolding milledOf
+    milled-is = cut-accepted (rowsAt d (asking s (milling room favour))) (rows-apart (lookAt d s) (asking s (milling room favour))) _ e
+
+    -- Then a wiring of the seat with room for 62 legs is accepted too,
+    pub milled-is-wired : accepted (wiredOf d s mostLegs favour .laid .wiring .verdict) ≡ true
+    unfolding milledOf cutWith wiredOf accepted
+    milled-is-wired =
+        let feed = feedOf (seatOf d s .pins) in
+        let o = milled-open in
+        let l = pins-lawful d (not-false _ (o .unbroken)) s (o .low) (o .shown) in
+        let n = none-holds (rowsAt d (asking s (milling room favour))) (rows-apart (lookAt d s) (asking s (milling room favour))) e in
+        let named = none-accepted (namingAt d s) (none-before (namingAt d s) (millRows feed room favour) n) in
+        let treed = none-accepted (treeRows feed) (none-before (treeRows feed) _ (none-after (namingAt d s) (millRows feed room favour) n)) in
+        ap accepted (ap (λ (w : Laid). w .wiring .verdict) (choose-yes _ _ (ap accepted named)) ∙ wired-verdict feed favour (feed-long _ l) ∙ treed)
+
+    -- and beside any accepted wiring of it the segments are WHAT DOCUMENT 02, [5] SAYS.
+    pub milled-is-clean : (legs : ℕ) → accepted (wiredOf d s legs favour .laid .wiring .verdict) ≡ true
+        → CleanCopper (wiredOf d s legs favour .laid) (milledOf d s room favour .cut)
+    milled-is-clean legs z =
+        let o = milled-open in
+        let l = pins-lawful d (not-false _ (o .unbroken)) s (o .low) (o .shown) in
+        let w = wired-is d s legs favour z in
+        subst (λ laid. CleanCopper laid (milledOf d s room favour .cut)) (sym w)
+        (copper-demanded (feedOf (seatOf d s .pins)) favour (feed-long _ l) (lawful-parts _ l .board) legs (rw w at z) milled-is)
+
+-- ANY TWO WIRINGS THAT COVER THE SAME STEPS GIVE THE SAME LIST, of whatever seats, desks and shapes to favour.
+pub same-copper : (d e : Desk) (s t room room' legs legs' : ℕ) (f g : Favour)
+    → accepted (milledOf d s room f .cut .milling .verdict) ≡ true → accepted (milledOf e t room' g .cut .milling .verdict) ≡ true
+    → accepted (wiredOf d s legs f .laid .wiring .verdict) ≡ true → accepted (wiredOf e t legs' g .laid .wiring .verdict) ≡ true
+    → SameSteps (legsIn (wiredOf d s legs f .laid)) (legsIn (wiredOf e t legs' g .laid))
+    → (segmentsIn (milledOf d s room f .cut) ≡ segmentsIn (milledOf e t room' g .cut)) × (milledOf d s room f .cut .milling .segments ≡ milledOf e t room' g .cut .milling .segments)
+same-copper d e s t room room' legs legs' f g m n y z c =
+    let a = milled-is-clean d s room f m legs y in
+    let b = milled-is-clean e t room' g n legs' z in
+    let same = b .only (segmentsIn (milledOf d s room f .cut)) (a .clean)
+    (record { there = λ step h. c .there step (a .covers .there step h); back = λ step h. a .covers .back step (c .back step h) }) in
+    (same, a .number ∙ ap length same ∙ sym (b .number))
+
+-- ---- into a lent list
+module _ (d : Desk) (s : ℕ) (lent : List Leg) (favour : Favour) where
+  -- The answer of the call with its segments by value, with the list's length as the room.
+  abbrev cut : Cut
+  cut = milledOf d s (length lent) favour .cut
+
+  -- The verdict is what the call is answered,
+  pub lent-milled-verdict : milledSeatOf d s lent favour .milling .verdict ≡ answerOf d (asking s (milling (length lent) favour))
+  unfolding milledSeatOf
+  lent-milled-verdict = milled-verdict d s (length lent) favour
+
+  -- and the desk stays as it is.
+  pub lent-milled-leaves-the-desk : milledSeatOf d s lent favour .desk ≡ d
+  unfolding milledSeatOf
+  lent-milled-leaves-the-desk = refl
+
+  -- A refused call leaves the list as it was, and has no segments.
+  pub refused-leaves-the-segments : accepted (milledSeatOf d s lent favour .milling .verdict) ≡ false
+      → (segmentsLentOf d s lent favour ≡ lent) × (milledSeatOf d s lent favour .milling .segments ≡ 0)
+  unfolding milledSeatOf segmentsLentOf cutWith filledWith
+  refused-leaves-the-segments e =
+      let n = refused-has-no-segments d s (length lent) favour e in
+      (ap (λ (c : Cut). filledWith (stripOfCut c) lent) n, ap (λ (c : Cut). c .milling .segments) n)
+
+  module _ (e : accepted (milledSeatOf d s lent favour .milling .verdict) ≡ true) (legs : ℕ) (z : accepted (wiredOf d s legs favour .laid .wiring .verdict) ≡ true) where
+    -- An accepted one fills the first entries with the segments,
+    pub lent-begins : take (cut .milling .segments) (segmentsLentOf d s lent favour) ≡ segmentsIn cut
+    unfolding milledSeatOf segmentsLentOf filledWith
+    lent-begins = take-at (segmentsIn cut) _ (cut .milling .segments) (sym (milled-is-clean d s (length lent) favour e legs z .number))
+
+    -- entries after the last segment keep their contents,
+    pub lent-keeps : drop (cut .milling .segments) (segmentsLentOf d s lent favour) ≡ drop (cut .milling .segments) lent
+    unfolding milledSeatOf segmentsLentOf filledWith
+    lent-keeps = drop-at (segmentsIn cut) _ (cut .milling .segments) (sym (milled-is-clean d s (length lent) favour e legs z .number))
+
+    -- and the answer with that list is what document 02, [5] says.
+    pub lent-is-clean : CleanCopper (wiredOf d s legs favour .laid) (record { milling = milledSeatOf d s lent favour .milling; list = segmentsLentOf d s lent favour })
+    unfolding milledSeatOf
+    lent-is-clean = clean-in-list (segmentsLentOf d s lent favour) lent-begins (milled-is-clean d s (length lent) favour e legs z)
+
+-- AFTER ANY CALLS from the empty desk: the segments are those of the copper of the pins of the seat's past.
+pub milled-after-calls : (calls : List Call) (s room : ℕ) (favour : Favour) → accepted (milledOf (after emptyDesk calls) s room favour .cut .milling .verdict) ≡ true
+    → milledOf (after emptyDesk calls) s room favour .cut ≡ cutWith Accepted (copperOf (feedOf (pinsIn (pastOf (history nothing calls) s))) favour)
+milled-after-calls calls s room favour e =
+    let d = after emptyDesk calls in
+    milled-is d s room favour e ∙ ap (λ (l : List Pin). cutWith Accepted (copperOf (feedOf l) favour)) (open-as-past calls s (milled-open d s room favour e) .1)

@@ -1,0 +1,2 @@
+-- What the words of spans mean.
+pub mod Spans

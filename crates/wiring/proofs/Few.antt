@@ -1,0 +1,30 @@
+-- No feed needs more than 62 legs: at most two a run. From a feed of 32 spots.
+use mathlib.Core.Path.{_≡_}
+use mathlib.Core.List.{List, [], _∷_}
+use Prim.Native.Nat.{_*_, _≤_}
+use native.Mathlib.Omega.{arith}
+use lib.ListN.{length, length-append}
+use Rattle.board.specs.declared.Spot.{Spot}
+use Rattle.board.specs.Spots.{mostPins}
+use Rattle.tree.specs.declared.Run.{Run}
+use Rattle.tree.specs.Growth.{runsOf}
+use Rattle.tree.proofs.Answer.{runs-few}
+use Rattle.copper.specs.declared.Shape.{Shape}
+use Rattle.copper.specs.Shapes.{legsOf}
+use Rattle.wiring.specs.Choices.{legsOfChoice, nearEnd, farEnd}
+use Rattle.wiring.specs.Answer.{mostLegs}
+use Rattle.wiring.proofs.Filling.{legs-many, leg-small}
+
+-- The legs of a choice are at most twice as many as the runs.
+choice-few : (feed : List Spot) (runs : List Run) (shapes : List Shape) → length (legsOfChoice feed runs shapes) ≤ 2 * length runs
+unfolding legsOfChoice
+choice-few feed [] shapes = omega arith
+choice-few feed (r ∷ runs) [] = omega arith
+choice-few feed (r ∷ runs) (s ∷ shapes) =
+    let a = nearEnd feed r in
+    let b = farEnd feed r in
+    omega (arith, length-append (legsOf s a b) (legsOfChoice feed runs shapes), leg-small s (legs-many s a b), choice-few feed runs shapes)
+
+-- No feed needs more than 62 legs, whatever its shapes.
+pub needed-few : (feed : List Spot) (shapes : List Shape) → length feed ≡ mostPins → length (legsOfChoice feed (runsOf feed) shapes) ≤ mostLegs
+needed-few feed shapes full = omega (arith, choice-few feed (runsOf feed) shapes, runs-few feed full)
