@@ -10,6 +10,7 @@ use Rattle.basics.specs.Tests.{choose}
 use Rattle.refusal.specs.Refusals.{accepted}
 use Rattle.refusal.specs.Rows.{Row, firstOf}
 use Rattle.refusal.specs.declared.Verdict.{Verdict}
+use Rattle.refusal.proofs.Rows.{decided}
 use Rattle.drawing.specs.Pins.{lawful, feedOf}
 use Rattle.pinmap.specs.declared.Writing.{Writing}
 use Rattle.pinmap.specs.Map.{mapOf, roomRows, written, writeBy, bufferBy}
@@ -24,7 +25,6 @@ use Rattle.journal.specs.Journal.{mostSeats}
 use Rattle.seats.specs.declared.Seat.{Seat}
 use Rattle.rows.specs.declared.Found.{Found}
 use Rattle.rows.specs.Found.{namingFound, wiredBy}
-use Rattle.rows.proofs.Rows.{decided}
 use Rattle.desk.specs.declared.Desk.{Desk}
 use Rattle.desk.specs.declared.Written.{Written}
 use Rattle.desk.specs.declared.Wired.{Wired}

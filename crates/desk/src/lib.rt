@@ -300,7 +300,7 @@ impl Desk {
         Wired { desk: self, laid }
     }
 
-    // The copper of the drawing at `seat` as segments, with room for so many, as is said of the shape to favour; or says why not. The desk stays as it is.
+    // Gives the copper of the drawing at `seat` as segments, with room for so many, as is said of the shape to favour; or says why not. The desk stays as it is.
     pub fn mill(self, seat: usize, room: usize, favour: Favour) -> Milled
         ensures { λ r. ⌜ r ≡ milledOf self seat room favour ⌝ }
     {

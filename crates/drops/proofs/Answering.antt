@@ -24,7 +24,7 @@ use Rattle.tree.specs.declared.Run.{Run}
 use Rattle.tree.specs.declared.Tree.{Tree}
 use Rattle.tree.specs.Growth.{run, pinsOf, runsOf}
 use Rattle.tree.specs.Trees.{mostRuns, entries, treeWith, treeRows, treeOf}
-use Rattle.tree.proofs.Answer.{runs-few}
+use Rattle.tree.proofs.Answer.{tree-apart, runs-few}
 use Rattle.tree.proofs.Result.{take-entries, count-few, low-ends}
 use Rattle.drops.specs.declared.Sheet.{Sheet}
 use Rattle.drops.specs.declared.Loaded.{Loaded}
@@ -35,16 +35,11 @@ use Rattle.drops.proofs.Passes.{runs-back}
 
 -- ---- how a feed is refused
 module _ (feed : List Spot) where
-  -- 17 and 18 differ.
-  tree-apart : Apart (treeRows feed)
-  unfolding distinct unlike both accepted
-  tree-apart = apart-by (treeRows feed) refl
-
   -- The tree carries what they are answered.
   tree-verdict : treeOf feed .verdict ≡ firstOf (treeRows feed)
   unfolding treeOf treeWith
   tree-verdict =
-      behind (λ (t : Tree). t .verdict) (λ (v : Verdict). treeWith v []) (λ v. refl) (treeRows feed) [] tree-apart (treeWith Accepted (runsOf feed)) no-row
+      behind (λ (t : Tree). t .verdict) (λ (v : Verdict). treeWith v []) (λ v. refl) (treeRows feed) [] (tree-apart feed) (treeWith Accepted (runsOf feed)) no-row
 
 -- What some rows are answered, with drops or without.
 module _ (rows : List Row) (drops : List Float) {v : Verdict} (e : v ≡ firstOf rows) where

@@ -1,18 +1,19 @@
 -- THE COPPER OF A SEAT AS SEGMENTS, on any desk: the verdict is what the call is answered, each refusal given exactly under its condition; accepted, the segments are
 -- what document 02, [5] says of the seat's wiring, after any calls of the pins of its past; refused, there are none, and a lent list is as it was. Assumes nothing.
 use mathlib.Core.Path.{_≡_, refl, sym, ap, _∙_, subst}
-use mathlib.Core.Bool.{true, false}
-use mathlib.Core.List.{List, []}
+use mathlib.Core.Bool.{true, false, not}
+use mathlib.Core.List.{List, [], _∷_}
 use Prim.Native.Nat.{ℕ}
 use borrow.Author.Tests.{not-false}
 use lib.ListN.{length, take, drop}
-use lib.Seq.{take-at, drop-at}
+use lib.Seq.{drop-at}
+use lib.Dec.{ltb}
 use Rattle.basics.specs.Tests.{choose}
 use Rattle.basics.proofs.Tests.{choose-yes, choose-no}
 use Rattle.refusal.specs.Refusals.{accepted}
-use Rattle.refusal.specs.Rows.{Exactly}
-use Rattle.refusal.specs.declared.Verdict.the-variants.{Accepted}
-use Rattle.refusal.proofs.Rows.{none-accepted, none-before, none-after, none-holds}
+use Rattle.refusal.specs.Rows.{given, firstOf, Exactly}
+use Rattle.refusal.specs.declared.Verdict.the-variants.{Accepted, RoomTooSmall}
+use Rattle.refusal.proofs.Rows.{none-accepted, none-first, none-before, none-after, none-holds}
 use Rattle.drawing.specs.declared.Pin.{Pin}
 use Rattle.drawing.specs.Pins.{feedOf}
 use Rattle.drawing.proofs.Rules.{lawful-parts, feed-long}
@@ -20,26 +21,36 @@ use Rattle.copper.specs.declared.Favour.{Favour}
 use Rattle.copper.specs.declared.Leg.{Leg}
 use Rattle.tree.specs.Trees.{treeRows}
 use Rattle.wiring.specs.declared.Laid.{Laid}
-use Rattle.wiring.specs.Answer.{mostLegs}
+use Rattle.wiring.specs.Answer.{mostLegs, feedRows, wiringOf}
 use Rattle.wiring.specs.Demand.{legsIn}
+use Rattle.wiring.proofs.Few.{most-room-verdict}
+use Rattle.wiring.proofs.Refusing.{wiring-apart, wiring-verdict}
+use Rattle.wiring.proofs.Shortest.{take-legs}
+use Rattle.wiring.proofs.Demand.{answer-comes}
 use Rattle.mill.specs.declared.Cut.{Cut}
-use Rattle.mill.specs.Segments.{SameSteps}
+use Rattle.mill.specs.Segments.{CleanList, SameSteps}
 use Rattle.mill.specs.Answer.{copperOf, millRows, cutWith, stripOfCut}
 use Rattle.mill.specs.Demand.{segmentsIn, CleanCopper}
-use Rattle.mill.proofs.Refusing.{wired-verdict}
 use Rattle.mill.proofs.Demand.{cut-accepted, copper-demanded, clean-in-list}
 use Rattle.lent.specs.Lent.{filledWith}
+use Rattle.lent.proofs.Untouched.{none-filled}
+use Rattle.lent.proofs.Demand.{filled-begins}
 use Rattle.rows.specs.Calls.{Call, asking, milling}
-use Rattle.rows.proofs.Rows.{rows-apart}
+use Rattle.rows.proofs.Rows.{naming-apart, rows-apart}
 use Rattle.rows.proofs.Passed.{OpenSeat, Passes, passes}
 use Rattle.desk.specs.declared.Desk.{Desk}
-use Rattle.desk.specs.Desk.{seatOf, lookAt, namingAt, rowsAt, answerOf, step, emptyDesk, wiredOf, milledOf, milledSeatOf, segmentsLentOf}
+use Rattle.desk.specs.Desk.{seatOf, sound, lookAt, namingAt, rowsAt, answerOf, step, emptyDesk, wiredOf, milledOf, milledSeatOf, segmentsLentOf}
 use Rattle.desk.proofs.Sound.{pins-lawful}
 use Rattle.history.specs.History.{pinsIn, pastOf, nothing, history, after}
 use Rattle.history.proofs.Refused.{each-refusal-exactly}
-use Rattle.history.proofs.Leaving.{open-as-past, wired-is}
+use Rattle.history.proofs.Leaving.{open-as-past, wired-open, wired-is}
 
 -- ---- on any desk
+-- An accepted wiring of a seat has passed 28, 1 and 2.
+named-when : (d : Desk) (s legs : ℕ) (favour : Favour) → accepted (wiredOf d s legs favour .laid .wiring .verdict) ≡ true → accepted (firstOf (namingAt d s)) ≡ true
+unfolding wiredOf
+named-when d s legs favour z = answer-comes (wiringOf (feedOf (seatOf d s .pins)) legs favour) _ z .1
+
 module _ (d : Desk) (s room : ℕ) (favour : Favour) where
   -- The verdict in the answer is what the call is answered,
   pub milled-verdict : milledOf d s room favour .cut .milling .verdict ≡ answerOf d (asking s (milling room favour))
@@ -83,7 +94,7 @@ module _ (d : Desk) (s room : ℕ) (favour : Favour) where
         let n = none-holds (rowsAt d (asking s (milling room favour))) (rows-apart (lookAt d s) (asking s (milling room favour))) e in
         let named = none-accepted (namingAt d s) (none-before (namingAt d s) (millRows feed room favour) n) in
         let treed = none-accepted (treeRows feed) (none-before (treeRows feed) _ (none-after (namingAt d s) (millRows feed room favour) n)) in
-        ap accepted (ap (λ (w : Laid). w .wiring .verdict) (choose-yes _ _ (ap accepted named)) ∙ wired-verdict feed favour (feed-long _ l) ∙ treed)
+        ap accepted (ap (λ (w : Laid). w .wiring .verdict) (choose-yes _ _ (ap accepted named)) ∙ most-room-verdict feed favour (feed-long _ l) ∙ treed)
 
     -- and beside any accepted wiring of it the segments are WHAT DOCUMENT 02, [5] SAYS.
     pub milled-is-clean : (legs : ℕ) → accepted (wiredOf d s legs favour .laid .wiring .verdict) ≡ true
@@ -94,6 +105,24 @@ module _ (d : Desk) (s room : ℕ) (favour : Favour) where
         let w = wired-is d s legs favour z in
         subst (λ laid. CleanCopper laid (milledOf d s room favour .cut)) (sym w)
         (copper-demanded (feedOf (seatOf d s .pins)) favour (feed-long _ l) (lawful-parts _ l .board) legs (rw w at z) milled-is)
+
+  -- WHERE THE SEAT IS WIRED, ITS COPPER IS GIVEN, unless the room is smaller than the clean list of its steps: 19, counted in segments.
+  pub room-in-segments : (legs : ℕ) → accepted (wiredOf d s legs favour .laid .wiring .verdict) ≡ true
+      → (l : List Leg) → CleanList l → SameSteps l (legsIn (wiredOf d s legs favour .laid))
+      → milledOf d s room favour .cut .milling .verdict ≡ choose (ltb room (length l)) RoomTooSmall Accepted
+  unfolding milledOf cutWith firstOf
+  room-in-segments legs z l c same =
+      let feed = feedOf (seatOf d s .pins) in
+      let w = wired-is d s legs favour z in
+      let wired : accepted (wiringOf feed legs favour .wiring .verdict) ≡ true = rw w at z in
+      let o = wired-open d s legs favour z in
+      let k = pins-lawful d (not-false _ (o .unbroken)) s (o .low) (o .shown) in
+      let c' = copper-demanded feed favour (feed-long _ k) (lawful-parts _ k .board) legs wired refl in
+      let e : l ≡ copperOf feed favour = c' .only l c (rw w at same) ∙ (unfold cutWith in take-legs (copperOf feed favour)) in
+      let named = none-holds (namingAt d s) (naming-apart (not (sound d)) s (seatOf d s .opened)) (named-when d s legs favour z) in
+      let treed = none-before (treeRows feed) _ (none-holds (feedRows feed legs favour) (wiring-apart feed _ legs) (ap accepted (sym (wiring-verdict feed legs favour)) ∙ wired)) in
+      none-first (namingAt d s) (millRows feed room favour) named ∙ none-first (treeRows feed) (given (ltb room (length (copperOf feed favour))) RoomTooSmall ∷ []) treed
+      ∙ ap (λ (m : List Leg). choose (ltb room (length m)) RoomTooSmall Accepted) (sym e)
 
 -- ANY TWO WIRINGS THAT COVER THE SAME STEPS GIVE THE SAME LIST, of whatever seats, desks and shapes to favour.
 pub same-copper : (d e : Desk) (s t room room' legs legs' : ℕ) (f g : Favour)
@@ -127,26 +156,32 @@ module _ (d : Desk) (s : ℕ) (lent : List Leg) (favour : Favour) where
   -- A refused call leaves the list as it was, and has no segments.
   pub refused-leaves-the-segments : accepted (milledSeatOf d s lent favour .milling .verdict) ≡ false
       → (segmentsLentOf d s lent favour ≡ lent) × (milledSeatOf d s lent favour .milling .segments ≡ 0)
-  unfolding milledSeatOf segmentsLentOf cutWith filledWith
+  unfolding milledSeatOf segmentsLentOf
   refused-leaves-the-segments e =
-      let n = refused-has-no-segments d s (length lent) favour e in
-      (ap (λ (c : Cut). filledWith (stripOfCut c) lent) n, ap (λ (c : Cut). c .milling .segments) n)
+      let n : cut .milling .segments ≡ 0 = ap (λ (c : Cut). c .milling .segments) (refused-has-no-segments d s (length lent) favour e) ∙ (unfold cutWith in refl) in
+      (none-filled (stripOfCut cut) lent n, n)
 
-  module _ (e : accepted (milledSeatOf d s lent favour .milling .verdict) ≡ true) (legs : ℕ) (z : accepted (wiredOf d s legs favour .laid .wiring .verdict) ≡ true) where
-    -- An accepted one fills the first entries with the segments,
-    pub lent-begins : take (cut .milling .segments) (segmentsLentOf d s lent favour) ≡ segmentsIn cut
-    unfolding milledSeatOf segmentsLentOf filledWith
-    lent-begins = take-at (segmentsIn cut) _ (cut .milling .segments) (sym (milled-is-clean d s (length lent) favour e legs z .number))
-
-    -- entries after the last segment keep their contents,
-    pub lent-keeps : drop (cut .milling .segments) (segmentsLentOf d s lent favour) ≡ drop (cut .milling .segments) lent
-    unfolding milledSeatOf segmentsLentOf filledWith
-    lent-keeps = drop-at (segmentsIn cut) _ (cut .milling .segments) (sym (milled-is-clean d s (length lent) favour e legs z .number))
-
-    -- and the answer with that list is what document 02, [5] says.
-    pub lent-is-clean : CleanCopper (wiredOf d s legs favour .laid) (record { milling = milledSeatOf d s lent favour .milling; list = segmentsLentOf d s lent favour })
+  module _ (e : accepted (milledSeatOf d s lent favour .milling .verdict) ≡ true) where
+    -- An accepted one has as many segments as it says,
+    lent-number : cut .milling .segments ≡ length (segmentsIn cut)
     unfolding milledSeatOf
-    lent-is-clean = clean-in-list (segmentsLentOf d s lent favour) lent-begins (milled-is-clean d s (length lent) favour e legs z)
+    lent-number = milled-is-clean d s (length lent) favour e mostLegs (milled-is-wired d s (length lent) favour e) .number
+
+    -- fills the first entries with them,
+    pub lent-begins : take (cut .milling .segments) (segmentsLentOf d s lent favour) ≡ segmentsIn cut
+    unfolding segmentsLentOf
+    lent-begins = filled-begins (stripOfCut cut) lent lent-number
+
+    -- keeps the contents of the entries after the last segment,
+    pub lent-keeps : drop (cut .milling .segments) (segmentsLentOf d s lent favour) ≡ drop (cut .milling .segments) lent
+    unfolding segmentsLentOf filledWith
+    lent-keeps = drop-at (segmentsIn cut) _ (cut .milling .segments) (sym lent-number)
+
+    -- and with that list the answer is what document 02, [5] says.
+    pub lent-is-clean : (legs : ℕ) → accepted (wiredOf d s legs favour .laid .wiring .verdict) ≡ true
+        → CleanCopper (wiredOf d s legs favour .laid) (record { milling = milledSeatOf d s lent favour .milling; list = segmentsLentOf d s lent favour })
+    unfolding milledSeatOf
+    lent-is-clean legs z = clean-in-list (segmentsLentOf d s lent favour) lent-begins (milled-is-clean d s (length lent) favour e legs z)
 
 -- AFTER ANY CALLS from the empty desk: the segments are those of the copper of the pins of the seat's past.
 pub milled-after-calls : (calls : List Call) (s room : ℕ) (favour : Favour) → accepted (milledOf (after emptyDesk calls) s room favour .cut .milling .verdict) ≡ true
@@ -154,3 +189,12 @@ pub milled-after-calls : (calls : List Call) (s room : ℕ) (favour : Favour) �
 milled-after-calls calls s room favour e =
     let d = after emptyDesk calls in
     milled-is d s room favour e ∙ ap (λ (l : List Pin). cutWith Accepted (copperOf (feedOf l) favour)) (open-as-past calls s (milled-open d s room favour e) .1)
+
+-- into a lent list too: the answer, and the segments that the list is filled with.
+pub lent-milled-after-calls : (calls : List Call) (s : ℕ) (lent : List Leg) (favour : Favour) → accepted (milledSeatOf (after emptyDesk calls) s lent favour .milling .verdict) ≡ true
+    → (milledSeatOf (after emptyDesk calls) s lent favour .milling ≡ cutWith Accepted (copperOf (feedOf (pinsIn (pastOf (history nothing calls) s))) favour) .milling)
+    × (segmentsLentOf (after emptyDesk calls) s lent favour ≡ filledWith (stripOfCut (cutWith Accepted (copperOf (feedOf (pinsIn (pastOf (history nothing calls) s))) favour))) lent)
+unfolding milledSeatOf segmentsLentOf
+lent-milled-after-calls calls s lent favour e =
+    let w = milled-after-calls calls s (length lent) favour e in
+    (ap (λ (c : Cut). c .milling) w, ap (λ (c : Cut). filledWith (stripOfCut c) lent) w)

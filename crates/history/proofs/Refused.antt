@@ -1,4 +1,4 @@
--- DEMAND 1: each refusal exactly under its condition, and after those before it: the rows of each call in document 01's order, on any desk.
+-- DEMAND 1: each refusal exactly under its condition, and after those before it: the rows of each call in the order of documents 01 and 02, on any desk.
 -- From the rows of each call, which are apart, and the law of rows; assumes nothing.
 use mathlib.Core.Path.{_≡_, refl, ap, sym, _∙_}
 use mathlib.Core.Bool.{Bool, true, false, not, true≢false}

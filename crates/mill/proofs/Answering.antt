@@ -8,14 +8,15 @@ use lib.Dec.{ltb}
 use lib.ListN.{length}
 use borrow.Author.Tests.{lt-ltb, le-ltb, not-true, not-false}
 use Rattle.basics.specs.Tests.{choose, eachOf}
-use Rattle.basics.proofs.Tests.{choose-yes, choose-no}
 use Rattle.refusal.specs.Refusals.{accepted}
 use Rattle.refusal.specs.Rows.{Row, given, firstOf}
 use Rattle.refusal.specs.declared.Verdict.the-variants.{Accepted, RoomTooSmall}
+use Rattle.refusal.proofs.Rows.{decided-away, decided-on}
 use Rattle.board.specs.declared.Spot.{Spot}
 use Rattle.board.specs.Spots.{mostPins, allWithin}
 use Rattle.tree.specs.Growth.{runsOf}
 use Rattle.tree.specs.Trees.{treeRows}
+use Rattle.tree.proofs.Answer.{tree-apart}
 use Rattle.copper.specs.declared.Favour.{Favour}
 use Rattle.copper.specs.declared.Leg.{Leg}
 use Rattle.copper.specs.declared.Shape.{Shape}
@@ -26,12 +27,11 @@ use Rattle.wiring.specs.Choices.{bestChoice, legsOfChoice}
 use Rattle.wiring.specs.Answer.{mostLegs, answerWith, wiringRows, wiringWith, wiringFavouring, wiringOf}
 use Rattle.wiring.specs.Reaching.{strip}
 use Rattle.wiring.specs.Demand.{legsIn}
+use Rattle.wiring.proofs.Shortest.{take-legs}
 use Rattle.wiring.proofs.Demand.{answer-comes}
-use Rattle.wiring.proofs.Few.{needed-few}
+use Rattle.wiring.proofs.Few.{needed-few, most-room-verdict}
 use Rattle.mill.specs.Numbered.{isInside, segmentsOf}
 use Rattle.mill.specs.Answer.{copperOf, cutWith, cutBy, cutOf}
-use Rattle.mill.proofs.Fitting.{filled}
-use Rattle.mill.proofs.Refusing.{tree-apart, cut-behind, wired-verdict}
 use Rattle.mill.proofs.Wired.{wired-inside}
 
 module _ (feed : List Spot) (full : length feed ≡ mostPins) (ok : allWithin feed ≡ true) (room : ℕ) (favour : Favour)
@@ -51,22 +51,20 @@ module _ (feed : List Spot) (full : length feed ≡ mostPins) (ok : allWithin fe
 
   -- Wiring says what the tree's rows do.
   verdict-is : laid .wiring .verdict ≡ firstOf (treeRows feed)
-  verdict-is = ap (λ (l : Laid). l .wiring .verdict) el ∙ wired-verdict feed favour full
+  verdict-is = ap (λ (l : Laid). l .wiring .verdict) el ∙ most-room-verdict feed favour full
 
   -- It refuses.
   pub feed-refused : not b ≡ true → cutWith (laid .wiring .verdict) [] ≡ cutOf feed room favour
   unfolding cutOf
   feed-refused y =
-      let no : accepted (firstOf (treeRows feed)) ≡ false = ap accepted (sym verdict-is) ∙ sym eb ∙ not-true b y in
-      rw verdict-is (sym (choose-no (cutBy roomRow copper) (cutWith (firstOf (treeRows feed)) []) no) ∙ cut-behind (treeRows feed) roomRow (tree-apart feed) copper)
+      decided-away (treeRows feed) roomRow (tree-apart feed) verdict-is cutWith copper [] (sym eb ∙ not-true b y)
 
   module _ (y : not b ≡ false) where
     -- It accepts: then the room decides,
     room-decides : cutBy roomRow copper ≡ cutOf feed room favour
     unfolding cutOf
     room-decides =
-        let yes' : accepted (firstOf (treeRows feed)) ≡ true = ap accepted (sym verdict-is) ∙ sym eb ∙ not-false b y in
-        sym (choose-yes (cutBy roomRow copper) (cutWith (firstOf (treeRows feed)) []) yes') ∙ cut-behind (treeRows feed) roomRow (tree-apart feed) copper
+        decided-on (treeRows feed) roomRow (tree-apart feed) verdict-is cutWith copper [] (sym eb ∙ not-false b y)
 
     -- and what it gives is the answer with the best choice of shapes,
     laid-is : laid ≡ answerWith feed shapes
@@ -77,7 +75,7 @@ module _ (feed : List Spot) (full : length feed ≡ mostPins) (ok : allWithin fe
 
     -- with the legs of that choice.
     legs-are : legsIn laid ≡ legs
-    legs-are = ap legsIn laid-is ∙ (unfold answerWith in filled legs)
+    legs-are = ap legsIn laid-is ∙ (unfold answerWith in take-legs legs)
 
     -- They are at most 62,
     pub legs-few : laid .wiring .legs ≤ mostLegs

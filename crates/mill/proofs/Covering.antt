@@ -1,4 +1,4 @@
--- Legs of the board cover the same steps just where their spans cover the same numbers. Assumes nothing.
+-- Legs of the board cover the same steps just where their spans cover the same numbers. From legs on the board.
 use mathlib.Core.Path.{_≡_, refl, sym, ap₂, _∙_}
 use mathlib.Core.Bool.{true}
 use mathlib.Core.List.{List, [], _∷_, _++_, map, map-append}

@@ -19,13 +19,14 @@ use Rattle.copper.specs.Shapes.{favoursUpper}
 use Rattle.wiring.specs.declared.Laid.{Laid}
 use Rattle.wiring.specs.Choices.{bestChoice, legsOfChoice, lengthOfChoice}
 use Rattle.wiring.specs.Answer.{answerWith, wiringRows, wiringWith, wiringFavouring, wiringOf}
+use Rattle.wiring.proofs.Shortest.{take-legs}
 use Rattle.wiring.proofs.Demand.{answer-comes}
 use Rattle.mill.specs.declared.Cut.{Cut}
 use Rattle.mill.specs.Numbered.{isInside, segmentsOf}
 use Rattle.mill.specs.Answer.{copperOf, millRows, cutWith, cutBy, cutOf}
 use Rattle.mill.specs.Demand.{segmentsIn, CleanCopper}
 use Rattle.mill.proofs.Theorems.{segments-clean, segments-cover, only-one, segments-length}
-use Rattle.mill.proofs.Fitting.{filled, segments-few, copper-few}
+use Rattle.mill.proofs.Fitting.{segments-few, copper-few}
 use Rattle.mill.proofs.Refusing.{mill-apart}
 use Rattle.mill.proofs.Wired.{wired-inside}
 
@@ -45,12 +46,12 @@ module _ (feed : List Spot) (favour : Favour) (full : length feed ≡ mostPins) 
   unfolding answerWith cutWith copperOf lengthOfChoice
   answer-clean =
       record {
-        clean = rw (filled (segmentsOf legs)) (segments-clean legs on);
-        number = ap length (sym (filled (segmentsOf legs)));
-        covers = rw (filled (segmentsOf legs), filled legs) (segments-cover legs on);
-        adds-up = rw (filled (segmentsOf legs)) (segments-length legs on);
+        clean = rw (take-legs (segmentsOf legs)) (segments-clean legs on);
+        number = ap length (sym (take-legs (segmentsOf legs)));
+        covers = rw (take-legs (segmentsOf legs), take-legs legs) (segments-cover legs on);
+        adds-up = rw (take-legs (segmentsOf legs)) (segments-length legs on);
         few = (copper-few feed favour full, segments-few legs);
-        only = rw (filled (segmentsOf legs), filled legs) (only-one legs on);
+        only = rw (take-legs (segmentsOf legs), take-legs legs) (only-one legs on);
       }
 
   -- THE COPPER OF EVERY ACCEPTED WIRING, as an answer that gives its segments has it.

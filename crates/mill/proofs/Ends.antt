@@ -1,4 +1,4 @@
--- A clean list that covers no steps but those of legs of the board lies on the board: its segments begin and end where such steps do. Assumes nothing.
+-- A clean list that covers no steps but those of legs of the board lies on the board: its segments begin and end where such steps do. From legs on the board.
 use mathlib.Core.Path.{_≡_, refl, sym, ap, ap₂, _∙_}
 use mathlib.Core.Bool.{Bool, true, false}
 use mathlib.Core.List.{List, _∷_, map}

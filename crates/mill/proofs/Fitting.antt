@@ -4,10 +4,9 @@ use mathlib.Core.Bool.{Bool, true, false}
 use mathlib.Core.List.{List, [], _++_, map}
 use Prim.Native.Nat.{ℕ, _≤_, zero-le}
 use native.Mathlib.Omega.{arith}
-use lib.ListN.{length, take, length-map}
+use lib.ListN.{length, length-map}
 use borrow.Author.Tests.{ltb-false}
 use Rattle.basics.specs.Tests.{choose}
-use Rattle.basics.proofs.Lists.{padded-first}
 use Rattle.refusal.specs.Refusals.{accepted}
 use Rattle.refusal.specs.Rows.{Row, firstOf, NoneHolds}
 use Rattle.refusal.proofs.Rows.{Apart, none-accepted, none-before, none-after, none-holds}
@@ -20,15 +19,10 @@ use Rattle.copper.specs.Shapes.{favoursUpper}
 use Rattle.spans.specs.Spans.{cleaned}
 use Rattle.spans.proofs.Few.{cleaned-few}
 use Rattle.wiring.specs.Choices.{bestChoice, legsOfChoice}
-use Rattle.wiring.specs.Answer.{mostLegs, noLeg, legEntries}
+use Rattle.wiring.specs.Answer.{mostLegs}
 use Rattle.wiring.proofs.Few.{needed-few}
 use Rattle.mill.specs.Numbered.{spanOf, segmentOf, segmentsOf}
 use Rattle.mill.specs.Answer.{copperOf, millRows, cutWith, cutBy}
-
--- Legs or segments stand before the entries that are not filled.
-pub filled : (legs : List Leg) → take (length legs) (legEntries legs) ≡ legs
-unfolding legEntries
-filled legs = padded-first mostLegs noLeg legs refl
 
 -- The segments are no more than the legs,
 pub segments-few : (legs : List Leg) → length (segmentsOf legs) ≤ length legs

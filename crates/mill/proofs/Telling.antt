@@ -1,4 +1,4 @@
--- From segments to spans: of segments on the board, in a clean list, the spans are a clean list, and give the segments back. Assumes nothing.
+-- From segments to spans: of segments on the board, in a clean list, the spans are a clean list, and give the segments back. From legs on the board.
 use mathlib.Core.Path.{_≡_, refl, sym, ap₂, _∙_}
 use mathlib.Core.Bool.{Bool, true, false}
 use mathlib.Core.List.{List, _∷_, map}

@@ -1,5 +1,5 @@
 -- THE LIST OF SEGMENTS OF LEGS OF THE BOARD is clean, covers exactly the steps of the legs and is the only clean list that does; legs that cover the same
--- steps have the same list; and its lengths add up to the length. Assumes nothing.
+-- steps have the same list; and its lengths add up to the length. From legs on the board.
 use mathlib.Core.Path.{_≡_, refl, sym, ap, ap₂, _∙_}
 use mathlib.Core.Bool.{Bool, true}
 use mathlib.Core.List.{List, [], _∷_, map}
@@ -63,7 +63,12 @@ module _ (legs : List Leg) (on : eachOf isInside legs ≡ true) where
       ∙ sym (different-numbers (numbersOfAll (map spanOf legs)))
       ∙ ap (different sameStep) (sym (legs-steps legs on))
 
--- LEGS THAT COVER THE SAME STEPS HAVE THE SAME LIST, whatever their runs.
+-- LEGS OF THE BOARD THAT COVER THE SAME STEPS HAVE THE SAME LIST, whatever their runs.
 pub segments-same : (l m : List Leg) → eachOf isInside l ≡ true → eachOf isInside m ≡ true → SameSteps l m → segmentsOf l ≡ segmentsOf m
 unfolding segmentsOf
 segments-same l m h k e = ap (map segmentOf) (same-cleaned (steps-alike l m h k e))
+
+-- THERE IS ONLY ONE CLEAN LIST FOR A SET OF STEPS: two that cover the same steps of the board are the same.
+pub one-list : (l m : List Leg) → eachOf isInside m ≡ true → CleanList l → CleanList m → SameSteps l m → l ≡ m
+one-list l m on c d same =
+    only-one m on l c same ∙ sym (only-one m on m d (record { there = λ step h. h; back = λ step h. h }))

@@ -13,7 +13,7 @@ use Rattle.copper.specs.declared.Leg.{Leg}
 use Rattle.spans.specs.declared.Span.{Span}
 use Rattle.spans.specs.Spans.{span, betweenOf, cleaned}
 
--- How many numbers a line has: more than the board has steps, so that the last ones stand between two lines.
+-- How many numbers a line has: more than a line of the board has steps, so that the last ones stand between two lines.
 abbrev pub width : ℕ
 width = 131072
 

@@ -190,7 +190,7 @@ pub fn strip_of(cut: Cut) -> Strip
     }
 }
 
-// The copper of a feed as segments, whose pins stand on the board, no two of them too near, with room for so many, where this is said of the shape to favour.
+// The copper as segments of a feed whose pins stand on the board, no two of them too near, with room for so many, where this is said of the shape to favour.
 pub fn mill_feed(
     xs: &[i32; PINS],
     ys: &[i32; PINS],

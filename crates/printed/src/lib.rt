@@ -47,7 +47,7 @@ pub fn print_wired(
     put(out, four, b"\n")
 }
 
-// A milling: its segments.
+// An accepted milling: how many segments.
 pub fn print_milled(segments: usize, out: &mut [u8; ANSWER_BYTES]) -> usize
     ensures { λ r. ⌜ ((r ≡ length (milledLine segments)) × (r ≤ mostLineBytes)) × (now (out .exit) ≡ over (milledLine segments) (now (out .entry))) ⌝ }
 {

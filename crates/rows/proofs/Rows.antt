@@ -11,7 +11,7 @@ use Rattle.refusal.specs.Refusals.{accepted}
 use Rattle.refusal.specs.Rows.{Row, given, firstOf, NoneHolds}
 use Rattle.refusal.specs.declared.Verdict.{Verdict}
 use Rattle.refusal.specs.declared.Verdict.the-variants.{SeatAbove, DeskBroken}
-use Rattle.refusal.proofs.Rows.{unlike, distinct, Apart, apart-by, apart-both, none-holds, stops, goes}
+use Rattle.refusal.proofs.Rows.{unlike, distinct, Apart, apart-by, apart-both, none-holds, stops, goes, decided-away, decided-on}
 use Rattle.drawing.specs.declared.Pin.{Pin}
 use Rattle.drawing.specs.declared.stated.Making.{Making}
 use Rattle.drawing.specs.declared.stated.Making.the-variants.{Placing, Moving, Removing}
@@ -134,54 +134,39 @@ module _ (f : Found) {v : Verdict} (e : v ≡ firstOf (namingFound f)) where
 
 -- ---- what rows decide
 
--- An answer made of the verdict, and of what was asked for or, where it is refused, of nothing.
-abbrev pub decided : {A B : Type 0} → (Verdict → A → B) → A → A → List Row → B
-decided answer asked nothing rows = answer (firstOf rows) (choose (accepted (firstOf rows)) asked nothing)
-
 -- Where the first rows were asked before:
 module _ (rows more : List Row) (a : Apart rows) {v : Verdict} (e : v ≡ firstOf rows) where
-  module _ {A B : Type 0} (answer : Verdict → A → B) (asked nothing : A) where
-    -- turned away by one of those, nothing is given;
-    pub decided-away : accepted v ≡ false → answer v nothing ≡ decided answer asked nothing (rows ++ more)
-    decided-away n =
-        let w = stops rows more a e n in
-        ap₂ answer w (sym (choose-no asked nothing (ap accepted (sym w) ∙ n)))
-
-    -- else the later rows decide.
-    pub decided-on : accepted v ≡ true → decided answer asked nothing more ≡ decided answer asked nothing (rows ++ more)
-    decided-on y = ap (λ (x : Verdict). answer x (choose (accepted x) asked nothing)) (goes rows more a e y refl)
-
-  -- So it is with a map that is not read,
+  -- a map that they turn away is not read,
   pub read-away : (map : List ℕ) → accepted v ≡ false → _≡_ {A = Reading} (record { verdict = v; pins = noPins }) (readBy (rows ++ more) map)
-  read-away map n = decided-away (λ v pins. record { verdict = v; pins = pins }) (withPinsOf noPins (recordsOf map)) noPins n
+  read-away map n = decided-away rows more a e (λ v pins. record { verdict = v; pins = pins }) (withPinsOf noPins (recordsOf map)) noPins n
 
-  -- and one that is;
+  -- and one that they pass is read as the later rows decide;
   pub read-on : (map : List ℕ) → accepted v ≡ true → readBy more map ≡ readBy (rows ++ more) map
-  read-on map y = decided-on (λ v pins. record { verdict = v; pins = pins }) (withPinsOf noPins (recordsOf map)) noPins y
+  read-on map y = decided-on rows more a e (λ v pins. record { verdict = v; pins = pins }) (withPinsOf noPins (recordsOf map)) noPins y
 
-  -- with a map that is not written,
+  -- so it is with a map that is not written,
   pub write-away : (map buffer : List ℕ) → accepted v ≡ false
       → _≡_ {A = Writing} (record { verdict = v; bytes = 0 }) (writeBy (rows ++ more) map) × (buffer ≡ bufferBy (rows ++ more) map buffer)
-  write-away map buffer n = (decided-away (λ v bytes. record { verdict = v; bytes = bytes }) (length map) 0 n, decided-away (λ v b. b) (written map buffer) buffer n)
+  write-away map buffer n = (decided-away rows more a e (λ v bytes. record { verdict = v; bytes = bytes }) (length map) 0 n, decided-away rows more a e (λ v b. b) (written map buffer) buffer n)
 
   -- and one that is;
   pub write-on : (map buffer : List ℕ) → accepted v ≡ true
       → (writeBy more map ≡ writeBy (rows ++ more) map) × (bufferBy more map buffer ≡ bufferBy (rows ++ more) map buffer)
-  write-on map buffer y = (decided-on (λ v bytes. record { verdict = v; bytes = bytes }) (length map) 0 y, decided-on (λ v b. b) (written map buffer) buffer y)
+  write-on map buffer y = (decided-on rows more a e (λ v bytes. record { verdict = v; bytes = bytes }) (length map) 0 y, decided-on rows more a e (λ v b. b) (written map buffer) buffer y)
 
   -- with volts lost that are not told,
   pub lost-away : (drops : List Float) → accepted v ≡ false → noneLost v ≡ lostBy (rows ++ more) drops
   unfolding noneLost
-  lost-away drops n = decided-away (λ v l. record { verdict = v; drops = l }) drops noDrops n
+  lost-away drops n = decided-away rows more a e (λ v l. record { verdict = v; drops = l }) drops noDrops n
 
   -- and those that are;
   pub lost-on : (drops : List Float) → accepted v ≡ true → lostBy more drops ≡ lostBy (rows ++ more) drops
-  lost-on drops y = decided-on (λ v l. record { verdict = v; drops = l }) drops noDrops y
+  lost-on drops y = decided-on rows more a e (λ v l. record { verdict = v; drops = l }) drops noDrops y
 
   -- with segments that are not given,
   pub cut-away : (segments : List Leg) → accepted v ≡ false → cutWith v [] ≡ cutBy (rows ++ more) segments
-  cut-away segments n = decided-away cutWith segments [] n
+  cut-away segments n = decided-away rows more a e cutWith segments [] n
 
   -- and those that are.
   pub cut-on : (segments : List Leg) → accepted v ≡ true → cutBy more segments ≡ cutBy (rows ++ more) segments
-  cut-on segments y = decided-on cutWith segments [] y
+  cut-on segments y = decided-on rows more a e cutWith segments [] y

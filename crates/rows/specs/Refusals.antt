@@ -1,4 +1,4 @@
--- What is turned away: for each call its rows of refusals in document 01's order, over what the call looks at.
+-- What is turned away: for each call its rows of refusals in the order of documents 01 and 02, over what the call looks at.
 use mathlib.Core.Bool.{Bool, not}
 use mathlib.Core.List.{List, [], _∷_, _++_}
 use Prim.Native.Nat.{ℕ, _-_}

@@ -1,4 +1,4 @@
-// Rows of refusals: what a call finds at the seat that it names, for each call its row in document 01's order over that, and what opening reads, writing writes, and wiring, milling and drops answer.
+// Rows of refusals: what a call finds at the seat that it names, for each call its row in the order of documents 01 and 02 over that, and what opening reads, writing writes, and wiring, milling and drops answer.
 use board::PINS;
 use board::Place;
 use copper::Favour;

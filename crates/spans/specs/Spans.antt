@@ -1,4 +1,4 @@
--- How spans of numbers are joined and put in order. No reader needs these: what is promised of them stands where segments are (the crate mill).
+-- How spans of numbers are joined and put in order. What a host is promised is not read here: mill/specs/Segments says what the list is.
 use mathlib.Core.Path.{_≡_}
 use mathlib.Core.Bool.{Bool}
 use mathlib.Core.List.{List, [], _∷_, map}

@@ -6,19 +6,25 @@ use mathlib.Core.Logic.{_⊎_, inl, inr}
 use Prim.Native.Nat.{ℕ, zero, suc, _≤_}
 use native.Mathlib.Omega.{arith}
 use lib.ListN.{length}
-use Rattle.basics.specs.Tests.{choose}
+use Rattle.basics.specs.Tests.{both, choose}
 use Rattle.refusal.specs.Refusals.{accepted}
 use Rattle.refusal.specs.Rows.{firstOf}
 use Rattle.refusal.specs.declared.Verdict.the-variants.{Accepted, NoPins, BoxesMeet}
+use Rattle.refusal.proofs.Rows.{unlike, distinct, Apart, apart-by}
 use Rattle.basics.proofs.Tests.{decide}
 use Rattle.board.specs.declared.Spot.{Spot}
 use Rattle.board.specs.Spots.{mostPins}
 use Rattle.tree.specs.Growth.{pinsOf, runsAmong, runsOf, grown}
 use Rattle.tree.specs.Boxes.{boxesMeet}
-use Rattle.tree.specs.Trees.{mostRuns, treeWith, none, treeOf}
+use Rattle.tree.specs.Trees.{mostRuns, treeWith, none, treeRows, treeOf}
 use Rattle.tree.proofs.Membership.{pins-few}
 
 module _ (feed : List Spot) where
+  -- 17 and 18 differ.
+  pub tree-apart : Apart (treeRows feed)
+  unfolding distinct unlike both accepted
+  tree-apart = apart-by (treeRows feed) refl
+
   -- 17, where there are no pins.
   pub seventeen : none (pinsOf feed) ≡ true → treeOf feed ≡ treeWith NoPins []
   unfolding treeOf firstOf accepted choose

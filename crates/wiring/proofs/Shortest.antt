@@ -112,8 +112,8 @@ module _ (feed : List Spot) (runs : List Run) where
       by h (inr (later p)) = h .as-long c p
 
 -- ---- of the answer
--- The legs before those that are not filled.
-take-legs : (legs : List Leg) → take (length legs) (legEntries legs) ≡ legs
+-- Legs, or segments, stand before the entries that are not filled.
+pub take-legs : (legs : List Leg) → take (length legs) (legEntries legs) ≡ legs
 unfolding legEntries
 take-legs legs = padded-first mostLegs noLeg legs refl
 
