@@ -9,6 +9,7 @@ import sys
 
 pick = random.choice
 GAP = 20  # pins are too near when both x and y differ by less
+LIMIT = 60000  # x and y go from -LIMIT to LIMIT
 
 
 def chance(percent):
@@ -35,7 +36,7 @@ def part(spread):
     """An x or a y: near the middle, at times at the board's ends or past them."""
     if chance(97):
         return gaps(random.randint(-spread, spread))
-    return pick([20000, -20000, 20001, -20001, 19999, 2147483647, -2147483648, random.randint(-20000, 20000)])
+    return pick([LIMIT, -LIMIT, LIMIT + 1, -LIMIT - 1, LIMIT - 1, 20001, 2147483647, -2147483648, random.randint(-LIMIT, LIMIT)])
 
 
 def seat():
@@ -74,10 +75,10 @@ def board(spread, most):
         step = pick([GAP, GAP + 1, 2 * GAP, 3 * GAP])
         spots = [(x * step, y * step) for x in range(-3, 3) for y in range(-3, 3)]
     elif style == 2:
-        far = random.randint(GAP, 6666)
+        far = random.randint(GAP, LIMIT // 3)
         spots = [(x * far, y * far) for x in range(-3, 4) for y in range(-3, 4)]
     elif style == 3:
-        spots = [(random.randint(-20000, 20000), random.randint(-20000, 20000)) for _ in range(most)]
+        spots = [(random.randint(-LIMIT, LIMIT), random.randint(-LIMIT, LIMIT)) for _ in range(most)]
     elif style == 4:
         spots = hanging(most)
     else:
@@ -107,7 +108,7 @@ def pin_map(job, spread):
             elif fault == 2:
                 faulty[2] = pick([1, 255])
             elif fault == 3:
-                faulty[pick([3, 4])] = pick([20001, -20001, 2147483647, -2147483648])
+                faulty[pick([3, 4])] = pick([LIMIT + 1, -LIMIT - 1, 2147483647, -2147483648])
             elif fault == 4:
                 faulty[3:] = [other[3] + pick([0, GAP - 1, GAP]), other[4] + pick([0, 1 - GAP])]
             elif fault == 5:
@@ -148,7 +149,7 @@ def bare(spread):
                 xs[i], ys[i] = xs[j] + pick([0, 1 - GAP, -GAP]), ys[j] + pick([0, GAP - 1])
             elif fault == 1:
                 xs[i] = part(spread)
-                ys[i] = pick([20001, -20001, 20000, ys[i]])
+                ys[i] = pick([LIMIT + 1, -LIMIT - 1, LIMIT, ys[i]])
             elif fault == 2:
                 xs = xs[: random.randrange(len(xs))] or [0]
                 break

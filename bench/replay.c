@@ -12,7 +12,7 @@
 #pragma GCC optimize("fp-contract=off")
 _Static_assert(FLT_EVAL_METHOD == 0, "operations on floats give floats");
 
-enum { SEATS = 8, PINS = 32, RECORDS = 256, BOARD = 20000, GAP = 20, RECORD_BYTES = 12, MAP_BYTES = 384, LEGS = 2 * (PINS - 1) };
+enum { SEATS = 8, PINS = 32, RECORDS = 256, BOARD = 60000, GAP = 20, RECORD_BYTES = 12, MAP_BYTES = 384, LEGS = 2 * (PINS - 1) };
 enum { LINE_BYTES = 16384, MAP_PAIRS = 4200, LIST_NUMBERS = 40, WRITE_ROOM = 1024, WIRE_ROOM = 64 };
 
 typedef struct { int32_t x, y; } Place;

@@ -11,9 +11,9 @@ use Rattle.board.specs.declared.Place.{Place}
 abbrev pub place : ℤ → ℤ → Place
 place x y = record { x = x; y = y }
 
--- x and y go from -20,000 to 20,000.
+-- x and y go from -60,000 to 60,000.
 abbrev pub limit : ℕ
-limit = 20000
+limit = 60000
 
 -- Two pins are too near when both their x and their y differ by less than 20 steps.
 abbrev pub leastGap : ℕ

@@ -5,7 +5,7 @@ ghost use mathlib.Core.Path.{_≡_};
 ghost use Rattle.board.specs.Place.{onBoard, inside, middle, difference, closer, tooNear, sameNumber, samePlace};
 
 // x and y go from -LIMIT to LIMIT.
-pub const LIMIT: i32 = 20000;
+pub const LIMIT: i32 = 60000;
 
 // Two places whose x and whose y both differ by less than this are too near.
 pub const LEAST_GAP: u64 = 20;

@@ -2,10 +2,11 @@
 use mathlib.Core.Path.{_≡_, refl}
 use mathlib.Core.Bool.{true, false}
 use mathlib.Core.List.{List, [], _∷_, map}
-use lib.IntN.{pos, negsuc}
+use Prim.Native.Nat.{_+_}
+use lib.IntN.{pos, negℤ}
 use Rattle.basics.specs.Tests.{both, either, choose, anyOf, eachOf, noTwo}
 use Rattle.basics.specs.Lists.{numbered}
-use Rattle.board.specs.Place.{place, onBoard, inside, difference, closer, tooNear, sameNumber, samePlace}
+use Rattle.board.specs.Place.{place, limit, onBoard, inside, difference, closer, tooNear, sameNumber, samePlace}
 use Rattle.drawing.specs.declared.Pin.{Pin}
 use Rattle.drawing.specs.declared.Edit.the-variants.{Placed, Moved, Removed}
 use Rattle.board.specs.Spots.{spotsTooNear, crowded, within, tooNearOther}
@@ -17,13 +18,13 @@ abbrev one : List Pin
 one = made noPins (Placed 0 (holding (place (pos 20) (pos 20))))
 
 -- Both drawings keep the rules; a pin outside the board, or two too near, break them.
-rules : map lawful (noPins ∷ one ∷ made noPins (Placed 3 (holding (place (pos 20001) (pos 0)))) ∷ made one (Placed 1 (holding (place (pos 39) (pos 1)))) ∷ [])
+rules : map lawful (noPins ∷ one ∷ made noPins (Placed 3 (holding (place (pos (limit + 1)) (pos 0)))) ∷ made one (Placed 1 (holding (place (pos 39) (pos 1)))) ∷ [])
     ≡ true ∷ true ∷ false ∷ false ∷ []
 unfolding both either onBoard inside difference closer tooNear sameNumber samePlace isThere sameHeld samePin samePins spotsTooNear tooNearOther crowded within spotOf spotsOf lawful movedPin pinMade pinUnmade made unmade standsAt foundAs allFound proper makeable takeable choose numbered anyOf eachOf noTwo
 rules = refl
 
 -- Placing: at the board's end; beyond it; a pin above 31; a pin that is there; a place too near pin 0; one 20 steps from it.
-placing : map (makeable one) (Placed 1 (holding (place (negsuc 19999) (pos 20000))) ∷ Placed 1 (holding (place (pos 0) (pos 20001))) ∷ Placed 32 (holding (place (pos 0) (pos 0)))
+placing : map (makeable one) (Placed 1 (holding (place (negℤ (pos limit)) (pos limit))) ∷ Placed 1 (holding (place (pos 0) (pos (limit + 1)))) ∷ Placed 32 (holding (place (pos 0) (pos 0)))
     ∷ Placed 0 (holding (place (pos 100) (pos 100))) ∷ Placed 1 (holding (place (pos 1) (pos 39))) ∷ Placed 1 (holding (place (pos 20) (pos 40))) ∷ [])
     ≡ true ∷ false ∷ false ∷ false ∷ false ∷ true ∷ []
 unfolding both either onBoard inside difference closer tooNear sameNumber samePlace isThere sameHeld samePin samePins spotsTooNear tooNearOther crowded within spotOf spotsOf lawful movedPin pinMade pinUnmade made unmade standsAt foundAs allFound proper makeable takeable choose numbered anyOf eachOf noTwo
@@ -38,7 +39,7 @@ moving = refl
 
 -- Taking back: the placing of pin 0; a placing elsewhere; a move from another place; from outside the board; a removal of pin 1; one from a place too near pin 0.
 taking : map (takeable one) (Placed 0 (holding (place (pos 20) (pos 20))) ∷ Placed 0 (holding (place (pos 40) (pos 20))) ∷ Moved 0 (place (pos 40) (pos 20)) (place (pos 20) (pos 20))
-    ∷ Moved 0 (place (pos 20001) (pos 20)) (place (pos 20) (pos 20)) ∷ Removed 1 (holding (place (pos 40) (pos 20))) ∷ Removed 1 (holding (place (pos 39) (pos 39))) ∷ [])
+    ∷ Moved 0 (place (pos (limit + 1)) (pos 20)) (place (pos 20) (pos 20)) ∷ Removed 1 (holding (place (pos 40) (pos 20))) ∷ Removed 1 (holding (place (pos 39) (pos 39))) ∷ [])
     ≡ true ∷ false ∷ true ∷ false ∷ true ∷ false ∷ []
 unfolding both either onBoard inside difference closer tooNear sameNumber samePlace isThere sameHeld samePin samePins spotsTooNear tooNearOther crowded within spotOf spotsOf lawful movedPin pinMade pinUnmade made unmade standsAt foundAs allFound proper makeable takeable choose numbered anyOf eachOf noTwo
 taking = refl

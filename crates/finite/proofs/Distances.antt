@@ -21,7 +21,7 @@ use Rattle.board.proofs.Rules.{inside-at}
 use Rattle.tree.specs.declared.Run.{Run}
 use Rattle.drops.specs.Drops.{distanceOfRun}
 
--- The most that two places of the board are apart, in steps: 80,000.
+-- The most that two places of the board are apart, in steps: 240,000.
 abbrev pub mostDistance : ℕ
 mostDistance = 4 * limit
 
@@ -36,7 +36,7 @@ difference-most a b p q =
     let hb = number-held b q in
     omega (arith, board {z = a} (record { sfits = ha }) p, board {z = b} (record { sfits = hb }) q, difference-off a b ha hb)
 
--- Two places of the board are at most 80,000 steps apart.
+-- Two places of the board are at most so many steps apart.
 places-most : (a b : Place) → inside a ≡ true → inside b ≡ true → distanceOf a b ≤ mostDistance
 unfolding inside distanceOf
 places-most a b p q =
@@ -51,7 +51,7 @@ module _ (feed : List Spot) (ok : allWithin feed ≡ true) (r : Run) where
   pub distance-most : distanceOfRun feed r ≤ mostDistance
   distance-most = places-most (placeAt feed (r .near)) (placeAt feed (r .far)) (inside-at feed ok (r .near)) (inside-at feed ok (r .far))
 
-  -- THE DISTANCE OF A RUN BECOMES AN F32 WITHOUT LOSS: it is at most 80,000, and the f32 is that number.
+  -- THE DISTANCE OF A RUN BECOMES AN F32 WITHOUT LOSS: it is at most 240,000, and the f32 is that number.
   pub distance-exact : (distanceOfRun feed r ≤ mostDistance) × HasValue (ofInt binary32 (pos (distanceOfRun feed r))) false (distanceOfRun feed r) 1
   unfolding ofInt
   distance-exact = (distance-most, round-whole binary32 false (distanceOfRun feed r) (distance-held (distanceOfRun feed r) distance-most))

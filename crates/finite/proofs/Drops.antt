@@ -40,9 +40,9 @@ use Rattle.finite.proofs.Loads.{mostLoad, ohms-most, load-most}
 use Rattle.finite.proofs.Currents.{mostCurrent, currents-most}
 use Rattle.finite.proofs.Distances.{mostDistance, distance-held, distance-most}
 
--- No run's drop is above 2 ^ 61 volts: this is the exponent.
+-- No run's drop is above 2 ^ 62 volts: this is the exponent.
 abbrev exponent : ℕ
-exponent = 61
+exponent = 62
 
 -- A pin's drop grows by no more with each run: what it is at most after so many runs.
 abbrev after : ℕ → ℕ
@@ -74,7 +74,7 @@ put-most drops pin v B room all new p h = go (same-or-not p pin)
 
 -- ---- run by run
 module _ (feed : List Spot) (ok : allWithin feed ≡ true) (ohms : Float) (o : AtMost ohms 1) where
-  -- A run's drop is at most 2 ^ 61.
+  -- A run's drop is at most 2 ^ 62.
   run-most : (c : Float) (r : Run) → AtMost c mostCurrent → AtMost (runDrop c ohms (distanceOfRun feed r)) (1 * 2 ^ exponent)
   run-most c r h =
       let d = distanceOfRun feed r in
@@ -83,7 +83,7 @@ module _ (feed : List Spot) (ok : allWithin feed ≡ true) (ohms : Float) (o : A
       (mul-at-most binary32 1 44 (holds 1 44 (lit< tt) (lit≤ tt)) c ohms mostCurrent 1 (lit≤ tt) h o)
       (at-most-more (ofInt binary32 (pos d)) d mostDistance m (whole-at-most binary32 d (distance-held d m)))
 
-  -- From drops after i runs that are at most i * 2 ^ 61, no later drop is above the most.
+  -- From drops after i runs that are at most i * 2 ^ 62, no later drop is above the most.
   drops-most : (i : ℕ) (drops : List Float) (runs : List Run) (currents : List Float) → i + length runs ≤ mostRuns → length drops ≡ mostPins
       → AllAtMost drops (after i) → ((r : Run) → Among r runs → LowEnds r) → ((c : Float) → Among c currents → AtMost c mostCurrent)
       → AllAtMost (dropsAfter feed ohms drops runs currents) mostDrop

@@ -9,6 +9,6 @@ AtMost (inf s) B = ⊥
 AtMost (fin s m e) B = m * up e ≤ B * down e
 
 -- The most that a drop can be, in volts: 31 runs, for each a current of at most 2 ^ 44 amps (the load, at most 12,000, and all later currents), at most 1 ohm
--- per step, and a distance of at most 80,000 steps, which is below 2 ^ 17.
+-- per step, and a distance of at most 240,000 steps, which is below 2 ^ 18.
 abbrev pub mostDrop : ℕ
-mostDrop = 31 * 2 ^ 61
+mostDrop = 31 * 2 ^ 62

@@ -41,5 +41,5 @@ pub record VoltsLost (feed : List Spot) (loads : List Loaded) (sheet : Sheet) (d
   pub flows : (k : ℕ) → k < length (runsOf feed) → Flows (λ (pin : ℕ). ampsOf sheet (loadAt loads pin)) (runsOf feed) currents k
   -- the drop of its far pin is its near pin's drop plus that of the run;
   pub adds-up : (k : ℕ) → k < length (runsOf feed) → AddsUp feed (sheet .ohms) drops (runsOf feed) currents k
-  -- and every drop is finite, at most 31 * 2 ^ 61 in size.
+  -- and every drop is finite, at most 31 * 2 ^ 62 in size.
   pub finite : (pin : ℕ) → pin < mostPins → AtMost (getD drops pin nan) mostDrop

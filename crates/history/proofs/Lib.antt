@@ -13,6 +13,7 @@ pub mod Refused
 pub mod Wired
 pub mod Maps
 pub mod Leaving
+pub mod Former
 pub mod Best
 pub mod Standing
 pub mod Lost

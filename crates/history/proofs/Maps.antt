@@ -64,13 +64,13 @@ unfolding answerOf readMap
 opens-so e t job map l r n = none-first (takingAt e t job) (mapRows map job) n ∙ ap (λ (x : Reading). x .verdict) r
 
 -- and opens there.
-opens-as : (e : Desk) (t job : ℕ) (map : List ℕ) (l : List Pin) → readMap map job ≡ readAs l → NoneHolds (takingAt e t job)
+pub opens-as : (e : Desk) (t job : ℕ) (map : List ℕ) (l : List Pin) → readMap map job ≡ readAs l → NoneHolds (takingAt e t job)
     → step e (opening t job map) ≡ record { desk = withSeat e t (openSeat job l); verdict = Accepted }
 unfolding step effect choose accepted
 opens-as e t job map l r n = rw (opens-so e t job map l r n, r)
 
 -- A desk that can take it has that seat.
-taking-low : (e : Desk) (t job : ℕ) → NoneHolds (takingAt e t job) → t < length (e .seats)
+pub taking-low : (e : Desk) (t job : ℕ) → NoneHolds (takingAt e t job) → t < length (e .seats)
 unfolding NoneHolds
 taking-low e t job n =
     let h : sound e ≡ true = not-false _ (n .0) in

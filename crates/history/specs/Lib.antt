@@ -3,3 +3,4 @@ pub mod History
 pub mod AsPast
 pub mod Until
 pub mod Leaving
+pub mod Former

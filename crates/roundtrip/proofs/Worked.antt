@@ -99,8 +99,10 @@ unfolding readMap wrongLength either choose rowsFrom recordsIn withPinsOf record
     difference withPinOf
 close-pins = (refl, refl, refl)
 
--- x 20,000 is accepted, 20,001 is 15.
-limits : (accepted (readMap (0 ∷ 7 ∷ 0 ∷ 0 ∷ 0 ∷ 0 ∷ 78 ∷ 32 ∷ 0 ∷ 0 ∷ 0 ∷ 0 ∷ []) 7 .verdict) ≡ true)
-    × (readMap (0 ∷ 7 ∷ 0 ∷ 0 ∷ 0 ∷ 0 ∷ 78 ∷ 33 ∷ 0 ∷ 0 ∷ 0 ∷ 0 ∷ []) 7 ≡ refusedBy (FaultyRecord 0))
+-- x 60,000 with y -60,000 is accepted, x 60,001 is 15, and so is y -60,001; x and y 20,001 are an ordinary place.
+limits : (accepted (readMap (0 ∷ 7 ∷ 0 ∷ 0 ∷ 0 ∷ 0 ∷ 234 ∷ 96 ∷ 255 ∷ 255 ∷ 21 ∷ 160 ∷ []) 7 .verdict) ≡ true)
+    × (readMap (0 ∷ 7 ∷ 0 ∷ 0 ∷ 0 ∷ 0 ∷ 234 ∷ 97 ∷ 0 ∷ 0 ∷ 0 ∷ 0 ∷ []) 7 ≡ refusedBy (FaultyRecord 0))
+    × (readMap (0 ∷ 7 ∷ 0 ∷ 0 ∷ 0 ∷ 0 ∷ 0 ∷ 0 ∷ 255 ∷ 255 ∷ 21 ∷ 159 ∷ []) 7 ≡ refusedBy (FaultyRecord 0))
+    × (accepted (readMap (0 ∷ 7 ∷ 0 ∷ 0 ∷ 0 ∷ 0 ∷ 78 ∷ 33 ∷ 0 ∷ 0 ∷ 78 ∷ 33 ∷ []) 7 .verdict) ≡ true)
 unfolding readMap wrongLength either choose rowsFrom recordsIn withPinsOf recordOf numberAt faulty firstOf accepted inside onBoard both anyOf spotsTooNear spotOf spotsOf withPinOf
-limits = (refl, refl)
+limits = (refl, refl, refl, refl)

@@ -16,8 +16,8 @@ weight-left : weightOf (place (negsuc 4) (pos 0)) (place (negsuc 2) (pos 0)) ≡
 unfolding weightOf distanceOf difference larger choose
 weight-left = refl
 
--- The board's ends: distance 80,000.
-weight-ends : weightOf (place (negsuc 19999) (negsuc 19999)) (place (pos 20000) (pos 20000)) ≡ record { distance = pos 80000; rise = negsuc 39999; right = negsuc 19999 }
+-- The board's ends: distance 240,000.
+weight-ends : weightOf (place (negsuc 59999) (negsuc 59999)) (place (pos 60000) (pos 60000)) ≡ record { distance = pos 240000; rise = negsuc 119999; right = negsuc 59999 }
 unfolding weightOf distanceOf difference larger choose
 weight-ends = refl
 

@@ -1,17 +1,18 @@
--- Further cases, each computed: moves to the place where the pin already stands and near it, a pin too near another, and desks broken in each way of document 01's list. Assumes nothing.
+-- Further cases, each computed: moves to the place where the pin already stands and near it, a pin too near another, places at the board's ends, and desks broken in
+-- each way of document 01's list. Assumes nothing.
 use mathlib.Core.Path.{_≡_, refl}
 use mathlib.Core.Bool.{true}
 use mathlib.Core.List.{List, [], _∷_, map}
-use Prim.Native.Nat.{ℕ}
-use lib.IntN.{ℤ, pos}
+use Prim.Native.Nat.{ℕ, _+_}
+use lib.IntN.{ℤ, pos, negsuc}
 use lib.ListN.{replicate}
 use Rattle.basics.specs.Tests.{both, either, choose, anyOf, eachOf, noTwo}
 use Rattle.basics.specs.Lists.{padded, numbered}
 use Rattle.refusal.specs.Refusals.{accepted}
 use Rattle.refusal.specs.Rows.{firstOf}
 use Rattle.refusal.specs.declared.Verdict.{Verdict}
-use Rattle.refusal.specs.declared.Verdict.the-variants.{Accepted, PinTooNear, DeskBroken}
-use Rattle.board.specs.Place.{place, onBoard, inside, difference, closer, tooNear, sameNumber, samePlace}
+use Rattle.refusal.specs.declared.Verdict.the-variants.{Accepted, Outside, PinTooNear, DeskBroken}
+use Rattle.board.specs.Place.{place, limit, onBoard, inside, difference, closer, tooNear, sameNumber, samePlace}
 use Rattle.board.specs.declared.Place.{Place}
 use Rattle.drawing.specs.declared.Pin.{Pin}
 use Rattle.drawing.specs.declared.Edit.the-variants.{Placed}
@@ -55,6 +56,17 @@ unfolding answers both either choose accepted firstOf onBoard inside difference 
     step emptyDesk anyOf eachOf noTwo
 nearness = refl
 
+-- Pins are placed at (60000,-60000) and at (20001,20001), an ordinary place. x 60,001 and y 60,001 are 8, placed and moved to; (-60000,60000) is accepted.
+pub edges : answers emptyDesk (opening 0 7 [] ∷ placing 0 0 (place (pos 60000) (negsuc 59999)) ∷ placing 0 1 (place (pos 60001) (pos 0))
+    ∷ placing 0 1 (place (pos 0) (pos 60001)) ∷ placing 0 1 (place (pos 20001) (pos 20001)) ∷ moving 0 1 (place (pos 60001) (pos 0)) ∷ moving 0 1 (place (pos 0) (pos 60001))
+    ∷ moving 0 1 (place (negsuc 59999) (pos 60000)) ∷ [])
+    ≡ Accepted ∷ Accepted ∷ Outside ∷ Outside ∷ Accepted ∷ Outside ∷ Outside ∷ Accepted ∷ []
+unfolding answers both either choose accepted firstOf onBoard inside difference closer tooNear sameNumber samePlace isThere sameHeld samePin samePins spotsTooNear
+    tooNearOther crowded within spotOf spotsOf lawful movedPin pinMade pinUnmade made unmade standsAt foundAs allFound proper makeable takeable numbered heldBy recordsIn withPinsOf rowsFrom wrongLength readMap
+    own kept filled inTurn sameJob jobOf soundOpen soundClosed soundSeat soundTo sound edited effect answerOf
+    step emptyDesk anyOf eachOf noTwo
+edges = refl
+
 -- A seat open for a job, with these pins and so many standing edits.
 abbrev pub opened : ℕ → List Pin → ℕ → Seat
 opened job l n = record { opened = true; job = job; pins = drawn l; standing = n }
@@ -87,7 +99,7 @@ broken =
     deskOf (opened 0 (here ∷ []) 1 ∷ []) (stands ∷ takenBack ∷ []) 2
     ∷ deskOf (opened 7 (here ∷ []) 1 ∷ opened 7 [] 0 ∷ []) (stands ∷ takenBack ∷ []) 2
     ∷ deskOf (opened 7 (here ∷ []) 1 ∷ []) (stands ∷ takenBack ∷ recorded 1 (Placed 0 (holding (place (pos 20) (pos 20)))) ∷ []) 3
-    ∷ deskOf (opened 7 (here ∷ pinAt (pos 20001) (pos 0) ∷ []) 0 ∷ []) [] 0
+    ∷ deskOf (opened 7 (here ∷ pinAt (pos (limit + 1)) (pos 0) ∷ []) 0 ∷ []) [] 0
     ∷ deskOf (opened 7 (here ∷ pinAt (pos 39) (pos 1) ∷ []) 0 ∷ []) [] 0
     ∷ deskOf (opened 7 (here ∷ []) 1 ∷ []) (recorded 0 (Placed 0 (holding (place (pos 100) (pos 100)))) ∷ takenBack ∷ []) 2
     ∷ deskOf (opened 7 (here ∷ []) 1 ∷ []) (stands ∷ recorded 0 (Placed 1 (holding (place (pos 1) (pos 39)))) ∷ []) 2

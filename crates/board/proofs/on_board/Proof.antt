@@ -1,4 +1,4 @@
--- `grid::on_board` meets its contract, by the arm taken. Assumes nothing.
+-- `board::on_board` meets its contract, by the arm taken. Assumes nothing.
 use borrow.Author.Needs.{needs}
 use mir.Facts.{toZ-ofZ, sfits-lit}
 use lib.IntN.{negℤ, pos}
