@@ -1,4 +1,4 @@
--- `grid::is_closer` meets its contract, from what `apart` ensures. Assumes nothing.
+-- `board::is_closer` meets its contract, from what `apart` ensures. Assumes nothing.
 use borrow.Author.Needs.{needs}
 use mir.Facts.{toZ-ofZ}
 use Rattle.board.specs.Place.{closer}

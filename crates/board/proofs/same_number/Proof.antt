@@ -1,4 +1,4 @@
--- `grid::same_number` meets its contract: bits that are the same are of one number. Assumes nothing.
+-- `board::same_number` meets its contract: bits that are the same are of one number. Assumes nothing.
 use Rattle.board.proofs.Signed.{same-bits}
 use Rattle.board.proofs.same_number.Statement.{statement}
 use Rattle.board.proofs.same_number.Tie as tie

@@ -1,4 +1,4 @@
--- `grid::too_near` meets its contract: one test of x, one of y. Assumes nothing.
+-- `board::too_near` meets its contract: one test of x, one of y. Assumes nothing.
 use borrow.Author.Needs.{needs}
 use Rattle.basics.proofs.Tests.{both-arm, both-stop}
 use Rattle.board.proofs.Signed.{held}

@@ -1,4 +1,4 @@
--- `grid::of_bits` meets its contract: the complement of the complement is the number. Assumes nothing.
+-- `pinmap::of_bits` meets its contract: the complement of the complement is the number. Assumes nothing.
 use borrow.Author.Needs.{needs}
 use Rattle.board.proofs.Signed.{complement-twice}
 use Rattle.pinmap.proofs.numbers.of_bits.Statement.{statement}

@@ -1,4 +1,4 @@
--- `grid::read_number` meets its contract. Assumes nothing.
+-- `pinmap::read_number` meets its contract. Assumes nothing.
 use borrow.Author.Needs.{needs}
 use mir.Syntax.{w32}
 use mir.Val.{SFits}

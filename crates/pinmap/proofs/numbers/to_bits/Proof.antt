@@ -1,4 +1,4 @@
--- `grid::to_bits` meets its contract: a negative number by its complement, any other as it is. Assumes nothing.
+-- `pinmap::to_bits` meets its contract: a negative number by its complement, any other as it is. Assumes nothing.
 use native.Mathlib.Omega.{arith}
 use mir.Facts.{fits-ofZ}
 use Rattle.board.proofs.Signed.{flipped, plain}

@@ -1,4 +1,4 @@
--- `grid::write_number` meets its contract: four stores. Assumes nothing.
+-- `pinmap::write_number` meets its contract: four stores. Assumes nothing.
 use borrow.Author.Needs.{needs}
 use native.Mathlib.Omega.{arith}
 use mathlib.Core.Path.{_≡_, _∙_, ap}

@@ -1,4 +1,4 @@
--- `grid::before` meets its contract: part by part, then the pin numbers. Assumes nothing.
+-- `tree::before` meets its contract: part by part, then the pin numbers. Assumes nothing.
 use borrow.Author.Needs.{needs}
 use Rattle.tree.specs.Weight.{comesBefore}
 use Rattle.board.proofs.Signed.{held}

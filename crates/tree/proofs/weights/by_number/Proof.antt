@@ -1,4 +1,4 @@
--- `grid::by_number` meets its contract, by the arm taken. Assumes nothing.
+-- `tree::by_number` meets its contract, by the arm taken. Assumes nothing.
 use borrow.Author.Tests.{lt-ltb, le-ltb}
 use Rattle.basics.specs.Tests.{choose}
 use Rattle.tree.specs.Weight.{byNumber}

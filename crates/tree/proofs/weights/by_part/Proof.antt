@@ -1,4 +1,4 @@
--- `grid::by_part` meets its contract, by the arm taken. Assumes nothing.
+-- `tree::by_part` meets its contract, by the arm taken. Assumes nothing.
 use Rattle.basics.specs.Tests.{choose}
 use Rattle.tree.specs.Weight.{byPart}
 use Rattle.board.proofs.Signed.{lt-rd}

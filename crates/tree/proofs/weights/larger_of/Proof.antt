@@ -1,4 +1,4 @@
--- `grid::larger_of` meets its contract, by the arm taken. Assumes nothing.
+-- `tree::larger_of` meets its contract, by the arm taken. Assumes nothing.
 use Rattle.board.proofs.Signed.{max-rd-yes, max-rd-no}
 use Rattle.tree.proofs.weights.larger_of.Statement.{statement}
 use Rattle.tree.proofs.weights.larger_of.Tie as tie

@@ -1,4 +1,4 @@
--- `grid::pair_of` meets its contract, by the arm taken. Assumes nothing.
+-- `tree::pair_of` meets its contract, by the arm taken. Assumes nothing.
 use borrow.Author.Needs.{needs}
 use mathlib.Core.Path.{_≡_}
 use Prim.Native.Nat.{min, max}
