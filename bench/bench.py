@@ -60,7 +60,7 @@ def map_answer(replay, text):
     """What wiremap must print for a map, in hex, worked out from what a replay prints."""
     job = 1 if len(text) < 4 else int(text[:4], 16)
     # A line of a log takes 4,200 bytes of a map; any map above 384 bytes is refused alike.
-    wrote = run(replay, f"open 0 {job} {text[:8400]}\nwire 0 64 lower\n".encode())[0].decode().splitlines()
+    wrote = run(replay, f"open 0 {job} old {text[:8400]}\nwire 0 1 64 lower\n".encode())[0].decode().splitlines()
     if wrote[0] != "0" or wrote[1].startswith("refused"):
         return f"{wrote[0] if wrote[0] != '0' else wrote[1]}\n".encode()
     length, runs, weighed = (wrote[1].split()[i] for i in (2, 4, 8))
@@ -77,7 +77,7 @@ def agree(first=1, last=100):
         for seed in seeds:
             random.seed(seed)
             log = random_log.log()
-            text = random_log.pin_map(random.choice([0, 1, 7, 65535]), random.choice([1, 3, 9]))
+            text = random_log.pin_map("old", random.choice([0, 1, 7, 65535]), random.choice([1, 3, 9]))
             data = b"" if text == "-" else bytes.fromhex(text)
             for name, command, given, wanted in (("replay", replay, log, run(other, log)[0]), ("wiremap", wiremap, data, map_answer(other, text))):
                 if wanted is None or run(command, given)[0] != wanted:
@@ -108,9 +108,9 @@ def ratio(what, took):
 
 def calls():
     """The time of 10,000 calls on a full journal (D4's desk), both programs by turns, the best of 25."""
-    fill = ["open 0 7 -", "open 1 9 -", "place 0 0 0 0"] + [f"move 0 0 {20 * x} 0" for x in range(1, 256)]
+    fill = ["open 0 7 old -", "open 1 9 old -", "place 0 0 0 0 1 0"] + [f"move 0 0 {20 * x} 0" for x in range(1, 256)]
     fill = "\n".join(fill) + "\n"
-    then = fill + "undo 0\nplace 1 0 40 40\nredo 0\nplace 1 0 40 40\n" * 2500
+    then = fill + "undo 0\nplace 1 0 40 40 1 0\nredo 0\nplace 1 0 40 40 1 0\n" * 2500
     with tempfile.TemporaryDirectory() as folder:
         programs = {"proved": proved("replay"), "plain C": plain(folder)}
         for name, command in programs.items():
@@ -127,15 +127,16 @@ def full_boards():
     return {"a chain": chain, "at random": scattered}
 
 
-def map_of(places):
-    """The map of job 7 with pins at these places, numbered from 0."""
-    return b"".join(random_log.record(7, p, 0, x, y) for p, (x, y) in enumerate(places))
+def map_of(form, places):
+    """The map of job 7 with pins at these places, numbered from 0, all in net 1."""
+    byte_3 = {"old": 0, "new": 1}[form]
+    return b"".join(random_log.record(form, 7, p, byte_3, x, y, 0) for p, (x, y) in enumerate(places))
 
 
 def drops_call(seat):
     """A line that asks for a seat's drops: 12 volts, a thousandth of an ohm a step, a load at each pin, amps and watts by turns."""
     loads = ",".join(f"w{random_log.bits(7 * p)}" if p % 2 else f"a{random_log.bits(0.3 * p)}" for p in range(32))
-    return f"drops {seat} {random_log.bits(12)} {random_log.bits(0.001)} {loads}\n"
+    return f"drops {seat} 1 {random_log.bits(12)} {random_log.bits(0.001)} {loads}\n"
 
 
 def wire():
@@ -159,11 +160,11 @@ def wire():
 def beside_wirings(what_calls, call_of):
     """The time of 2,000 calls on a seat and of 2,000 wirings of the same seat, printed; a full board of 32 pins, opened from a map by the log's first line.
     Both programs by turns, the best of 25, less the time of reading the same lines: naming seat 8 they are refused with 1."""
-    asked = {"wirings": lambda seat: f"wire {seat} 64\n", what_calls: call_of}
+    asked = {"wirings": lambda seat: f"wire {seat} 1 64\n", what_calls: call_of}
     with tempfile.TemporaryDirectory() as folder:
         programs = {"proved": proved("replay"), "plain C": plain(folder)}
         for what, boards in full_boards().items():
-            opened = f"open 0 7 {map_of(boards[0]).hex()}\n"
+            opened = f"open 0 7 old {map_of('old', boards[0]).hex()}\n"
             logs = {name: [opened + call(seat) * 2000 for seat in (8, 0)] for name, call in asked.items()}
             every = [log for pair in logs.values() for log in pair]
             wrote = [[run(command, log.encode())[0] for log in every] for command in programs.values()]
@@ -184,7 +185,7 @@ def drops():
 
 def mill():
     """The time of calls for the segments of a seat, beside wirings."""
-    beside_wirings("calls for segments", lambda seat: f"mill {seat} 64\n")
+    beside_wirings("calls for segments", lambda seat: f"mill {seat} 1 64\n")
 
 
 def smallest(command, log):
@@ -207,11 +208,12 @@ def stack():
     """The smallest stack on which a full board is wired: 32 pins one behind the other, so that the asking goes deepest."""
     places = [(40 * p, 20 * p) for p in range(32)]
     xs, ys = (",".join(str(place[i]) for place in places) for i in (0, 1))
-    pin_map = map_of(places)
-    opened = f"open 0 7 {pin_map.hex()}\n"
+    pin_map, new_map = map_of("old", places), map_of("new", places)
+    opened = f"open 0 7 old {pin_map.hex()}\n"
     bare = f"bare 64 {xs} {ys}\n"
-    wired = opened + "wire 0 64\n"
-    every = wired + drops_call(0) + "mill 0 64\nwrite 0 1024\nmove 0 0 0 9\nremove 0 0\nplace 0 0 0 0\nundo 0\nredo 0\npins 0\nclose 0\n" + bare
+    wired = opened + "wire 0 1 64\n"
+    every = wired + drops_call(0) + "mill 0 1 64\nwrite 0 1024\nmove 0 0 0 9\nremove 0 0\nplace 0 0 0 0 1 0\nundo 0\nredo 0\npins 0\nclose 0\n" + bare
+    every += f"open 0 7 new {new_map.hex()}\nover 7 1024 {pin_map.hex()}\nback 7 1024 {new_map.hex()}\n"
     replay = proved("replay")
     for what, log in (("no call", "#\n"), ("a drawing shown", "pins 0\n"), ("a map opened and wired", wired), ("bare wiring", bare), ("every call", every)):
         print(f"replay, {what}: {smallest(replay, log.encode())}")

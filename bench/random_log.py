@@ -1,8 +1,8 @@
 #!/usr/bin/env python3
 """Writes a log of calls at random for `replay` to standard output: random_log.py SEED.
 
-Small boards, where ties and refusals are common; every call; lines that are not calls; maps with each kind of fault; journals that are full; loads at the
-ends of their ranges and beyond."""
+Small boards, where ties and refusals are common; every call; lines that are not calls; maps of both forms with each kind of fault; several nets in a
+drawing, and numbers that are no net; journals that are full; loads at the ends of their ranges and beyond."""
 import random
 import struct
 import sys
@@ -10,6 +10,7 @@ import sys
 pick = random.choice
 GAP = 20  # pins are too near when both x and y differ by less
 LIMIT = 60000  # x and y go from -LIMIT to LIMIT
+RECORD = {"old": 12, "new": 16}  # the bytes of a record of each form
 
 
 def chance(percent):
@@ -45,6 +46,15 @@ def seat():
 
 def pin():
     return random.randrange(32) if chance(95) else pick([32, 33, 255, 256, 4294967295])
+
+
+def net():
+    """A net: most often one of the first three, at times a number that is none."""
+    return pick([1, 1, 1, 1, 2, 2, 3, 1 if chance(60) else random.randint(1, 8)]) if chance(96) else pick([0, 9, 10, 255, 256, 257, 4294967295])
+
+
+def part_number():
+    return pick([0, 0, 1, 255, 256, 4294967295, random.randrange(2**32), random.randrange(2**32)])
 
 
 def hanging(most):
@@ -88,15 +98,28 @@ def board(spread, most):
     return spots[: random.randint(0, most) if chance(50) else most]
 
 
-def record(job, number_of_pin, zero, x, y):
-    return job.to_bytes(2, "big") + bytes([number_of_pin, zero]) + (x % 2**32).to_bytes(4, "big") + (y % 2**32).to_bytes(4, "big")
+def record(form, job, number_of_pin, byte_3, x, y, number_of_part):
+    """A record of a form; its byte 3 is the net in the new form and 0 in the old one, which has no part number."""
+    twelve = job.to_bytes(2, "big") + bytes([number_of_pin, byte_3]) + (x % 2**32).to_bytes(4, "big") + (y % 2**32).to_bytes(4, "big")
+    return twelve + (number_of_part.to_bytes(4, "big") if form == "new" else b"")
 
 
-def pin_map(job, spread):
-    """A map, at times with a fault in one or two of its records or in its length."""
+def feeds(count):
+    """The nets and part numbers of so many pins: all as in an old map, or all but one, or any."""
+    style = random.randrange(4)
+    if style > 1:
+        return [(pick([1, 1, 2, 3, random.randint(1, 8)]), part_number()) for _ in range(count)]
+    pairs = [(1, 0)] * count
+    if style == 1 and pairs:
+        pairs[random.randrange(count)] = pick([(random.randint(1, 8), 0), (1, part_number()), (8, 1)])
+    return pairs
+
+
+def pin_map(form, job, spread):
+    """A map of a form, at times with a fault in one or two of its records or in its length."""
     spots = board(spread, random.randint(0, 32))
     numbers = sorted(random.sample(range(32), len(spots)))
-    records = [[job, n, 0, x, y] for n, (x, y) in zip(numbers, spots)]
+    records = [[job, n, feed if form == "new" else 0, x, y, made] for n, (x, y), (feed, made) in zip(numbers, spots, feeds(len(spots)))]
     for _ in range(pick([0, 0, 0, 1, 2])):
         if records:
             faulty, other = pick(records), pick(records)
@@ -106,26 +129,45 @@ def pin_map(job, spread):
             elif fault == 1:
                 faulty[1] = pick([32, 255, other[1], 0])
             elif fault == 2:
-                faulty[2] = pick([1, 255])
+                faulty[2] = pick([0, 1, 8, 9, 255])
             elif fault == 3:
                 faulty[pick([3, 4])] = pick([LIMIT + 1, -LIMIT - 1, 2147483647, -2147483648])
             elif fault == 4:
-                faulty[3:] = [other[3] + pick([0, GAP - 1, GAP]), other[4] + pick([0, 1 - GAP])]
+                faulty[3:5] = [other[3] + pick([0, GAP - 1, GAP]), other[4] + pick([0, 1 - GAP])]
             elif fault == 5:
                 records.append(pick(records)[:])
             else:
                 random.shuffle(records)
-    data = b"".join(record(*r) for r in records)
+    data = b"".join(record(form, *r) for r in records)
     if chance(4):
-        data = pick([data[:-1], data + b"\0", data * 2, data[:1], bytes(385), bytes(396), bytes(4200), bytes(4201)])
+        most = 32 * RECORD[form]
+        odd = [bytes(most + 1), bytes(most + RECORD[form]), bytes(384), bytes(480), bytes(512), bytes(4200), bytes(4201)]
+        data = pick([data[:-1], data[:-4], data + b"\0", data + bytes(4), data * 2, data[:1]] + odd)
     text = data.hex() or "-"
     return text.upper() if chance(10) else text
+
+
+def formed(job, spread):
+    """A form and a map: most often a map of that form, at times of the other, seldom a word that is no form."""
+    form = pick(["old", "new"])
+    text = pin_map(form if chance(96) else pick(["old", "new"]), job, spread)
+    return f"{form if chance(99) else pick(['Old', 'NEW', 'olds', '12', '-'])} {text}"
 
 
 def opening(spread):
     at = seat()
     job = 100 + at % 100 if chance(90) else pick([0, 1, 100, 101, 65535, 65536])
-    return f"open {plain(at)} {plain(job)} {pin_map(job if job < 65536 else 7, spread) if chance(60) else '-'}"
+    return f"open {plain(at)} {plain(job)} {formed(job if job < 65536 else 7, spread) if chance(60) else pick(['old -', 'new -'])}"
+
+
+def moving(spread):
+    """A map moved into the other form, most often with room for it."""
+    call, form, other = pick([("over", "old", "new"), ("back", "new", "old")])
+    job = pick([1, 7, 7, 258, 65535]) if chance(94) else pick([0, 0, 65536])
+    text = pin_map(form if chance(96) else other, job % 65536, spread)
+    need = 0 if text == "-" else len(text) // 2 // RECORD[form] * RECORD[other]
+    room = pick([need, need, need + 1, need + 5, max(need - 1, 0), 1024]) if chance(90) else pick([0, 384, 512, 1024, 1025])
+    return f"{call} {plain(job)} {plain(room)} {text}"
 
 
 def listed(parts):
@@ -161,10 +203,15 @@ def bare(spread):
     return f"bare {plain(room)} {listed(xs)} {listed(ys)}{favour()}"
 
 
+def stated(call):
+    """The net and the part number that a placing states."""
+    return f" {plain(net())} {plain(part_number())}" if call == "place" else ""
+
+
 def edit(spread):
     at, which = plain(seat()), plain(pin())
     call = pick(["place", "place", "place", "move", "move", "remove"])
-    return f"remove {at} {which}" if call == "remove" else f"{call} {at} {which} {number(part(spread))} {number(part(spread))}"
+    return f"remove {at} {which}" if call == "remove" else f"{call} {at} {which} {number(part(spread))} {number(part(spread))}{stated(call)}"
 
 
 def bits(value):
@@ -215,24 +262,25 @@ def loads():
 
 
 def drops(at):
-    """A call for a seat's drops, most often with all numbers in their ranges."""
-    return f"drops {at} {amount(1, 60, 5)} {amount(0, 0.01, 5)} {loads()}"
+    """A call for the drops of a seat's net, most often with all numbers in their ranges."""
+    return f"drops {at} {plain(net())} {amount(1, 60, 5)} {amount(0, 0.01, 5)} {loads()}"
 
 
 def lending(call, at, most):
-    """A wiring of a seat, or its copper as segments, most often with room for all, else for at most so many."""
-    return f"{call} {at} {plain(pick([64, 64, random.randint(0, most)]))}{favour()}"
+    """A wiring of a seat's net, or its copper as segments, most often with room for all, else for at most so many."""
+    return f"{call} {at} {plain(net())} {plain(pick([64, 64, random.randint(0, most)]))}{favour()}"
 
 
 def asked(spread):
     """A map opened, or a second one where the first is faulty; its drops with several loads and its segments asked for, at times an edit between them; the
     seat closed."""
     at = random.randrange(8)
-    lines = [f"open {at} {100 + at} {pin_map(100 + at, spread)}" for _ in range(2)]
+    lines = [f"open {at} {100 + at} {formed(100 + at, spread)}" for _ in range(2)]
     for _ in range(random.randint(1, 5)):
         lines.append(pick([drops(at), lending("mill", at, 12)]))
         if chance(30):
-            lines.append(f"{pick(['place', 'move'])} {at} {random.randrange(32)} {part(spread)} {part(spread)}")
+            call = pick(["place", "move"])
+            lines.append(f"{call} {at} {random.randrange(32)} {part(spread)} {part(spread)}{stated(call)}")
     return lines + [f"close {at}"]
 
 
@@ -245,7 +293,7 @@ def look(spread):
         return drops(at)
     if call in ("wire", "mill"):
         return lending(call, at, 65)
-    return f"write {at} {plain(pick([0, 12, 24, 383, 384, 1024, 1025, random.randint(0, 400)]))}"
+    return f"write {at} {plain(pick([0, 16, 32, 511, 512, 1024, 1025, random.randint(0, 530)]))}"
 
 
 def call(spread):
@@ -260,14 +308,14 @@ def call(spread):
         return look(spread)
     if dice < 92:
         return opening(spread)
-    return f"close {plain(seat())}" if chance(30) else bare(spread)
+    return f"close {plain(seat())}" if chance(30) else pick([bare, moving])(spread)
 
 
 def full_journal(spread):
     """Seats that fill the journal together, and calls on it."""
     seats = random.randint(1, 3)
-    lines = [f"open {s} {100 + s} -" for s in range(3)]
-    lines += [f"place {s} {p} {GAP * p} {GAP * s}" for s in range(seats) for p in range(2)]
+    lines = [f"open {s} {100 + s} new -" for s in range(3)]
+    lines += [f"place {s} {p} {GAP * p} {GAP * s} {random.randint(1, 3)} {part_number()}" for s in range(seats) for p in range(2)]
     for i in range(random.randint(250, 300)):
         which = pick([0, 0, 1])
         lines.append(f"move {random.randrange(seats)} {which} {i} {GAP * (50 + which)}")
@@ -309,7 +357,7 @@ def spoiled(line):
 
 def log():
     spread = pick([1, 2, 3, 3, 5, 9, 30])
-    kind = random.randrange(9)
+    kind = random.randrange(10)
     if kind == 0:
         lines = full_journal(spread)
     elif kind == 1:
@@ -318,8 +366,10 @@ def log():
         lines = [pick([opening(spread), opening(spread), f"close {seat()}", look(spread)]) for _ in range(150)]
     elif kind == 3:
         lines = [line for _ in range(40) for line in asked(spread)]
+    elif kind == 4:
+        lines = [moving(spread) for _ in range(120)]
     else:
-        lines = [f"open {s} {100 + s} -" for s in range(8) if chance(60)] + [call(spread) for _ in range(300)]
+        lines = [f"open {s} {100 + s} {pick(['old', 'new'])} -" for s in range(8) if chance(60)] + [call(spread) for _ in range(300)]
     spoil = pick([0, 0, 0, 2, 10])
     ends = pick([[b"\n"], [b"\n"], [b"\r\n"], [b"\n", b"\r\n"]])
     text = b"".join((spoiled(line) if chance(spoil) else line.encode()) + pick(ends) for line in lines)

@@ -12,13 +12,13 @@
 #pragma GCC optimize("fp-contract=off")
 _Static_assert(FLT_EVAL_METHOD == 0, "operations on floats give floats");
 
-enum { SEATS = 8, PINS = 32, RECORDS = 256, BOARD = 60000, GAP = 20, RECORD_BYTES = 12, MAP_BYTES = 384, LEGS = 2 * (PINS - 1) };
+enum { SEATS = 8, PINS = 32, RECORDS = 256, BOARD = 60000, GAP = 20, NETS = 8, LEGS = 2 * (PINS - 1) };
 enum { LINE_BYTES = 16384, MAP_PAIRS = 4200, LIST_NUMBERS = 40, WRITE_ROOM = 1024, WIRE_ROOM = 64 };
 
 typedef struct { int32_t x, y; } Place;
-typedef struct { bool there; Place at; } Pin;
+typedef struct { bool there; Place at; uint32_t net, part; } Pin;
 typedef enum { PLACED, MOVED, REMOVED } Kind;
-typedef struct { Kind kind; uint32_t pin; Place from, to; } Edit;
+typedef struct { Kind kind; uint32_t pin; Place from, to; uint32_t net, part; } Edit;
 typedef struct { uint32_t seat; Edit edit; } Record;
 typedef struct { bool open; uint16_t job; unsigned standing; Pin pins[PINS]; } Seat;
 typedef struct { Seat seats[SEATS]; unsigned used; Record records[RECORDS]; } Desk;
@@ -45,21 +45,23 @@ static bool crowded(const Pin *pins, uint32_t pin, Place at) {
     return false;
 }
 
+static bool no_net(uint32_t net) { return net < 1 || net > NETS; }
+
 static bool makeable(const Pin *pins, const Edit *edit) {
     if (edit->pin >= PINS) return false;
     const Pin *pin = &pins[edit->pin];
-    if (edit->kind == PLACED) return !pin->there && !outside(edit->to) && !crowded(pins, edit->pin, edit->to);
-    if (!pin->there || !same(pin->at, edit->from)) return false;
+    if (edit->kind == PLACED) return !pin->there && !no_net(edit->net) && !outside(edit->to) && !crowded(pins, edit->pin, edit->to);
+    if (!pin->there || !same(pin->at, edit->from) || pin->net != edit->net || pin->part != edit->part) return false;
     return edit->kind == REMOVED || (!outside(edit->to) && !same(pin->at, edit->to) && !crowded(pins, edit->pin, edit->to));
 }
 
 static void make(Pin *pins, const Edit *edit) {
-    pins[edit->pin] = edit->kind == REMOVED ? (Pin){false, {0, 0}} : (Pin){true, edit->to};
+    pins[edit->pin] = edit->kind == REMOVED ? (Pin){0} : (Pin){true, edit->to, edit->net, edit->part};
 }
 
 // The edit that takes an edit back.
 static Edit flipped(const Edit *edit) {
-    Edit back = {edit->kind, edit->pin, edit->to, edit->from};
+    Edit back = {edit->kind, edit->pin, edit->to, edit->from, edit->net, edit->part};
     if (edit->kind == PLACED) back.kind = REMOVED;
     if (edit->kind == REMOVED) back.kind = PLACED;
     return back;
@@ -70,7 +72,7 @@ static Edit flipped(const Edit *edit) {
 static bool pins_break_rules(const Pin *pins) {
     for (int p = 0; p < PINS; p++) {
         if (!pins[p].there) continue;
-        if (outside(pins[p].at)) return true;
+        if (outside(pins[p].at) || no_net(pins[p].net)) return true;
         for (int q = 0; q < p; q++)
             if (pins[q].there && too_near(pins[p].at, pins[q].at)) return true;
     }
@@ -137,15 +139,27 @@ static Verdict seat_refusal(const Desk *desk, uint32_t seat) {
 
 static uint32_t number_at(const uint8_t *b) { return (uint32_t)b[0] << 24 | (uint32_t)b[1] << 16 | (uint32_t)b[2] << 8 | b[3]; }
 
-static Verdict read_map(const uint8_t *map, size_t bytes, uint16_t job, Pin *pins) {
-    if (bytes % RECORD_BYTES || bytes > MAP_BYTES) return refused(13);
+// The two forms of a map. An old record has no net and no part number: they are 1 and 0.
+typedef enum { OLD, NEW } Form;
+
+static size_t record_bytes(Form form) { return form == OLD ? 12 : 16; }
+
+static Pin pin_at(Form form, const uint8_t *b) {
+    Place at = {(int32_t)number_at(b + 4), (int32_t)number_at(b + 8)};
+    return form == OLD ? (Pin){true, at, 1, 0} : (Pin){true, at, b[3], number_at(b + 12)};
+}
+
+static Verdict read_map(Form form, const uint8_t *map, size_t bytes, uint16_t job, Pin *pins) {
+    size_t size = record_bytes(form);
+    if (bytes % size || bytes > PINS * size) return refused(13);
     int before = -1;
-    for (size_t r = 0; r < bytes / RECORD_BYTES; r++) {
-        const uint8_t *b = map + r * RECORD_BYTES;
-        Place at = {(int32_t)number_at(b + 4), (int32_t)number_at(b + 8)};
+    for (size_t r = 0; r < bytes / size; r++) {
+        const uint8_t *b = map + r * size;
+        Pin pin = pin_at(form, b);
         if ((b[0] << 8 | b[1]) != job) return (Verdict){14, (int)r};
-        if (b[2] >= PINS || b[2] <= before || b[3] != 0 || outside(at) || crowded(pins, b[2], at)) return (Verdict){15, (int)r};
-        pins[b[2]] = (Pin){true, at};
+        if (b[2] >= PINS || b[2] <= before || (form == OLD && b[3] != 0) || no_net(pin.net)) return (Verdict){15, (int)r};
+        if (outside(pin.at) || crowded(pins, b[2], pin.at)) return (Verdict){15, (int)r};
+        pins[b[2]] = pin;
         before = b[2];
     }
     return accepted;
@@ -155,15 +169,16 @@ static void put_number(uint8_t *b, uint32_t n) {
     b[0] = n >> 24, b[1] = n >> 16, b[2] = n >> 8, b[3] = n;
 }
 
-static size_t write_map(const Seat *seat, uint8_t *buffer) {
+static size_t write_map(Form form, uint16_t job, const Pin *pins, uint8_t *buffer) {
     size_t n = 0;
     for (int p = 0; p < PINS; p++) {
-        if (!seat->pins[p].there) continue;
+        if (!pins[p].there) continue;
         uint8_t *b = buffer + n;
-        b[0] = seat->job >> 8, b[1] = seat->job & 255, b[2] = p, b[3] = 0;
-        put_number(b + 4, (uint32_t)seat->pins[p].at.x);
-        put_number(b + 8, (uint32_t)seat->pins[p].at.y);
-        n += RECORD_BYTES;
+        b[0] = job >> 8, b[1] = job & 255, b[2] = p, b[3] = form == OLD ? 0 : pins[p].net;
+        put_number(b + 4, (uint32_t)pins[p].at.x);
+        put_number(b + 8, (uint32_t)pins[p].at.y);
+        if (form == NEW) put_number(b + 12, pins[p].part);
+        n += record_bytes(form);
     }
     return n;
 }
@@ -174,16 +189,31 @@ static unsigned pins_there(const Pin *pins) {
     return n;
 }
 
+// A pin has what an old record has no room for: a net other than 1, or a part number other than 0.
+static bool more_than_old(const Pin *pins) {
+    for (int p = 0; p < PINS; p++)
+        if (pins[p].there && (pins[p].net != 1 || pins[p].part != 0)) return true;
+    return false;
+}
+
+// The pins of a map that is to be moved into the other form, into 32 that are absent: 4, 13, 14, 15, and 22 where the other is the old one.
+static Verdict read_to_move(Form form, const uint8_t *map, size_t bytes, uint16_t job, Pin *pins) {
+    if (job == 0) return refused(4);
+    Verdict v = read_map(form, map, bytes, job, pins);
+    if (v.number) return v;
+    return form == NEW && more_than_old(pins) ? refused(22) : accepted;
+}
+
 // ---- Calls that change the desk ----
 
-static Verdict open_seat(Desk *desk, uint32_t seat, uint16_t job, const uint8_t *map, size_t bytes) {
+static Verdict open_seat(Desk *desk, uint32_t seat, uint16_t job, Form form, const uint8_t *map, size_t bytes) {
     if (broken(desk)) return refused(28);
     if (seat >= SEATS) return refused(1);
     if (desk->seats[seat].open) return refused(3);
     if (job == 0) return refused(4);
     if (job_elsewhere(desk, job, seat)) return refused(5);
     Seat opened = {.open = true, .job = job};
-    Verdict v = read_map(map, bytes, job, opened.pins);
+    Verdict v = read_map(form, map, bytes, job, opened.pins);
     if (v.number == 0) desk->seats[seat] = opened;
     return v;
 }
@@ -216,15 +246,16 @@ static Verdict record_edit(Desk *desk, uint32_t seat, Edit edit) {
     return accepted;
 }
 
-static Verdict place_pin(Desk *desk, uint32_t seat, uint32_t pin, Place at) {
+static Verdict place_pin(Desk *desk, uint32_t seat, uint32_t pin, Place at, uint32_t net, uint32_t part) {
     Verdict v = seat_refusal(desk, seat);
     if (v.number) return v;
     const Pin *pins = desk->seats[seat].pins;
     if (pin >= PINS) return refused(6);
     if (pins[pin].there) return refused(7);
+    if (no_net(net)) return refused(21);
     if (outside(at)) return refused(8);
     if (crowded(pins, pin, at)) return refused(9);
-    return record_edit(desk, seat, (Edit){PLACED, pin, {0, 0}, at});
+    return record_edit(desk, seat, (Edit){PLACED, pin, {0, 0}, at, net, part});
 }
 
 static Verdict move_pin(Desk *desk, uint32_t seat, uint32_t pin, Place at) {
@@ -234,7 +265,7 @@ static Verdict move_pin(Desk *desk, uint32_t seat, uint32_t pin, Place at) {
     if (pin >= PINS || !pins[pin].there) return refused(6);
     if (outside(at)) return refused(8);
     if (same(pins[pin].at, at) || crowded(pins, pin, at)) return refused(9);
-    return record_edit(desk, seat, (Edit){MOVED, pin, pins[pin].at, at});
+    return record_edit(desk, seat, (Edit){MOVED, pin, pins[pin].at, at, pins[pin].net, pins[pin].part});
 }
 
 static Verdict remove_pin(Desk *desk, uint32_t seat, uint32_t pin) {
@@ -242,7 +273,7 @@ static Verdict remove_pin(Desk *desk, uint32_t seat, uint32_t pin) {
     if (v.number) return v;
     const Pin *pins = desk->seats[seat].pins;
     if (pin >= PINS || !pins[pin].there) return refused(6);
-    return record_edit(desk, seat, (Edit){REMOVED, pin, pins[pin].at, {0, 0}});
+    return record_edit(desk, seat, (Edit){REMOVED, pin, pins[pin].at, {0, 0}, pins[pin].net, pins[pin].part});
 }
 
 static Verdict undo(Desk *desk, uint32_t seat) {
@@ -523,15 +554,27 @@ static Verdict wire_pins(const Pin *pins, unsigned room, Shape favoured, Wiring 
     return accepted;
 }
 
-static Verdict wire_seat(const Desk *desk, uint32_t seat, unsigned room, Shape favoured, Wiring *w) {
+// The pins of one net of a seat, the others left out: 28, 1, 2, 21.
+static Verdict pins_of_net(const Desk *desk, uint32_t seat, uint32_t net, Pin *pins) {
     Verdict v = seat_refusal(desk, seat);
-    return v.number ? v : wire_pins(desk->seats[seat].pins, room, favoured, w);
+    if (v.number) return v;
+    if (no_net(net)) return refused(21);
+    memcpy(pins, desk->seats[seat].pins, PINS * sizeof *pins);
+    for (int p = 0; p < PINS; p++)
+        if (pins[p].net != net) pins[p].there = false;
+    return accepted;
+}
+
+static Verdict wire_net(const Desk *desk, uint32_t seat, uint32_t net, unsigned room, Shape favoured, Wiring *w) {
+    Pin pins[PINS];
+    Verdict v = pins_of_net(desk, seat, net, pins);
+    return v.number ? v : wire_pins(pins, room, favoured, w);
 }
 
 static Verdict wire_bare(const int32_t *xs, unsigned x_count, const int32_t *ys, unsigned y_count, unsigned room, Shape favoured, Wiring *w) {
     Pin pins[PINS] = {0};
     if (x_count != y_count || x_count > PINS) return refused(16);
-    for (unsigned i = 0; i < x_count; i++) pins[i] = (Pin){true, {xs[i], ys[i]}};
+    for (unsigned i = 0; i < x_count; i++) pins[i] = (Pin){true, {xs[i], ys[i]}, 1, 0};
     if (x_count == 0) return refused(17);
     for (unsigned i = 0; i < x_count; i++)
         if (outside(pins[i].at)) return refused(8);
@@ -541,12 +584,13 @@ static Verdict wire_bare(const int32_t *xs, unsigned x_count, const int32_t *ys,
 
 // ---- A clean copper list for the mill ----
 
-// The copper of a seat's pins as stretches, which are in the order of the list and none of which can be joined to another: 28, 1, 2, 17, 18, 19.
-static Verdict mill_seat(const Desk *desk, uint32_t seat, unsigned room, Shape favoured, Stretch *s, int *segments) {
+// The copper of a net's pins as stretches, which are in the order of the list and none of which can be joined to another: 28, 1, 2, 21, 17, 18, 19.
+static Verdict mill_net(const Desk *desk, uint32_t seat, uint32_t net, unsigned room, Shape favoured, Stretch *s, int *segments) {
+    Pin pins[PINS];
     Wiring w;
-    Verdict v = seat_refusal(desk, seat);
+    Verdict v = pins_of_net(desk, seat, net, pins);
     if (v.number) return v;
-    v = shape_pins(desk->seats[seat].pins, favoured, &w);
+    v = shape_pins(pins, favoured, &w);
     if (v.number) return v;
     *segments = join_legs(w.leg, w.legs, s);
     expect_length(&w, sum_of(s, *segments));
@@ -565,7 +609,7 @@ static bool from_to(float low, float high, float value) { return value >= low &&
 // Amps from 0 to 500, watts from 0 to 12,000, or spare.
 static bool load_in_range(Load load) { return load.kind == SPARE || from_to(0, load.kind == AMPS ? 500 : 12000, load.size); }
 
-// Whether the sheet and the loads of the pins that are there can be worked with; loads of absent pins are not looked at.
+// Whether the sheet and the loads of the pins that are there can be worked with; those of absent pins and of other nets are not looked at.
 static bool all_in_range(const Pin *pins, Sheet sheet, const Load *loads) {
     for (int p = 0; p < PINS; p++)
         if (pins[p].there && !load_in_range(loads[p])) return false;
@@ -597,14 +641,14 @@ static void find_drops(const Pin *pins, const Run *run, int n, const float *curr
     }
 }
 
-// The drops of a seat's pins, into 32 that are 0: 28, 1, 2, 17, 18, 20.
-static Verdict drops_of_seat(const Desk *desk, uint32_t seat, Sheet sheet, const Load *loads, float *drop) {
+// The drops of a net's pins, into 32 that are 0: 28, 1, 2, 21, 17, 18, 20.
+static Verdict drops_of_net(const Desk *desk, uint32_t seat, uint32_t net, Sheet sheet, const Load *loads, float *drop) {
+    Pin pins[PINS];
     Run run[PINS - 1];
     float current[PINS - 1];
     int runs;
-    Verdict v = seat_refusal(desk, seat);
+    Verdict v = pins_of_net(desk, seat, net, pins);
     if (v.number) return v;
-    const Pin *pins = desk->seats[seat].pins;
     v = join_pins(pins, run, &runs);
     if (v.number) return v;
     if (!all_in_range(pins, sheet, loads)) return refused(20);
@@ -674,6 +718,11 @@ static bool read_hex(Word w, uint8_t *map, size_t *bytes) {
         map[*bytes] = high << 4 | low;
     }
     return true;
+}
+
+static bool read_form(Word w, Form *form) {
+    *form = is(w, "old") ? OLD : NEW;
+    return *form == OLD || is(w, "new");
 }
 
 // The eight hex digits of a float's bits.
@@ -759,16 +808,21 @@ static bool print_drops(Verdict v, const float *drop) {
     return true;
 }
 
-static bool print_written(const Desk *desk, uint32_t seat, unsigned room) {
+// A map written into a lent buffer, and the buffer: 19.
+static bool print_map(Form form, uint16_t job, const Pin *pins, unsigned room) {
     uint8_t buffer[WRITE_ROOM];
-    Verdict v = seat_refusal(desk, seat);
-    if (v.number) return print_verdict(v);
-    if (pins_there(desk->seats[seat].pins) * RECORD_BYTES > room) return print_verdict(refused(19));
+    if (pins_there(pins) * record_bytes(form) > room) return print_verdict(refused(19));
     memset(buffer, 0xEE, room);
-    printf("0 %zu%s", write_map(&desk->seats[seat], buffer), room ? " " : "");
+    printf("0 %zu%s", write_map(form, job, pins, buffer), room ? " " : "");
     for (unsigned i = 0; i < room; i++) printf("%02x", buffer[i]);
     putchar('\n');
     return true;
+}
+
+static bool print_written(const Desk *desk, uint32_t seat, unsigned room) {
+    Verdict v = seat_refusal(desk, seat);
+    if (v.number) return print_verdict(v);
+    return print_map(NEW, desk->seats[seat].job, desk->seats[seat].pins, room);
 }
 
 static bool print_pins(const Desk *desk, uint32_t seat) {
@@ -779,13 +833,13 @@ static bool print_pins(const Desk *desk, uint32_t seat) {
     const Edit *own[RECORDS];
     printf("job %u pins %u standing %u taken %u\n", s->job, pins_there(s->pins), s->standing, owned_by(desk, seat, own) - s->standing);
     for (int p = 0; p < PINS; p++)
-        if (s->pins[p].there) printf("pin %d %d %d\n", p, s->pins[p].at.x, s->pins[p].at.y);
+        if (s->pins[p].there) printf("pin %d %d %d %u %u\n", p, s->pins[p].at.x, s->pins[p].at.y, s->pins[p].net, s->pins[p].part);
     return true;
 }
 
 // ---- A log played ----
 
-enum { WORDS = 5 };
+enum { WORDS = 7 };
 
 static bool play_bare(const Word *word, int words) {
     int32_t xs[LIST_NUMBERS], ys[LIST_NUMBERS];
@@ -803,44 +857,74 @@ static bool play_open(Desk *desk, uint32_t seat, const Word *word) {
     static uint8_t map[MAP_PAIRS];
     size_t bytes;
     uint64_t job;
-    if (!read_digits(word[2], 65535, &job) || !read_hex(word[3], map, &bytes)) return false;
-    return print_verdict(open_seat(desk, seat, job, map, bytes));
+    Form form;
+    if (!read_digits(word[2], 65535, &job) || !read_form(word[3], &form) || !read_hex(word[4], map, &bytes)) return false;
+    return print_verdict(open_seat(desk, seat, job, form, map, bytes));
+}
+
+// Moves a map of a form into the other.
+static bool play_moving(Form form, const Word *word, int words) {
+    static uint8_t map[MAP_PAIRS];
+    size_t bytes;
+    uint64_t job, room;
+    Pin pins[PINS] = {0};
+    if (words != 4 || !read_digits(word[1], 65535, &job) || !read_digits(word[2], WRITE_ROOM, &room) || !read_hex(word[3], map, &bytes)) return false;
+    Verdict v = read_to_move(form, map, bytes, job, pins);
+    return v.number ? print_verdict(v) : print_map(form == OLD ? NEW : OLD, job, pins, room);
 }
 
 static bool play_wire(const Desk *desk, uint32_t seat, const Word *word, int words) {
-    uint64_t room;
+    uint64_t net, room;
     Shape favoured;
     Wiring w;
-    if (!read_favour(word, words, 3, &favoured) || !read_digits(word[2], WIRE_ROOM, &room)) return false;
-    Verdict v = wire_seat(desk, seat, room, favoured, &w);
+    if (!read_favour(word, words, 4, &favoured) || !read_digits(word[2], UINT32_MAX, &net) || !read_digits(word[3], WIRE_ROOM, &room)) return false;
+    Verdict v = wire_net(desk, seat, net, room, favoured, &w);
     return print_wiring(v, &w);
 }
 
 static bool play_mill(const Desk *desk, uint32_t seat, const Word *word, int words) {
-    uint64_t room;
+    uint64_t net, room;
     Shape favoured;
     Stretch s[LEGS];
     int segments = 0;
-    if (!read_favour(word, words, 3, &favoured) || !read_digits(word[2], WIRE_ROOM, &room)) return false;
-    Verdict v = mill_seat(desk, seat, room, favoured, s, &segments);
+    if (!read_favour(word, words, 4, &favoured) || !read_digits(word[2], UINT32_MAX, &net) || !read_digits(word[3], WIRE_ROOM, &room)) return false;
+    Verdict v = mill_net(desk, seat, net, room, favoured, s, &segments);
     return print_segments(v, s, segments);
 }
 
 // Loads that are not said are spare, and drops are 0 until they are found.
 static bool play_drops(const Desk *desk, uint32_t seat, const Word *word, int words) {
+    uint64_t net;
     Sheet sheet;
     Load loads[PINS] = {0};
     float drop[PINS] = {0};
-    if (words != 5 || !read_float(word[2], &sheet.volts) || !read_float(word[3], &sheet.ohms) || !read_loads(word[4], loads)) return false;
-    Verdict v = drops_of_seat(desk, seat, sheet, loads, drop);
+    if (words != 6 || !read_digits(word[2], UINT32_MAX, &net)) return false;
+    if (!read_float(word[3], &sheet.volts) || !read_float(word[4], &sheet.ohms) || !read_loads(word[5], loads)) return false;
+    Verdict v = drops_of_net(desk, seat, net, sheet, loads, drop);
     return print_drops(v, drop);
+}
+
+static bool play_place(Desk *desk, uint32_t seat, const Word *word) {
+    uint64_t pin, net, part;
+    Place at;
+    if (!read_digits(word[2], UINT32_MAX, &pin) || !read_signed(word[3], &at.x) || !read_signed(word[4], &at.y)) return false;
+    if (!read_digits(word[5], UINT32_MAX, &net) || !read_digits(word[6], UINT32_MAX, &part)) return false;
+    return print_verdict(place_pin(desk, seat, pin, at, net, part));
+}
+
+static bool play_move(Desk *desk, uint32_t seat, const Word *word) {
+    uint64_t pin;
+    Place at;
+    if (!read_digits(word[2], UINT32_MAX, &pin) || !read_signed(word[3], &at.x) || !read_signed(word[4], &at.y)) return false;
+    return print_verdict(move_pin(desk, seat, pin, at));
 }
 
 // Plays a call and prints its answer; false where the words are not a call.
 static bool play_words(Desk *desk, const Word *word, int words) {
     uint64_t seat, n;
-    Place at;
     if (is(word[0], "bare")) return play_bare(word, words);
+    if (is(word[0], "over")) return play_moving(OLD, word, words);
+    if (is(word[0], "back")) return play_moving(NEW, word, words);
     if (words < 2 || !read_digits(word[1], UINT32_MAX, &seat)) return false;
     if (is(word[0], "wire")) return play_wire(desk, seat, word, words);
     if (is(word[0], "mill")) return play_mill(desk, seat, word, words);
@@ -855,10 +939,11 @@ static bool play_words(Desk *desk, const Word *word, int words) {
         if (is(word[0], "remove")) return read_digits(word[2], UINT32_MAX, &n) && print_verdict(remove_pin(desk, seat, n));
         return is(word[0], "write") && read_digits(word[2], WRITE_ROOM, &n) && print_written(desk, seat, n);
     }
-    if (words == 4) return is(word[0], "open") && play_open(desk, seat, word);
-    if (!read_digits(word[2], UINT32_MAX, &n) || !read_signed(word[3], &at.x) || !read_signed(word[4], &at.y)) return false;
-    if (is(word[0], "place")) return print_verdict(place_pin(desk, seat, n, at));
-    return is(word[0], "move") && print_verdict(move_pin(desk, seat, n, at));
+    if (words == 5) {
+        if (is(word[0], "open")) return play_open(desk, seat, word);
+        return is(word[0], "move") && play_move(desk, seat, word);
+    }
+    return words == 7 && is(word[0], "place") && play_place(desk, seat, word);
 }
 
 // True where the line is skipped or played.

@@ -12,6 +12,8 @@ use Rattle.refusal.specs.declared.Verdict.the-variants.{NotOpen}
 use Rattle.drawing.specs.declared.stated.Making.the-variants.{Placing, Moving, Removing}
 use Rattle.drawing.specs.Pins.{holding}
 use Rattle.bare.specs.Bare.{bareOf}
+use Rattle.pinmap.specs.declared.Form.{Form}
+use Rattle.forms.specs.Moving.{movedOf, bufferMoved}
 use Rattle.rows.specs.Calls.{Call, opening, closing, making, undoing, redoing}
 use Rattle.rows.specs.Refusals.{Look}
 use Rattle.desk.specs.declared.Desk.{Desk}
@@ -21,22 +23,23 @@ use Rattle.script.specs.Said.{saidBy, mapGiven, xsGiven, ysGiven, favourGiven, 
 use Rattle.printed.specs.Answers.{verdictLine, writtenLine, closedLine, lostLine, notACallLine}
 use Rattle.shown.specs.Shown.{laidText, cutText, drawnText}
 
--- What the desk is after what a line says. Writing, wiring, milling, drops and showing leave the desk as it is, and so does what is not a call.
+-- What the desk is after what a line says. Writing, wiring, milling, drops and showing leave the desk as it is, and so do moving a map and what is not a call.
 unfoldable pub followed : Desk → List ℕ → Said → Desk
 followed d line Said.Skip = d
 followed d line Said.NotACall = d
-followed d line (Said.Open s job) = step d (opening s job (mapGiven line)) .desk
+followed d line (Said.Open s job form) = step d (opening s job form (mapGiven 4 line)) .desk
 followed d line (Said.Close s) = step d (closing s) .desk
-followed d line (Said.Place s p at) = step d (making s (Placing p (holding at))) .desk
+followed d line (Said.Place s p at net part) = step d (making s (Placing p (holding at net part))) .desk
 followed d line (Said.Move s p to) = step d (making s (Moving p to)) .desk
 followed d line (Said.Remove s p) = step d (making s (Removing p)) .desk
 followed d line (Said.Undo s) = step d (undoing s) .desk
 followed d line (Said.Redo s) = step d (redoing s) .desk
 followed d line (Said.Write s room) = d
-followed d line (Said.Wire s room) = d
-followed d line (Said.Mill s room) = d
+followed d line (Said.Wire s net room) = d
+followed d line (Said.Mill s net room) = d
 followed d line (Said.Bare room) = d
-followed d line (Said.Drops s) = d
+followed d line (Said.Drops s net) = d
+followed d line (Said.Moved to job room) = d
 followed d line (Said.Pins s) = d
 
 -- What a line makes of the desk.
@@ -51,12 +54,17 @@ callText d call = verdictLine (step d call .verdict)
 abbrev pub lentBytes : ℕ → List ℕ
 lentBytes room = replicate room 0xEE
 
--- Writing prints the bytes written and the whole lent buffer after the call; where it is refused, its verdict.
+-- What writes into a lent buffer prints the number of bytes written and the whole buffer after the call; where it is refused, its verdict.
+unfoldable pub writtenText : Verdict → ℕ → List ℕ → List ℕ
+writtenText verdict bytes buffer = choose (accepted verdict) (writtenLine bytes buffer) (verdictLine verdict)
+
+-- Writing prints so,
 unfoldable pub writingText : Desk → ℕ → List ℕ → List ℕ
-writingText d s buffer =
-    choose (accepted (writtenOf d s buffer .verdict))
-    (writtenLine (writtenOf d s buffer .bytes) (bufferOf d s buffer))
-    (verdictLine (writtenOf d s buffer .verdict))
+writingText d s buffer = writtenText (writtenOf d s buffer .verdict) (writtenOf d s buffer .bytes) (bufferOf d s buffer)
+
+-- and so does moving a map to a form.
+unfoldable pub movingText : Form → ℕ → List ℕ → List ℕ → List ℕ
+movingText to job map buffer = writtenText (movedOf to job map buffer .verdict) (movedOf to job map buffer .bytes) (bufferMoved to job map buffer)
 
 -- A verdict is 2: the seat is not open.
 abbrev pub isNotOpen : Verdict → Bool
@@ -73,18 +81,19 @@ seatText d s =
 unfoldable pub printed : Desk → ℕ → List ℕ → Said → List ℕ
 printed d number line Said.Skip = []
 printed d number line Said.NotACall = notACallLine number
-printed d number line (Said.Open s job) = callText d (opening s job (mapGiven line))
+printed d number line (Said.Open s job form) = callText d (opening s job form (mapGiven 4 line))
 printed d number line (Said.Close s) = callText d (closing s)
-printed d number line (Said.Place s p at) = callText d (making s (Placing p (holding at)))
+printed d number line (Said.Place s p at net part) = callText d (making s (Placing p (holding at net part)))
 printed d number line (Said.Move s p to) = callText d (making s (Moving p to))
 printed d number line (Said.Remove s p) = callText d (making s (Removing p))
 printed d number line (Said.Undo s) = callText d (undoing s)
 printed d number line (Said.Redo s) = callText d (redoing s)
 printed d number line (Said.Write s room) = writingText d s (lentBytes room)
-printed d number line (Said.Wire s room) = laidText (wiredOf d s room (favourGiven 3 line) .laid)
-printed d number line (Said.Mill s room) = cutText (milledOf d s room (favourGiven 3 line) .cut)
-printed d number line (Said.Bare room) = laidText (bareOf (xsGiven line) (ysGiven line) room (favourGiven 4 line))
-printed d number line (Said.Drops s) = lostLine (droppedOf d s (loadsGiven line) (sheetGiven line) .lost)
+printed d number line (Said.Wire s net room) = laidText (wiredOf d s net room (favourGiven line) .laid)
+printed d number line (Said.Mill s net room) = cutText (milledOf d s net room (favourGiven line) .cut)
+printed d number line (Said.Bare room) = laidText (bareOf (xsGiven line) (ysGiven line) room (favourGiven line))
+printed d number line (Said.Drops s net) = lostLine (droppedOf d s net (loadsGiven line) (sheetGiven line) .lost)
+printed d number line (Said.Moved to job room) = movingText to job (mapGiven 3 line) (lentBytes room)
 printed d number line (Said.Pins s) = seatText d s
 
 -- What the line of that number prints.

@@ -1,6 +1,7 @@
 // One line of a log answered on a desk: the desk that follows, and the text to be printed.
 use desk::Answered;
 use desk::Desk;
+use pinmap::Form;
 use printed::print_closed;
 use printed::print_drops;
 use printed::print_not_a_call;
@@ -25,7 +26,7 @@ ghost use Rattle.text.specs.Text.{over, mostRoom, answerBytes, Holds};
 ghost use Rattle.script.specs.Said.{mapGiven, xsGiven, ysGiven, favourGiven, sheetGiven, loadsGiven};
 ghost use Rattle.printed.specs.Answers.{verdictLine, lostLine};
 ghost use Rattle.shown.specs.Shown.{laidText, cutText};
-ghost use Rattle.answer.specs.Answered.{played, callText, lentBytes, writingText, isNotOpen, seatText, answered};
+ghost use Rattle.answer.specs.Answered.{played, callText, lentBytes, writtenText, writingText, movingText, isNotOpen, seatText, answered};
 
 // What a line is answered: the desk that follows, and how many bytes of the lent buffer are the text to be printed.
 pub struct Answer {
@@ -44,14 +45,31 @@ fn told(call: Answered, out: &mut [u8; ANSWER_BYTES]) -> Answer
     Answer { desk, bytes }
 }
 
-// Opens a seat with the map that the line gives.
-fn open(desk: Desk, seat: usize, job: u16, line: &[u8], out: &mut [u8; ANSWER_BYTES]) -> Answer
-    ensures { λ r. ⌜ r .desk ≡ step desk (opening seat job (mapGiven (now (line .entry)))) .desk ⌝ }
-    ensures { λ r. ⌜ Holds answerBytes (callText desk (opening seat job (mapGiven (now (line .entry))))) (now (out .entry)) (r .bytes) (now (out .exit)) ⌝ }
+// Opens a seat with the map that the line gives, of the form that it says.
+fn open(
+    desk: Desk,
+    seat: usize,
+    job: u16,
+    form: Form,
+    line: &[u8],
+    out: &mut [u8; ANSWER_BYTES],
+) -> Answer
+    ensures { λ r. ⌜ r .desk ≡ step desk (opening seat job form (mapGiven 4 (now (line .entry)))) .desk ⌝ }
+    ensures { λ r. ⌜ Holds answerBytes (callText desk (opening seat job form (mapGiven 4 (now (line .entry))))) (now (out .entry)) (r .bytes) (now (out .exit)) ⌝ }
 {
     let mut map = [0u8; MOST_PAIRS];
-    let bytes = script::given_map(line, &mut map);
-    told(desk.open(seat, job, &map[..bytes]), out)
+    let bytes = script::given_map(line, 4, &mut map);
+    told(desk.open(seat, job, form, &map[..bytes]), out)
+}
+
+// Prints what was written into a lent buffer, or why nothing was.
+fn print_lent(verdict: Verdict, bytes: usize, buffer: &[u8], out: &mut [u8; ANSWER_BYTES]) -> usize
+    ensures { λ r. ⌜ Holds answerBytes (writtenText verdict bytes (now (buffer .entry))) (now (out .entry)) r (now (out .exit)) ⌝ }
+{
+    if refusal::is_accepted(verdict) {
+        return print_written(bytes, buffer, out);
+    }
+    print_verdict(verdict, out)
 }
 
 // Writes a map into a lent buffer.
@@ -60,10 +78,7 @@ fn write_into(desk: Desk, seat: usize, buffer: &mut [u8], out: &mut [u8; ANSWER_
 {
     let written = desk.write(seat, buffer);
     let verdict = written.verdict;
-    if refusal::is_accepted(verdict) {
-        return print_written(written.bytes, buffer, out);
-    }
-    print_verdict(verdict, out)
+    print_lent(verdict, written.bytes, buffer, out)
 }
 
 // The most room that is lent, each byte holding EE.
@@ -82,46 +97,86 @@ fn write(desk: Desk, seat: usize, room: usize, out: &mut [u8; ANSWER_BYTES]) -> 
     write_into(desk, seat, &mut buffer[..room], out)
 }
 
-// Wires a seat, as the line says of the shape to favour.
-fn wire(desk: Desk, seat: usize, room: usize, line: &[u8], out: &mut [u8; ANSWER_BYTES]) -> usize
-    ensures { λ r. ⌜ Holds answerBytes (laidText (wiredOf desk seat room (favourGiven 3 (now (line .entry))) .laid)) (now (out .entry)) r (now (out .exit)) ⌝ }
+// Moves a map to a form, into a lent buffer.
+fn move_into(
+    to: Form,
+    job: u16,
+    map: &[u8],
+    buffer: &mut [u8],
+    out: &mut [u8; ANSWER_BYTES],
+) -> usize
+    ensures { λ r. ⌜ Holds answerBytes (movingText to job (now (map .entry)) (now (buffer .entry))) (now (out .entry)) r (now (out .exit)) ⌝ }
 {
-    let favour = script::given_favour(line, 3);
-    let wired = desk.wire(seat, room, favour);
+    let moved = forms::move_map(to, job, map, buffer);
+    let verdict = moved.verdict;
+    print_lent(verdict, moved.bytes, buffer, out)
+}
+
+// Moves the map that the line gives to a form, into lent room.
+fn move_map(to: Form, job: u16, room: usize, line: &[u8], out: &mut [u8; ANSWER_BYTES]) -> usize
+    requires { ⌜ room ≤ mostRoom ⌝ }
+    ensures { λ r. ⌜ Holds answerBytes (movingText to job (mapGiven 3 (now (line .entry))) (lentBytes room)) (now (out .entry)) r (now (out .exit)) ⌝ }
+{
+    let mut map = [0u8; MOST_PAIRS];
+    let bytes = script::given_map(line, 3, &mut map);
+    let mut buffer = lent_bytes();
+    move_into(to, job, &map[..bytes], &mut buffer[..room], out)
+}
+
+// Wires a net of a seat, as the line says of the shape to favour.
+fn wire(
+    desk: Desk,
+    seat: usize,
+    net: u32,
+    room: usize,
+    line: &[u8],
+    out: &mut [u8; ANSWER_BYTES],
+) -> usize
+    ensures { λ r. ⌜ Holds answerBytes (laidText (wiredOf desk seat net room (favourGiven (now (line .entry))) .laid)) (now (out .entry)) r (now (out .exit)) ⌝ }
+{
+    let favour = script::given_favour(line);
+    let wired = desk.wire(seat, net, room, favour);
     let laid = wired.laid;
     print_laid(laid, out)
 }
 
-// Mills a seat, as the line says of the shape to favour.
-fn mill(desk: Desk, seat: usize, room: usize, line: &[u8], out: &mut [u8; ANSWER_BYTES]) -> usize
-    ensures { λ r. ⌜ Holds answerBytes (cutText (milledOf desk seat room (favourGiven 3 (now (line .entry))) .cut)) (now (out .entry)) r (now (out .exit)) ⌝ }
+// Mills a net of a seat, as the line says of the shape to favour.
+fn mill(
+    desk: Desk,
+    seat: usize,
+    net: u32,
+    room: usize,
+    line: &[u8],
+    out: &mut [u8; ANSWER_BYTES],
+) -> usize
+    ensures { λ r. ⌜ Holds answerBytes (cutText (milledOf desk seat net room (favourGiven (now (line .entry))) .cut)) (now (out .entry)) r (now (out .exit)) ⌝ }
 {
-    let favour = script::given_favour(line, 3);
-    let milled = desk.mill(seat, room, favour);
+    let favour = script::given_favour(line);
+    let milled = desk.mill(seat, net, room, favour);
     let cut = milled.cut;
     print_cut(cut, out)
 }
 
 // Wires the x and y that the line gives, as it says of the shape to favour.
 fn wire_bare(line: &[u8], room: usize, out: &mut [u8; ANSWER_BYTES]) -> usize
-    ensures { λ r. ⌜ Holds answerBytes (laidText (bareOf (xsGiven (now (line .entry))) (ysGiven (now (line .entry))) room (favourGiven 4 (now (line .entry))))) (now (out .entry)) r (now (out .exit)) ⌝ }
+    ensures { λ r. ⌜ Holds answerBytes (laidText (bareOf (xsGiven (now (line .entry))) (ysGiven (now (line .entry))) room (favourGiven (now (line .entry))))) (now (out .entry)) r (now (out .exit)) ⌝ }
 {
     let mut xs = [0i32; MOST_NUMBERS];
     let mut ys = [0i32; MOST_NUMBERS];
     let across = script::given_xs(line, &mut xs);
     let up = script::given_ys(line, &mut ys);
-    let favour = script::given_favour(line, 4);
+    let favour = script::given_favour(line);
     let laid = bare::wire_bare(&xs[..across], &ys[..up], room, favour);
     print_laid(laid, out)
 }
 
-// Asks for the drops of a seat, with the sheet and the loads that the line gives.
-fn drops(desk: Desk, seat: usize, line: &[u8], out: &mut [u8; ANSWER_BYTES]) -> usize
-    ensures { λ r. ⌜ Holds answerBytes (lostLine (droppedOf desk seat (loadsGiven (now (line .entry))) (sheetGiven (now (line .entry))) .lost)) (now (out .entry)) r (now (out .exit)) ⌝ }
+// Asks for the drops of a net of a seat, with the sheet and the loads that the line gives.
+fn drops(desk: Desk, seat: usize, net: u32, line: &[u8], out: &mut [u8; ANSWER_BYTES]) -> usize
+    ensures { λ r. ⌜ Holds answerBytes (lostLine (droppedOf desk seat net (loadsGiven (now (line .entry))) (sheetGiven (now (line .entry))) .lost)) (now (out .entry)) r (now (out .exit)) ⌝ }
 {
     let loads = script::given_loads(line);
     let sheet = script::given_sheet(line);
-    let dropped = desk.drops(seat, loads, sheet);
+    let dropped = desk.drops(seat, net, loads, sheet);
     let lost = dropped.lost;
     print_drops(lost, out)
 }
@@ -168,9 +223,15 @@ pub fn answer_line(desk: Desk, number: usize, line: &[u8], out: &mut [u8; ANSWER
             let bytes = print_not_a_call(number, out);
             Answer { desk, bytes }
         }
-        Said::Open { seat, job } => open(desk, seat, job, line, out),
+        Said::Open { seat, job, form } => open(desk, seat, job, form, line, out),
         Said::Close { seat } => told(desk.close(seat), out),
-        Said::Place { seat, pin, at } => told(desk.place(seat, pin, at), out),
+        Said::Place {
+            seat,
+            pin,
+            at,
+            net,
+            part,
+        } => told(desk.place(seat, pin, at, net, part), out),
         Said::Move { seat, pin, to } => told(desk.shift(seat, pin, to), out),
         Said::Remove { seat, pin } => told(desk.remove(seat, pin), out),
         Said::Undo { seat } => told(desk.undo(seat), out),
@@ -179,20 +240,24 @@ pub fn answer_line(desk: Desk, number: usize, line: &[u8], out: &mut [u8; ANSWER
             let bytes = write(desk, seat, room, out);
             Answer { desk, bytes }
         }
-        Said::Wire { seat, room } => {
-            let bytes = wire(desk, seat, room, line, out);
+        Said::Wire { seat, net, room } => {
+            let bytes = wire(desk, seat, net, room, line, out);
             Answer { desk, bytes }
         }
-        Said::Mill { seat, room } => {
-            let bytes = mill(desk, seat, room, line, out);
+        Said::Mill { seat, net, room } => {
+            let bytes = mill(desk, seat, net, room, line, out);
             Answer { desk, bytes }
         }
         Said::Bare { room } => {
             let bytes = wire_bare(line, room, out);
             Answer { desk, bytes }
         }
-        Said::Drops { seat } => {
-            let bytes = drops(desk, seat, line, out);
+        Said::Drops { seat, net } => {
+            let bytes = drops(desk, seat, net, line, out);
+            Answer { desk, bytes }
+        }
+        Said::Moved { to, job, room } => {
+            let bytes = move_map(to, job, room, line, out);
             Answer { desk, bytes }
         }
         Said::Pins { seat } => {

@@ -14,19 +14,20 @@ use drops::Loaded;
 use drops::Sheet;
 use journal::RECORDS;
 use journal::Record;
-use pinmap::MOST_BYTES;
+use pinmap::Form;
+use pinmap::NEW_BYTES;
 use refusal::Verdict;
 use wiring::LEGS;
 
-// Seat 0 is open for job 7; pin 0 placed at (20,20) stands, pin 1 placed at (40,40) is taken back.
+// Seat 0 is open for job 7; pin 0 of net 1, placed at (20,20) with part number 5, stands; pin 1 of net 2, placed at (40,40), is taken back.
 fn whole() -> Desk {
     let map = [0u8; 0];
     let empty = Desk::empty();
-    let opened = empty.open(0, 7, &map);
+    let opened = empty.open(0, 7, Form::Old, &map);
     let after_opening = opened.desk;
-    let first = after_opening.place(0, 0, Place { x: 20, y: 20 });
+    let first = after_opening.place(0, 0, Place { x: 20, y: 20 }, 1, 5);
     let after_first = first.desk;
-    let second = after_first.place(0, 1, Place { x: 40, y: 40 });
+    let second = after_first.place(0, 1, Place { x: 40, y: 40 }, 2, 0);
     let after_second = second.desk;
     let undone = after_second.undo(0);
     undone.desk
@@ -60,11 +61,20 @@ fn closed_with_records() -> Desk {
     d
 }
 
-// Pin 5 of seat 0, which no edit names, stands at this place.
-fn with_pin(at: Place) -> Desk {
+// What a pin of a net holds at a place, with part number 5.
+fn holding(at: Place, net: u32) -> Held {
+    Held {
+        place: at,
+        net,
+        part: 5,
+    }
+}
+
+// Pin 5 of seat 0, which no edit names, stands at this place and is of this net.
+fn with_pin(at: Place, net: u32) -> Desk {
     let mut d = whole();
     let mut s = d.seats[0];
-    let held = Held { place: at };
+    let held = holding(at, net);
     let stand = Stand::There(held);
     let pin = Pin { stand };
     s.pins[5] = pin;
@@ -74,12 +84,22 @@ fn with_pin(at: Place) -> Desk {
 
 // A pin stands outside the board.
 fn pin_outside() -> Desk {
-    with_pin(Place { x: LIMIT + 1, y: 0 })
+    with_pin(Place { x: LIMIT + 1, y: 0 }, 1)
 }
 
-// Two pins stand too near each other.
+// Two pins of different nets stand too near each other.
 fn pins_too_near() -> Desk {
-    with_pin(Place { x: 39, y: 1 })
+    with_pin(Place { x: 39, y: 1 }, 2)
+}
+
+// A pin is of no net.
+fn pin_of_net_0() -> Desk {
+    with_pin(Place { x: 100, y: 0 }, 0)
+}
+
+// A pin is of net 9.
+fn pin_of_net_9() -> Desk {
+    with_pin(Place { x: 100, y: 0 }, 9)
 }
 
 // The edit that stands is another.
@@ -91,9 +111,20 @@ fn with_standing(edit: Edit) -> Desk {
 
 // The edit that stands placed pin 0 elsewhere.
 fn standing_elsewhere() -> Desk {
-    let held = Held {
-        place: Place { x: 100, y: 100 },
-    };
+    let held = holding(Place { x: 100, y: 100 }, 1);
+    with_standing(Edit::Placed(0, held))
+}
+
+// The edit that stands placed pin 0 in another net.
+fn standing_of_another_net() -> Desk {
+    let held = holding(Place { x: 20, y: 20 }, 2);
+    with_standing(Edit::Placed(0, held))
+}
+
+// The edit that stands placed pin 0 with another part number.
+fn standing_of_another_part() -> Desk {
+    let mut held = holding(Place { x: 20, y: 20 }, 1);
+    held.part = 6;
     with_standing(Edit::Placed(0, held))
 }
 
@@ -122,26 +153,26 @@ fn with_taken_back(edit: Edit) -> Desk {
 
 // The edit that is taken back places pin 1 too near to pin 0.
 fn taken_back_near_a_pin() -> Desk {
-    let held = Held {
-        place: Place { x: 1, y: 39 },
-    };
+    let held = holding(Place { x: 1, y: 39 }, 2);
     with_taken_back(Edit::Placed(1, held))
 }
 
 // The edit that is taken back removes pin 1, which is not there.
 fn taken_back_of_no_pin() -> Desk {
-    let held = Held {
-        place: Place { x: 40, y: 40 },
-    };
+    let held = holding(Place { x: 40, y: 40 }, 2);
     with_taken_back(Edit::Removed(1, held))
 }
 
 // The edit that is taken back places pin 32.
 fn taken_back_of_pin_32() -> Desk {
-    let held = Held {
-        place: Place { x: 40, y: 40 },
-    };
+    let held = holding(Place { x: 40, y: 40 }, 2);
     with_taken_back(Edit::Placed(32, held))
+}
+
+// The edit that is taken back places pin 1 in net 9.
+fn taken_back_of_net_9() -> Desk {
+    let held = holding(Place { x: 40, y: 40 }, 9);
+    with_taken_back(Edit::Placed(1, held))
 }
 
 // The journal has 257 used records.
@@ -213,40 +244,50 @@ fn tell_answer(call: &[u8], answered: Answered) {
 fn try_changes(desk: Desk) {
     let at = Place { x: 60, y: 60 };
     let map = [0u8; 0];
-    tell_answer(b" open ", desk.open(1, 9, &map));
+    tell_answer(b" open ", desk.open(1, 9, Form::New, &map));
     tell_answer(b" close ", desk.close(0));
-    tell_answer(b" place ", desk.place(0, 2, at));
+    tell_answer(b" place ", desk.place(0, 2, at, 1, 0));
     tell_answer(b" move ", desk.shift(0, 0, at));
     tell_answer(b" remove ", desk.remove(0, 0));
     tell_answer(b" undo ", desk.undo(0));
     tell_answer(b" redo ", desk.redo(0));
 }
 
-// Asks for the volts lost at seat 0, with nothing to feed.
+// Asks for the volts lost to net 1 at seat 0, with nothing to feed.
 fn try_drops(desk: Desk) {
     let spare = Loaded { load: Load::Spare };
     let sheet = Sheet {
         volts: 12.0,
         ohms: 0.001,
     };
-    let dropped = desk.drops(0, [spare; PINS], sheet);
+    let dropped = desk.drops(0, 1, [spare; PINS], sheet);
     let lost = dropped.lost;
     let verdict = lost.verdict;
     tell(b" drops ", verdict);
 }
 
-// Writes, wires and mills seat 0, asks for its volts lost, and undoes at seat 8, where 28 comes before 1.
+// Wires net 9 at seat 0, where 28 comes before 21.
+fn try_net_9(desk: Desk) {
+    let wired = desk.wire(0, 9, LEGS, Favour::Unsaid);
+    let laid = wired.laid;
+    let wiring = laid.wiring;
+    let verdict = wiring.verdict;
+    tell(b" wire net 9 ", verdict);
+}
+
+// Writes seat 0, wires and mills its net 1, asks for that net's volts lost, and undoes at seat 8, where 28 comes before 1.
 fn try_others(desk: Desk) {
-    let mut buffer = [0u8; MOST_BYTES];
+    let mut buffer = [0u8; PINS * NEW_BYTES];
     let written = desk.write(0, &mut buffer);
     let writing = written.verdict;
     tell(b" write ", writing);
-    let wired = desk.wire(0, LEGS, Favour::Unsaid);
+    let wired = desk.wire(0, 1, LEGS, Favour::Unsaid);
     let laid = wired.laid;
     let wiring = laid.wiring;
     let verdict = wiring.verdict;
     tell(b" wire ", verdict);
-    let milled = desk.mill(0, LEGS, Favour::Unsaid);
+    try_net_9(desk);
+    let milled = desk.mill(0, 1, LEGS, Favour::Unsaid);
     let cut = milled.cut;
     let milling = cut.milling;
     let outcome = milling.verdict;
@@ -276,11 +317,18 @@ fn try_seats() {
     try_calls(b"closed seat with records:", closed_with_records());
     try_calls(b"pin outside:", pin_outside());
     try_calls(b"pins too near:", pins_too_near());
+    try_calls(b"pin of net 0:", pin_of_net_0());
+    try_calls(b"pin of net 9:", pin_of_net_9());
 }
 
 // Broken by an edit that could not have been made.
 fn try_edits() {
     try_calls(b"standing edit, placed elsewhere:", standing_elsewhere());
+    try_calls(b"standing edit, of another net:", standing_of_another_net());
+    try_calls(
+        b"standing edit, of another part number:",
+        standing_of_another_part(),
+    );
     try_calls(b"standing edit, moved nowhere:", standing_moved_nowhere());
     try_calls(
         b"standing edit, moved from outside:",
@@ -292,6 +340,7 @@ fn try_edits() {
         taken_back_of_no_pin(),
     );
     try_calls(b"taken-back edit, of pin 32:", taken_back_of_pin_32());
+    try_calls(b"taken-back edit, of net 9:", taken_back_of_net_9());
 }
 
 // Broken by a number kept beside these.

@@ -18,6 +18,7 @@ use Rattle.drawing.specs.Stated.{editOf}
 use Rattle.drawing.proofs.Changing.{proper-number}
 use Rattle.drawing.proofs.Making.{makeable-proper}
 use Rattle.board.specs.Spots.{mostPins}
+use Rattle.pinmap.specs.declared.Form.{Form}
 use Rattle.pinmap.specs.declared.Reading.{Reading}
 use Rattle.pinmap.specs.Map.{readBy, readMap}
 use Rattle.journal.specs.Journal.{mostSeats, mostRecords, own, kept}
@@ -149,12 +150,12 @@ module _ (d : Desk) (s : ℕ) {f : Found} (g : f ≡ foundAt d s) {v : Verdict} 
       rw (found-seat d (making s m) g e y) (proper-number _ (makeable-proper _ _ (p .fits l)))
 
 -- Opening, with what it reads.
-module _ (d : Desk) (s job : ℕ) (map : List ℕ) {f : Found} (g : f ≡ foundAt d s) {r : Reading}
-    (e : r ≡ readBy (rowsOf (lookFound d f) (opening s job map)) map) (y : accepted (r .verdict) ≡ true) where
+module _ (d : Desk) (s job : ℕ) (form : Form) (map : List ℕ) {f : Found} (g : f ≡ foundAt d s) {r : Reading}
+    (e : r ≡ readBy (rowsOf (lookFound d f) (opening s job form map)) form map) (y : accepted (r .verdict) ≡ true) where
   -- Where it is accepted, the pins are those of the map.
-  pub open-read : r .pins ≡ readMap map job .pins
+  pub open-read : r .pins ≡ readMap form map job .pins
   unfolding Passes readMap
   open-read =
       let w = ap (λ (q : Reading). q .verdict) e in
-      let p = found-passes d (opening s job map) g w y in
+      let p = found-passes d (opening s job form map) g w y in
       ap (λ (q : Reading). q .pins) e ∙ choose-yes _ _ (ap accepted (sym w) ∙ y) ∙ sym (choose-yes _ _ (p .read))

@@ -9,18 +9,17 @@ use lib.ListN.{length, take, drop, getD}
 use lib.Seq.{drop-cons, length-take-le}
 use Rattle.refusal.specs.Refusals.{accepted}
 use Rattle.refusal.specs.Rows.{firstOf}
-use Rattle.refusal.proofs.Rows.{none-holds}
 use Rattle.basics.proofs.Tests.{both-left, both-right, choose-yes, choose-no}
 use Rattle.board.specs.Spots.{mostPins}
-use Rattle.drawing.specs.Pins.{lawful, spotsOf}
-use Rattle.drawing.proofs.Rules.{feed-long}
+use Rattle.drawing.specs.Pins.{lawful}
+use Rattle.drawing.proofs.Feeds.{feed-long}
 use Rattle.journal.proofs.Cut.{stands-more}
 use Rattle.journal.proofs.Own.{own-length}
 use Rattle.journal.specs.Journal.{mostSeats, mostRecords, noEdit, seated, makeableAll, takeableAll}
 use Rattle.seats.proofs.Tests.{seat-among}
-use Rattle.rows.proofs.Rows.{naming-apart, seat-open}
+use Rattle.rows.proofs.Rows.{net-open}
 use Rattle.desk.specs.declared.Desk.{Desk}
-use Rattle.desk.specs.Desk.{seatOf, namingAt, inUse, editsOf, standingOf, takenBackOf, jobsOf, jobsApart, soundOpen, soundClosed, soundSeat, sound}
+use Rattle.desk.specs.Desk.{seatOf, namingNetAt, feedAt, inUse, editsOf, standingOf, takenBackOf, jobsOf, jobsApart, soundOpen, soundClosed, soundSeat, sound}
 
 -- A sound desk.
 module _ (d : Desk) (h : sound d ≡ true) where
@@ -123,8 +122,8 @@ module _ (d : Desk) (h : sound d ≡ true) where
         → takenBackOf d s ≡ getD (editsOf d s) (seatOf d s .standing) noEdit ∷ drop (suc (seatOf d s .standing)) (editsOf d s)
     next-first b = drop-cons (editsOf d s) (seatOf d s .standing) noEdit b
 
--- Where 28, 1 and 2 pass, the seat's feed has 32 spots.
-pub feed-whole : (d : Desk) (s : ℕ) → accepted (firstOf (namingAt d s)) ≡ true → length (spotsOf (seatOf d s .pins)) ≡ mostPins
-feed-whole d s y =
-    let o = seat-open (not (sound d)) s (seatOf d s .opened) (none-holds (namingAt d s) (naming-apart (not (sound d)) s (seatOf d s .opened)) y) in
-    feed-long _ (pins-lawful d (not-false _ (o .unbroken)) s (o .low) (o .shown))
+-- Where 28, 1, 2 and 21 pass, the feed of the seat's net has 32 spots.
+pub feed-whole : (d : Desk) (s net : ℕ) → accepted (firstOf (namingNetAt d s net)) ≡ true → length (feedAt d s net) ≡ mostPins
+feed-whole d s net y =
+    let o = net-open (not (sound d)) s (seatOf d s .opened) net y in
+    feed-long _ net (pins-lawful d (not-false _ (o .unbroken)) s (o .low) (o .shown))

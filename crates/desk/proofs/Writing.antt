@@ -1,7 +1,7 @@
 -- What writing a map, wiring a seat, milling its copper and telling its volts lost hand back: the answer, the number of bytes and the buffer, the legs, the segments, the drops. From what is found; assumes nothing.
 use mathlib.Core.Path.{_≡_, refl, ap, _∙_}
 use mathlib.Core.Bool.{Bool, true, false, not, false≢true}
-use mathlib.Core.List.{List, [], _++_}
+use mathlib.Core.List.{List, [], _∷_, _++_}
 use Prim.Native.Nat.{ℕ}
 use borrow.Author.Tests.{leb-false, not-false}
 use lib.Dec.{leb}
@@ -12,6 +12,7 @@ use Rattle.refusal.specs.Rows.{Row, firstOf}
 use Rattle.refusal.specs.declared.Verdict.{Verdict}
 use Rattle.refusal.proofs.Rows.{decided}
 use Rattle.drawing.specs.Pins.{lawful, feedOf}
+use Rattle.pinmap.specs.declared.Form.the-variants.{New}
 use Rattle.pinmap.specs.declared.Writing.{Writing}
 use Rattle.pinmap.specs.Map.{mapOf, roomRows, written, writeBy, bufferBy}
 use Rattle.drops.specs.declared.Loaded.{Loaded}
@@ -24,24 +25,25 @@ use Rattle.mill.specs.Answer.{copperOf, millRows, cutWith, cutBy}
 use Rattle.journal.specs.Journal.{mostSeats}
 use Rattle.seats.specs.declared.Seat.{Seat}
 use Rattle.rows.specs.declared.Found.{Found}
-use Rattle.rows.specs.Found.{namingFound, wiredBy}
+use Rattle.rows.specs.Refusals.{netRow}
+use Rattle.rows.specs.Found.{namingFound, namingNet, wiredBy}
 use Rattle.desk.specs.declared.Desk.{Desk}
 use Rattle.desk.specs.declared.Written.{Written}
 use Rattle.desk.specs.declared.Wired.{Wired}
 use Rattle.desk.specs.declared.Milled.{Milled}
 use Rattle.desk.specs.declared.Dropped.{Dropped}
-use Rattle.desk.specs.Desk.{closedSeat, seatOf, namingAt, sound, writtenOf, bufferOf, wiredOf, milledOf, droppedOf}
+use Rattle.desk.specs.Desk.{closedSeat, seatOf, namingAt, namingNetAt, feedAt, sound, writtenOf, bufferOf, wiredOf, milledOf, droppedOf}
 use Rattle.desk.proofs.Sound.{pins-lawful}
 use Rattle.desk.proofs.Found.{foundAt}
 use Rattle.copper.specs.declared.Favour.{Favour}
 
 -- The map of what is found,
 abbrev mapFound : Found → List ℕ
-mapFound f = mapOf (f .state .job) (f .state .pins)
+mapFound f = mapOf New (f .state .job) (f .state .pins)
 
 -- the rows of writing it,
 abbrev rowsFound : Found → List ℕ → List Row
-rowsFound f buffer = namingFound f ++ roomRows (f .state .job) (f .state .pins) (length buffer)
+rowsFound f buffer = namingFound f ++ roomRows New (f .state .job) (f .state .pins) (length buffer)
 
 -- what is answered,
 abbrev writeFound : List ℕ → Found → Writing
@@ -52,16 +54,16 @@ abbrev bufferFound : List ℕ → Found → List ℕ
 bufferFound buffer f = bufferBy (rowsFound f buffer) (mapFound f) buffer
 
 -- the volts lost,
-abbrev lostFound : List Loaded → Sheet → Found → Lost
-lostFound loads sheet f = lostBy (namingFound f ++ dropRows (feedOf (f .state .pins)) loads sheet) (dropsOf (feedOf (f .state .pins)) loads sheet)
+abbrev lostFound : ℕ → List Loaded → Sheet → Found → Lost
+lostFound net loads sheet f = lostBy (namingNet f net ++ dropRows (feedOf (f .state .pins) net) loads sheet) (dropsOf (feedOf (f .state .pins) net) loads sheet)
 
 -- how it is wired,
-abbrev wireFound : ℕ → Favour → Found → Laid
-wireFound room favour f = wiredBy (namingFound f) (feedOf (f .state .pins)) room favour
+abbrev wireFound : ℕ → ℕ → Favour → Found → Laid
+wireFound net room favour f = wiredBy (namingNet f net) (feedOf (f .state .pins) net) room favour
 
 -- and the segments.
-abbrev cutFound : ℕ → Favour → Found → Cut
-cutFound room favour f = cutBy (namingFound f ++ millRows (feedOf (f .state .pins)) room favour) (copperOf (feedOf (f .state .pins)) favour)
+abbrev cutFound : ℕ → ℕ → Favour → Found → Cut
+cutFound net room favour f = cutBy (namingNet f net ++ millRows (feedOf (f .state .pins) net) room favour) (copperOf (feedOf (f .state .pins) net) favour)
 
 -- A call looks at the seat only where neither 28 nor 1 applies.
 module _ (d : Desk) (s : ℕ) where
@@ -74,35 +76,36 @@ module _ (d : Desk) (s : ℕ) where
   decided-by answer nothing asked more false false k e = rw (k, e)
 
   -- and is wired as it is.
-  wired-by : (room : ℕ) (favour : Favour) (b t : Bool) → not (sound d) ≡ b → leb mostSeats s ≡ t
-      → wireFound room favour (foundAt d s) ≡ wiredBy (namingAt d s) (feedOf (seatOf d s .pins)) room favour
+  wired-by : (net room : ℕ) (favour : Favour) (b t : Bool) → not (sound d) ≡ b → leb mostSeats s ≡ t
+      → wireFound net room favour (foundAt d s) ≡ wiredBy (namingNetAt d s net) (feedAt d s net) room favour
   unfolding sound accepted firstOf choose
-  wired-by room favour true t k e = rw k
-  wired-by room favour false true k e = rw (k, e)
-  wired-by room favour false false k e = rw (k, e)
+  wired-by net room favour true t k e = rw k
+  wired-by net room favour false true k e = rw (k, e)
+  wired-by net room favour false false k e = rw (k, e)
 
 module _ (d : Desk) (s : ℕ) {f : Found} (g : f ≡ foundAt d s) where
   -- Wiring: the answer with its legs.
-  pub wire-laid : (room : ℕ) (favour : Favour) {w : Laid} → w ≡ wireFound room favour f → _≡_ {A = Wired} (record { desk = d; laid = w }) (wiredOf d s room favour)
+  pub wire-laid : (net room : ℕ) (favour : Favour) {w : Laid} → w ≡ wireFound net room favour f → _≡_ {A = Wired} (record { desk = d; laid = w }) (wiredOf d s net room favour)
   unfolding wiredOf
-  wire-laid room favour e =
-      let q = e ∙ ap (wireFound room favour) g ∙ wired-by d s room favour _ _ refl refl in
+  wire-laid net room favour e =
+      let q = e ∙ ap (wireFound net room favour) g ∙ wired-by d s net room favour _ _ refl refl in
       λ i. record { desk = d; laid = q i }
 
   -- Milling: the answer with its segments.
-  pub mill-cut : (room : ℕ) (favour : Favour) {w : Cut} → w ≡ cutFound room favour f → _≡_ {A = Milled} (record { desk = d; cut = w }) (milledOf d s room favour)
+  pub mill-cut : (net room : ℕ) (favour : Favour) {w : Cut} → w ≡ cutFound net room favour f → _≡_ {A = Milled} (record { desk = d; cut = w }) (milledOf d s net room favour)
   unfolding milledOf
-  mill-cut room favour e =
-      let q = e ∙ ap (cutFound room favour) g
-      ∙ decided-by d s cutWith [] (λ t. copperOf (feedOf (t .pins)) favour) (λ t. millRows (feedOf (t .pins)) room favour) _ _ refl refl in
+  mill-cut net room favour e =
+      let q = e ∙ ap (cutFound net room favour) g
+      ∙ decided-by d s cutWith [] (λ t. copperOf (feedOf (t .pins) net) favour) (λ t. netRow net ∷ millRows (feedOf (t .pins) net) room favour) _ _ refl refl in
       λ i. record { desk = d; cut = q i }
 
   -- Volts lost: the answer with its drops.
-  pub drops-told : (loads : List Loaded) (sheet : Sheet) {w : Lost} → w ≡ lostFound loads sheet f → _≡_ {A = Dropped} (record { desk = d; lost = w }) (droppedOf d s loads sheet)
+  pub drops-told : (net : ℕ) (loads : List Loaded) (sheet : Sheet) {w : Lost} → w ≡ lostFound net loads sheet f
+      → _≡_ {A = Dropped} (record { desk = d; lost = w }) (droppedOf d s net loads sheet)
   unfolding droppedOf
-  drops-told loads sheet e =
-      let q = e ∙ ap (lostFound loads sheet) g
-      ∙ decided-by d s (λ v l. record { verdict = v; drops = l }) noDrops (λ t. dropsOf (feedOf (t .pins)) loads sheet) (λ t. dropRows (feedOf (t .pins)) loads sheet) _ _ refl refl in
+  drops-told net loads sheet e =
+      let q = e ∙ ap (lostFound net loads sheet) g
+      ∙ decided-by d s (λ v l. record { verdict = v; drops = l }) noDrops (λ t. dropsOf (feedOf (t .pins) net) loads sheet) (λ t. netRow net ∷ dropRows (feedOf (t .pins) net) loads sheet) _ _ refl refl in
       λ i. record { desk = d; lost = q i }
 
   -- Writing: the answer and the number of bytes,
@@ -111,7 +114,7 @@ module _ (d : Desk) (s : ℕ) {f : Found} (g : f ≡ foundAt d s) where
   unfolding writtenOf
   write-done b e =
       let q = e ∙ ap (writeFound b) g
-      ∙ decided-by d s (λ v n. record { verdict = v; bytes = n }) 0 (λ t. length (mapOf (t .job) (t .pins))) (λ t. roomRows (t .job) (t .pins) (length b)) _ _ refl refl in
+      ∙ decided-by d s (λ v n. record { verdict = v; bytes = n }) 0 (λ t. length (mapOf New (t .job) (t .pins))) (λ t. roomRows New (t .job) (t .pins) (length b)) _ _ refl refl in
       λ i. record { desk = d; verdict = q i .verdict; bytes = q i .bytes }
 
   -- and the buffer.
@@ -119,7 +122,7 @@ module _ (d : Desk) (s : ℕ) {f : Found} (g : f ≡ foundAt d s) where
   unfolding bufferOf
   write-left b e =
       e ∙ ap (bufferFound b) g
-      ∙ decided-by d s (λ v l. l) b (λ t. written (mapOf (t .job) (t .pins)) b) (λ t. roomRows (t .job) (t .pins) (length b)) _ _ refl refl
+      ∙ decided-by d s (λ v l. l) b (λ t. written (mapOf New (t .job) (t .pins)) b) (λ t. roomRows New (t .job) (t .pins) (length b)) _ _ refl refl
 
 -- Above 7 a closed seat is found, else that of the desk, which keeps the rules where it is open.
 lawful-by : (d : Desk) (s : ℕ) (t : Bool) → leb mostSeats s ≡ t → not (sound d) ≡ false → choose t closedSeat (seatOf d s) .opened ≡ true

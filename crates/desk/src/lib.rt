@@ -14,6 +14,7 @@ use journal::Record;
 use journal::SEATS;
 use mill::Cut;
 use mill::Milling;
+use pinmap::Form;
 use refusal::Verdict;
 use rows::Found;
 use seats::Seat;
@@ -175,13 +176,13 @@ impl Desk {
 
 // The calls. Each takes the desk as it stands and hands back the desk that follows, or the same desk with the number of a refusal.
 impl Desk {
-    // Opens `seat` for a job with the drawing of a pin map, or says why not.
-    pub fn open(mut self, seat: usize, job: u16, map: &[u8]) -> Answered
-        ensures { λ r. ⌜ r ≡ step self (opening seat job (now (map .entry))) ⌝ }
+    // Opens `seat` for a job with the drawing of a pin map of a form, or says why not.
+    pub fn open(mut self, seat: usize, job: u16, form: Form, map: &[u8]) -> Answered
+        ensures { λ r. ⌜ r ≡ step self (opening seat job form (now (map .entry))) ⌝ }
     {
         let found = self.find(seat);
         let seats = self.seats;
-        let reading = rows::map_read(found, seats, job, map);
+        let reading = rows::map_read(found, seats, job, form, map);
         let verdict = reading.verdict;
         if !refusal::is_accepted(verdict) {
             return self.refused(verdict);
@@ -214,12 +215,17 @@ impl Desk {
         }
     }
 
-    // Places a pin of the drawing at `seat`, or says why not.
-    pub fn place(self, seat: usize, pin: usize, at: Place) -> Answered
-        ensures { λ r. ⌜ r ≡ step self (making seat (Placing pin (holding at))) ⌝ }
+    // Places a pin of the drawing at `seat`, of a net and with a part number, or says why not.
+    pub fn place(self, seat: usize, pin: usize, at: Place, net: u32, part: u32) -> Answered
+        ensures { λ r. ⌜ r ≡ step self (making seat (Placing pin (holding at net part))) ⌝ }
     {
         let found = self.find(seat);
-        self.make(found, Making::Placing(pin, Held { place: at }))
+        let held = Held {
+            place: at,
+            net,
+            part,
+        };
+        self.make(found, Making::Placing(pin, held))
     }
 
     // Moves a pin of the drawing at `seat`, or says why not. (`move` is a word of the language.)
@@ -276,7 +282,7 @@ impl Desk {
         }
     }
 
-    // Writes the map of the drawing at `seat` into a lent buffer, and says how many bytes, or why not. The desk stays as it is.
+    // Writes the map of the drawing at `seat`, in the new form, into a lent buffer, and says how many bytes, or why not. The desk stays as it is.
     pub fn write(self, seat: usize, buffer: &mut [u8]) -> Written
         ensures { λ r. ⌜ r ≡ writtenOf self seat (now (buffer .entry)) ⌝ }
         ensures { λ _. ⌜ now (buffer .exit) ≡ bufferOf self seat (now (buffer .entry)) ⌝ }
@@ -291,39 +297,39 @@ impl Desk {
         }
     }
 
-    // Wires the drawing at `seat`, with room for so many legs, as is said of the shape to favour; or says why not. The desk stays as it is.
-    pub fn wire(self, seat: usize, room: usize, favour: Favour) -> Wired
-        ensures { λ r. ⌜ r ≡ wiredOf self seat room favour ⌝ }
+    // Wires a net of the drawing at `seat`, with room for so many legs, as is said of the shape to favour; or says why not. The desk stays as it is.
+    pub fn wire(self, seat: usize, net: u32, room: usize, favour: Favour) -> Wired
+        ensures { λ r. ⌜ r ≡ wiredOf self seat net room favour ⌝ }
     {
         let found = self.find(seat);
-        let laid = rows::feed_wired(found, room, favour);
+        let laid = rows::feed_wired(found, net, room, favour);
         Wired { desk: self, laid }
     }
 
-    // Gives the copper of the drawing at `seat` as segments, with room for so many, as is said of the shape to favour; or says why not. The desk stays as it is.
-    pub fn mill(self, seat: usize, room: usize, favour: Favour) -> Milled
-        ensures { λ r. ⌜ r ≡ milledOf self seat room favour ⌝ }
+    // Gives the copper of a net of the drawing at `seat` as segments, with room for so many, as is said of the shape to favour; or says why not. The desk stays as it is.
+    pub fn mill(self, seat: usize, net: u32, room: usize, favour: Favour) -> Milled
+        ensures { λ r. ⌜ r ≡ milledOf self seat net room favour ⌝ }
     {
         let found = self.find(seat);
-        let cut = rows::feed_milled(found, room, favour);
+        let cut = rows::feed_milled(found, net, room, favour);
         Milled { desk: self, cut }
     }
 
-    // The volts lost to each pin of the drawing at `seat`, for these loads, one for each pin number, and this board sheet; or says why not. The desk stays as it is.
-    pub fn drops(self, seat: usize, loads: [Loaded; PINS], sheet: Sheet) -> Dropped
-        ensures { λ r. ⌜ r ≡ droppedOf self seat loads sheet ⌝ }
+    // The volts lost to each pin of a net of the drawing at `seat`, for these loads, one for each pin number, and this board sheet; or says why not. The desk stays as it is.
+    pub fn drops(self, seat: usize, net: u32, loads: [Loaded; PINS], sheet: Sheet) -> Dropped
+        ensures { λ r. ⌜ r ≡ droppedOf self seat net loads sheet ⌝ }
     {
         let found = self.find(seat);
-        let lost = rows::feed_dropped(found, loads, sheet);
+        let lost = rows::feed_dropped(found, net, loads, sheet);
         Dropped { desk: self, lost }
     }
 
-    // Wires the drawing at `seat` and fills a lent list with its legs, or says why not. Entries after the legs keep what they held.
-    pub fn wire_lent(self, seat: usize, legs: &mut [Leg], favour: Favour) -> WiredSeat
-        ensures { λ r. ⌜ r ≡ wiredSeatOf self seat (now (legs .entry)) favour ⌝ }
-        ensures { λ _. ⌜ now (legs .exit) ≡ lentOf self seat (now (legs .entry)) favour ⌝ }
+    // Wires a net of the drawing at `seat` and fills a lent list with its legs, or says why not. Entries after the legs keep what they held.
+    pub fn wire_lent(self, seat: usize, net: u32, legs: &mut [Leg], favour: Favour) -> WiredSeat
+        ensures { λ r. ⌜ r ≡ wiredSeatOf self seat net (now (legs .entry)) favour ⌝ }
+        ensures { λ _. ⌜ now (legs .exit) ≡ lentOf self seat net (now (legs .entry)) favour ⌝ }
     {
-        let wired = self.wire(seat, legs.len(), favour);
+        let wired = self.wire(seat, net, legs.len(), favour);
         let laid = wired.laid;
         let strip = lent::strip_of(laid);
         lent::fill(strip, legs);
@@ -333,12 +339,18 @@ impl Desk {
         }
     }
 
-    // Fills a lent list with the copper of the drawing at `seat` as segments, or says why not. Entries after the segments keep what they held.
-    pub fn mill_lent(self, seat: usize, segments: &mut [Leg], favour: Favour) -> MilledSeat
-        ensures { λ r. ⌜ r ≡ milledSeatOf self seat (now (segments .entry)) favour ⌝ }
-        ensures { λ _. ⌜ now (segments .exit) ≡ segmentsLentOf self seat (now (segments .entry)) favour ⌝ }
+    // Fills a lent list with the copper of a net of the drawing at `seat` as segments, or says why not. Entries after the segments keep what they held.
+    pub fn mill_lent(
+        self,
+        seat: usize,
+        net: u32,
+        segments: &mut [Leg],
+        favour: Favour,
+    ) -> MilledSeat
+        ensures { λ r. ⌜ r ≡ milledSeatOf self seat net (now (segments .entry)) favour ⌝ }
+        ensures { λ _. ⌜ now (segments .exit) ≡ segmentsLentOf self seat net (now (segments .entry)) favour ⌝ }
     {
-        let milled = self.mill(seat, segments.len(), favour);
+        let milled = self.mill(seat, net, segments.len(), favour);
         let cut = milled.cut;
         let strip = mill::strip_of(cut);
         lent::fill(strip, segments);

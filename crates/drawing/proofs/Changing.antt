@@ -11,6 +11,7 @@ use lib.ListN.{length, getD, set, length-set}
 use lib.Seq.{getD-set-same, set-set, set-getD}
 use Rattle.basics.specs.Tests.{choose}
 use Rattle.basics.proofs.Tests.{both-left, both-right, both-of, both-if, same-test, choose-yes, choose-no}
+use Rattle.basics.proofs.Anyone.{each-at}
 use Rattle.basics.proofs.Numbered.{one-number, one-decides}
 use Rattle.board.specs.declared.Place.{Place}
 use Rattle.board.specs.Place.{inside, samePlace}
@@ -23,9 +24,9 @@ use Rattle.drawing.specs.declared.Held.{Held}
 use Rattle.drawing.specs.declared.Pin.{Pin}
 use Rattle.drawing.specs.declared.Edit.{Edit}
 use Rattle.drawing.specs.declared.Edit.the-variants.{Placed, Moved, Removed}
-use Rattle.drawing.specs.Pins.{absent, there, isThere, samePin, spotOf, spotsOf, lawful}
+use Rattle.drawing.specs.Pins.{absent, there, isThere, isNet, hasNet, samePin, spotOf, spotsOf, lawful}
 use Rattle.drawing.specs.Edits.{movedPin, standsAt, pinMade, pinUnmade, made, unmade, foundAs, allFound, proper, makeable, takeable}
-use Rattle.drawing.specs.Changes.{pinOf, fits, makeableAt, leftBy, takeableAt}
+use Rattle.drawing.specs.Changes.{pinOf, fits, pinFits, makeableAt, leftBy, takeableAt}
 use Rattle.drawing.proofs.Rules.{pin-same, pin-self, pins-self, lawful-parts, lawful-change}
 use Rattle.drawing.proofs.Making.{makeable-proper, makeable-found, unmade-lawful, unmade-makeable, made-unmade}
 
@@ -135,7 +136,7 @@ module _ (l : List Pin) (k : lawful l ≡ true) (e : Edit) where
         found-is (unmade l e) e (omega arith) ∙ ap (foundAs e (pinOf e)) former-at
 
     -- they keep the rules where it fits;
-    former-fits : lawful (unmade l e) ≡ fits (spotsOf l) (pinOf e) (spotOf former)
+    former-fits : lawful (unmade l e) ≡ pinFits (spotsOf l) (pinOf e) former
     former-fits = rw (unmade-is l e) (lawful-change l (pinOf e) former k n)
 
     -- and with the edit made again the pin that it names is what the edit makes of it.
@@ -175,29 +176,34 @@ module _ (l : List Pin) (k : lawful l ≡ true) (e : Edit) where
 -- ---- what the refusals 6 to 9 leave
 
 -- A pin that is absent fits anywhere.
-pub absent-fits : (feed : List Spot) (p : ℕ) → fits feed p (spotOf absent) ≡ true
-unfolding fits spotOf within tooNearOther
-absent-fits feed p = both-of refl (ap not (absent-clear (set feed p spot.Absent)))
+pub absent-fits : (spots : List Spot) (p : ℕ) → pinFits spots p absent ≡ true
+unfolding pinFits fits hasNet spotOf within tooNearOther
+absent-fits spots p = both-of refl (both-of refl (ap not (absent-clear (set spots p spot.Absent))))
+
+-- A pin that is there has a net from 1 to 8.
+there-net : (l : List Pin) → lawful l ≡ true → (p : ℕ) (h : Held) → getD l p absent ≡ there h → isNet (h .net) ≡ true
+unfolding hasNet
+there-net l k p h q = rw q at (each-at hasNet absent l p (lawful-parts l k .nets) (λ w. refl))
 
 module _ (l : List Pin) (k : lawful l ≡ true) (p : ℕ) (n : p < mostPins) where
-  -- A pin from 0 to 31 that is not there can be placed on the board where no other is too near.
-  pub placed-makeable : (h : Held) → isThere (getD l p absent) ≡ false → inside (h .place) ≡ true → crowded (spotsOf l) p (h .place) ≡ false
+  -- A pin from 0 to 31 that is not there can be placed, of a net from 1 to 8, on the board where no other is too near.
+  pub placed-makeable : (h : Held) → isThere (getD l p absent) ≡ false → isNet (h .net) ≡ true → inside (h .place) ≡ true → crowded (spotsOf l) p (h .place) ≡ false
       → makeable l (Placed p h) ≡ true
-  unfolding makeableAt proper fits within spotOf crowded
-  placed-makeable h q i c =
+  unfolding makeableAt proper pinFits fits hasNet within spotOf crowded
+  placed-makeable h q t i c =
       let m = placed-pin {e = Placed p h} (getD l p absent) refl in
       makeable-at l k (Placed p h)
-      ∙ both-of (lt-ltb p mostPins n) (both-of (m .2 ∙ ap not q) (rw (m .0) (both-of i (ap not c))))
+      ∙ both-of (lt-ltb p mostPins n) (both-of (m .2 ∙ ap not q) (rw (m .0) (both-of t (both-of i (ap not c)))))
 
   module _ (h : Held) (q : getD l p absent ≡ there h) where
     -- A pin that is there can be moved to another place on the board where no other is too near,
     pub moved-makeable : (to : Place) → samePlace (h .place) to ≡ false → inside to ≡ true → crowded (spotsOf l) p to ≡ false
         → makeable l (Moved p (h .place) to) ≡ true
-    unfolding makeableAt proper fits within spotOf crowded standsAt movedPin
+    unfolding makeableAt proper pinFits fits hasNet within spotOf crowded standsAt movedPin
     moved-makeable to s i c =
         let m = moved-to {e = Moved p (h .place) to} (getD l p absent) refl in
         makeable-at l k (Moved p (h .place) to)
-        ∙ both-of (both-of (lt-ltb p mostPins n) (ap not s)) (both-of (m .2 ∙ rw q (place-self (h .place))) (rw (m .0, q) (both-of i (ap not c))))
+        ∙ both-of (both-of (lt-ltb p mostPins n) (ap not s)) (both-of (m .2 ∙ rw q (place-self (h .place))) (rw (m .0, q) (both-of (there-net l k p h q) (both-of i (ap not c)))))
 
     -- and removed.
     pub removed-makeable : makeable l (Removed p h) ≡ true

@@ -2,6 +2,7 @@
 pub mod Rules
 pub mod Making
 pub mod Changing
+pub mod Feeds
 pub mod Told
 pub mod Stepping
 mod Worked

@@ -34,7 +34,7 @@ pin-absent q e = let p : q .stand ≡ Absent = stand-absent (q .stand) e in λ i
 
 -- What a pin holds, moved away and back to its place, is as it was,
 held-back : (h : Held) (a b : Place) → h .place ≡ a → heldAt (heldAt h b) a ≡ h
-held-back h a b e = λ i. record { place = sym e i }
+held-back h a b e = λ i. record { place = sym e i; net = h .net; part = h .part }
 
 -- so is what stands at it,
 stand-back : (s : Stand) (a b : Place) → standsIn s a ≡ true → movedIn (movedIn s b .stand) a ≡ record { stand = s }

@@ -3,7 +3,6 @@ use mathlib.Core.Bool.{Bool, true, false, not}
 use mathlib.Core.List.{List}
 use Prim.Native.Nat.{ℕ}
 use lib.Dec.{eqb, ltb}
-use lib.ListN.{getD}
 use Rattle.basics.specs.Tests.{both, choose, eachOf}
 use Rattle.basics.specs.Lists.{numbered}
 use Rattle.board.specs.declared.Place.{Place}
@@ -17,9 +16,9 @@ use Rattle.drawing.specs.declared.Edit.{Edit}
 use Rattle.drawing.specs.declared.Edit.the-variants.{Placed, Moved, Removed}
 use Rattle.drawing.specs.Pins.{absent, there, holding, isThere, samePin, samePins, lawful}
 
--- What a pin holds, at another place: a move keeps the rest.
+-- What a pin holds, at another place: a move keeps its net and its part number.
 abbrev pub heldAt : Held → Place → Held
-heldAt h to = record { place = to }
+heldAt h to = holding to (h .net) (h .part)
 
 -- What stands at a pin, moved to a place; where it is absent it stays so.
 abbrev pub movedIn : Stand → Place → Pin
@@ -84,11 +83,11 @@ makeable l e = both (proper e) (both (allFound l e) (lawful (made l e)))
 unfoldable pub takeable : List Pin → Edit → Bool
 takeable l e = both (lawful (unmade l e)) (both (makeable (unmade l e) e) (samePins (made (unmade l e) e) l))
 
--- What a pin that is there holds; for an absent one, as if it stood in the middle of the board.
+-- What a pin that is there holds; for an absent one, as if it stood in the middle of the board, of no net and with part number 0.
 abbrev pub heldIn : Stand → Held
-heldIn Absent = holding middle
+heldIn Absent = holding middle 0 0
 heldIn (There h) = h
 
--- What a pin holds, an absent one as if it stood in the middle of the board.
+-- What a pin holds, an absent one as if it stood in the middle of the board, of no net and with part number 0.
 unfoldable pub heldBy : Pin → Held
 heldBy q = heldIn (q .stand)

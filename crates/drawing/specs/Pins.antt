@@ -1,10 +1,10 @@
--- The pins of a drawing, the feed that they are, and the rules that they keep.
+-- The pins of a drawing, the feed of each net among them, and the rules that they keep.
 use mathlib.Core.Bool.{Bool, true, false}
 use mathlib.Core.List.{List, [], _∷_, map}
-use lib.Dec.{eqb}
+use lib.Dec.{eqb, leb, ltb}
 use Prim.Native.Nat.{ℕ}
 use lib.ListN.{length, replicate, getD}
-use Rattle.basics.specs.Tests.{both}
+use Rattle.basics.specs.Tests.{both, choose, eachOf}
 use Rattle.board.specs.declared.Place.{Place}
 use Rattle.board.specs.declared.Spot.{Spot}
 use Rattle.board.specs.declared.Spot.the-variants as spot
@@ -31,9 +31,17 @@ noPins = replicate mostPins absent
 abbrev pub there : Held → Pin
 there h = record { stand = There h }
 
--- What a pin holds that stands at a place.
-abbrev pub holding : Place → Held
-holding at = record { place = at }
+-- What a pin holds: the place where it stands, its net and its part number.
+abbrev pub holding : Place → ℕ → ℕ → Held
+holding at net part = record { place = at; net = net; part = part }
+
+-- Nets go from 1 to 8.
+abbrev pub mostNets : ℕ
+mostNets = 8
+
+-- A net from 1 to 8.
+unfoldable pub isNet : ℕ → Bool
+isNet net = both (ltb 0 net) (leb net mostNets)
 
 -- A pin stands there.
 abbrev pub thereIn : Stand → Bool
@@ -44,9 +52,9 @@ thereIn (There h) = true
 unfoldable pub isThere : Pin → Bool
 isThere q = thereIn (q .stand)
 
--- Two pins hold the same.
+-- Two pins hold the same: place, net and part number.
 unfoldable pub sameHeld : Held → Held → Bool
-sameHeld h k = samePlace (h .place) (k .place)
+sameHeld h k = both (samePlace (h .place) (k .place)) (both (eqb (h .net) (k .net)) (eqb (h .part) (k .part)))
 
 -- Both are absent, or both stand there and hold the same.
 abbrev pub sameIn : Stand → Stand → Bool
@@ -79,10 +87,32 @@ spotOf q = spotIn (q .stand)
 unfoldable pub spotsOf : List Pin → List Spot
 spotsOf l = map spotOf l
 
--- All pins of a drawing are one feed.
-abbrev pub feedOf : List Pin → List Spot
-feedOf l = spotsOf l
+-- A pin stands there, and is of this net.
+abbrev pub ofNetIn : ℕ → Stand → Bool
+ofNetIn net Absent = false
+ofNetIn net (There h) = eqb (h .net) net
 
--- The rules of a drawing's pins: 32 numbers, each pin that is there on the board, no two too near.
+-- The pin is there, and of this net.
+unfoldable pub isOf : ℕ → Pin → Bool
+isOf net q = ofNetIn net (q .stand)
+
+-- What the feed of a net has at the number of this pin: a pin of another net is not in it.
+unfoldable pub feedSpot : ℕ → Pin → Spot
+feedSpot net q = choose (isOf net q) (spotOf q) spot.Absent
+
+-- The feed of a net: its pins alone, by their own numbers.
+unfoldable pub feedOf : List Pin → ℕ → List Spot
+feedOf l net = map (feedSpot net) l
+
+-- A pin stands there with a net from 1 to 8, or is absent.
+abbrev pub netIn : Stand → Bool
+netIn Absent = true
+netIn (There h) = isNet (h .net)
+
+-- The pin, if it is there, has a net from 1 to 8.
+unfoldable pub hasNet : Pin → Bool
+hasNet q = netIn (q .stand)
+
+-- The rules of a drawing's pins: 32 numbers, each pin that is there on the board, no two too near, whatever their nets, and each of a net from 1 to 8.
 unfoldable pub lawful : List Pin → Bool
-lawful l = both (eqb (length l) mostPins) (both (allWithin (spotsOf l)) (allApart (spotsOf l)))
+lawful l = both (eqb (length l) mostPins) (both (allWithin (spotsOf l)) (both (allApart (spotsOf l)) (eachOf hasNet l)))

@@ -5,15 +5,22 @@ use board::PINS;
 use board::Place;
 use board::spots;
 ghost use mathlib.Core.Path.{_≡_};
+ghost use mathlib.Core.List.{map};
+ghost use Rattle.basics.specs.Tests.{eachOf};
 ghost use Rattle.board.specs.declared.Spot.the-variants.{At};
 ghost use Rattle.board.specs.Spots.{crowded, spotsFrom};
-ghost use Rattle.drawing.specs.Pins.{absent, there, isThere, sameHeld, samePin, spotOf, spotsOf, lawful, noPins, pinAt};
+ghost use Rattle.drawing.specs.Pins.{absent, there, isThere, isNet, isOf, hasNet, sameHeld, samePin, spotsOf, lawful, noPins, pinAt};
 ghost use Rattle.drawing.specs.Edits.{heldAt, movedPin, standsAt, heldBy, pinMade, pinUnmade, made, unmade, foundAs, proper};
-ghost use Rattle.drawing.specs.Changes.{pinOf, listsOf, fits, makeableAt, leftBy, takeableAt};
+ghost use Rattle.drawing.specs.Changes.{pinOf, listsOf, feedLists, fits, pinFits, makeableAt, leftBy, takeableAt};
 
-// What a pin holds: its place.
+// Nets go from 1 to this.
+pub const NETS: u32 = 8;
+
+// What a pin holds: its place, its net and its part number.
 pub struct Held {
     pub place: Place,
+    pub net: u32,
+    pub part: u32,
 }
 
 // A pin is absent, or there with what it holds.
@@ -34,7 +41,7 @@ pub enum Edit {
     Removed(u8, Held),
 }
 
-// What stands at each pin number of a drawing, told by lists of x, of y and of whether a pin is there.
+// What stands at each pin number of a drawing, or of the feed of a net, told by lists of x, of y and of whether a pin is there.
 pub struct SpotLists {
     pub xs: [i32; PINS],
     pub ys: [i32; PINS],
@@ -78,13 +85,45 @@ pub fn is_there(pin: Pin) -> bool
     }
 }
 
+// Whether a net is one from 1 to 8.
+pub fn is_net(net: u32) -> bool
+    ensures { λ r. ⌜ r ≡ isNet net ⌝ }
+{
+    0 < net && net <= NETS
+}
+
+// Whether a pin is there, and of a net.
+fn is_of(pin: Pin, net: u32) -> bool
+    ensures { λ r. ⌜ r ≡ isOf net pin ⌝ }
+{
+    let s = pin.stand;
+    match s {
+        Stand::Absent => false,
+        Stand::There(h) => h.net == net,
+    }
+}
+
+// Whether a pin, if it is there, has a net from 1 to 8.
+fn has_net(pin: Pin) -> bool
+    ensures { λ r. ⌜ r ≡ hasNet pin ⌝ }
+{
+    let s = pin.stand;
+    match s {
+        Stand::Absent => true,
+        Stand::There(h) => is_net(h.net),
+    }
+}
+
 // Whether two pins hold the same.
 fn same_held(a: Held, b: Held) -> bool
     ensures { λ r. ⌜ r ≡ sameHeld a b ⌝ }
 {
     let p = a.place;
     let q = b.place;
-    board::same_place(p, q)
+    if !board::same_place(p, q) {
+        return false;
+    }
+    a.net == b.net && a.part == b.part
 }
 
 // Whether two pins are the same: both absent, or both there and holding the same.
@@ -105,7 +144,7 @@ fn same_pin(a: Pin, b: Pin) -> bool
     }
 }
 
-// What a pin holds; as if it stood in the middle of the board where it is not there.
+// What a pin holds; as if it stood in the middle of the board, of no net and with part number 0, where it is not there.
 fn held_by(pin: Pin) -> Held
     ensures { λ r. ⌜ r ≡ heldBy pin ⌝ }
 {
@@ -113,6 +152,8 @@ fn held_by(pin: Pin) -> Held
     match s {
         Stand::Absent => Held {
             place: board::middle(),
+            net: 0,
+            part: 0,
         },
         Stand::There(h) => h,
     }
@@ -147,6 +188,45 @@ pub fn lists_of(pins: [Pin; PINS]) -> SpotLists
     SpotLists { xs, ys, there }
 }
 
+// Which pins of a drawing are of a net.
+fn pins_of(pins: [Pin; PINS], net: u32) -> [bool; PINS]
+    ensures { λ r. ⌜ r ≡ map (isOf net) pins ⌝ }
+{
+    let mut of_net = [false; PINS];
+    let mut at = 0;
+    while at < PINS {
+        let q = pins[at];
+        of_net[at] = is_of(q, net);
+        at += 1;
+    }
+    of_net
+}
+
+// What the feed of a net has at each pin number, as lists.
+pub fn feed_lists(pins: [Pin; PINS], net: u32) -> SpotLists
+    ensures { λ r. ⌜ r ≡ feedLists pins net ⌝ }
+{
+    let mut lists = lists_of(pins);
+    let of_net = pins_of(pins, net);
+    lists.there = of_net;
+    lists
+}
+
+// Whether each pin that is there has a net from 1 to 8.
+fn have_nets(pins: [Pin; PINS]) -> bool
+    ensures { λ r. ⌜ r ≡ eachOf hasNet pins ⌝ }
+{
+    let mut i = 0;
+    while i < PINS {
+        let q = pins[i];
+        if !has_net(q) {
+            return false;
+        }
+        i += 1;
+    }
+    true
+}
+
 // Whether the pins keep the rules of a drawing.
 pub fn keep_rules(pins: [Pin; PINS]) -> bool
     ensures { λ r. ⌜ r ≡ lawful pins ⌝ }
@@ -158,7 +238,10 @@ pub fn keep_rules(pins: [Pin; PINS]) -> bool
     if !spots::are_within(&xs, &ys, &there) {
         return false;
     }
-    spots::are_apart(&xs, &ys, &there)
+    if !spots::are_apart(&xs, &ys, &there) {
+        return false;
+    }
+    have_nets(pins)
 }
 
 // Whether a pin other than `pin` stands too near to a place.
@@ -312,7 +395,7 @@ fn can_stand(
     !spots::is_crowded(xs, ys, there, number, at)
 }
 
-// Whether a pin fits among the others as the one of this number: it is absent, or could stand where it does.
+// Whether a pin fits among the others as the one of this number: it is absent, or has a net from 1 to 8 and could stand where it does.
 fn does_fit(
     xs: &[i32; PINS],
     ys: &[i32; PINS],
@@ -320,8 +403,11 @@ fn does_fit(
     number: usize,
     pin: Pin,
 ) -> bool
-    ensures { λ r. ⌜ r ≡ fits (spotsFrom (now (xs .entry)) (now (ys .entry)) (now (there .entry))) number (spotOf pin) ⌝ }
+    ensures { λ r. ⌜ r ≡ pinFits (spotsFrom (now (xs .entry)) (now (ys .entry)) (now (there .entry))) number pin ⌝ }
 {
+    if !has_net(pin) {
+        return false;
+    }
     let s = pin.stand;
     match s {
         Stand::Absent => true,

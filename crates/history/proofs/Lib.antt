@@ -10,8 +10,10 @@ pub mod Opened
 pub mod Sounding
 pub mod Again
 pub mod Refused
+pub mod Fitting
 pub mod Wired
 pub mod Maps
+pub mod Moved
 pub mod Leaving
 pub mod Former
 pub mod Best

@@ -7,27 +7,27 @@ use Prim.Native.Nat.{ℕ, zero, suc, _<_}
 use native.Mathlib.Omega.{arith}
 use borrow.Author.Tests.{not-false, eqb-true, eqb-false}
 use lib.Dec.{eqb}
-use lib.ListN.{length, replicate, take, drop, getD, set}
+use lib.ListN.{length, take, drop, getD, set}
 use lib.Seq.{getD-set-same}
-use Rattle.basics.specs.Tests.{both, choose}
+use Rattle.basics.specs.Tests.{both}
 use Rattle.refusal.specs.Refusals.{accepted}
 use Rattle.basics.proofs.Lists.{empty}
 use Rattle.drawing.specs.declared.Pin.{Pin}
 use Rattle.drawing.specs.declared.Edit.{Edit}
+use Rattle.pinmap.specs.declared.Form.{Form}
 use Rattle.pinmap.specs.Map.{readMap}
-use Rattle.journal.specs.Journal.{mostSeats, own, kept}
+use Rattle.journal.specs.Journal.{own, kept}
 use Rattle.journal.proofs.Own.{own-kept}
 use Rattle.journal.proofs.Filled.{take-filled}
 use Rattle.seats.specs.declared.Seat.{Seat}
 use Rattle.desk.specs.declared.Desk.{Desk}
 use Rattle.rows.specs.Calls.{Call, seatIn, opening, closing, making, undoing, redoing, asking}
 use Rattle.rows.proofs.Passed.{Opens, Passes, passes}
-use Rattle.desk.specs.Desk.{closedSeat, noSeat, seatOf, inUse, editsOf, standingOf, takenBackOf, openSeat, withPins, sound, lookAt, edited, effect, answerOf, step, emptyDesk}
+use Rattle.desk.specs.Desk.{closedSeat, noSeat, seatOf, inUse, editsOf, standingOf, takenBackOf, openSeat, withPins, sound, lookAt, edited, effect, answerOf, step}
 use Rattle.desk.proofs.Sound.{eight-seats, closed-owns-none}
 use Rattle.history.specs.History.{after}
 use Rattle.history.specs.AsPast.{Untouched}
 use Rattle.history.specs.Until.{NoneAt, isOpening, isClosing, isEditOrClosing}
-use Rattle.history.specs.Leaving.{JobsFit}
 use Rattle.history.proofs.Untouched.{other-seats-untouched, accepted-takes-effect, refused-leaves-the-desk, asking-leaves-the-desk}
 
 -- ---- calls that leave a seat as it is
@@ -60,9 +60,9 @@ module _ {A : Type 0} (part : Desk → ℕ → A) (a : A) (these : Call → Bool
   stays (c ∷ calls) d s p n = stays calls (step d c .desk) s (stays-by d c s (eqb s (seatIn c)) refl p (n .0)) (n .1)
 
 -- An open seat is not opened again.
-not-again : {A : Type 0} (d : Desk) (t job : ℕ) (map : List ℕ) → seatOf d t .opened ≡ true → accepted (step d (opening t job map) .verdict) ≡ true → A
+not-again : {A : Type 0} (d : Desk) (t job : ℕ) (form : Form) (map : List ℕ) → seatOf d t .opened ≡ true → accepted (step d (opening t job form map) .verdict) ≡ true → A
 unfolding step answerOf Passes
-not-again d t job map o z = absurd (true≢false (sym o ∙ passes (lookAt d t) (opening t job map) z .shown))
+not-again d t job form map o z = absurd (true≢false (sym o ∙ passes (lookAt d t) (opening t job form map) z .shown))
 
 -- ---- open until a closing
 
@@ -91,7 +91,7 @@ module _ (d : Desk) (c : Call) (z : accepted (step d c .verdict) ≡ true) where
 keeps-open : (job : ℕ) (d : Desk) (c : Call) → openFor (seatOf d (seatIn c)) ≡ (true, job) → accepted (step d c .verdict) ≡ true → isClosing c ≡ false
     → openFor (seatOf (step d c .desk) (seatIn c)) ≡ (true, job)
 unfolding effect edited
-keeps-open job d (opening t j map) p z n = not-again d t j map (ap (λ (x : Bool × ℕ). x .0) p) z
+keeps-open job d (opening t j form map) p z n = not-again d t j form map (ap (λ (x : Bool × ℕ). x .0) p) z
 keeps-open job d (closing t) p z n = absurd (true≢false n)
 keeps-open job d (making t m) p z n = same-job d (making t m) z _ _ refl ∙ p
 keeps-open job d (undoing t) p z n = same-job d (undoing t) z _ _ refl ∙ p
@@ -118,7 +118,7 @@ module _ (q : Seat) (o : q .opened ≡ true) (none : q .standing ≡ 0) where
   keeps-whole : (d : Desk) (c : Call) → whole d (seatIn c) ≡ (q, []) → accepted (step d c .verdict) ≡ true → isEditOrClosing c ≡ false
       → whole (step d c .desk) (seatIn c) ≡ (q, [])
   unfolding step answerOf Passes
-  keeps-whole d (opening t job map) p z n = not-again d t job map (ap (λ (x : Seat × List Edit). x .0 .opened) p ∙ o) z
+  keeps-whole d (opening t job form map) p z n = not-again d t job form map (ap (λ (x : Seat × List Edit). x .0 .opened) p ∙ o) z
   keeps-whole d (closing t) p z n = absurd (true≢false n)
   keeps-whole d (making t m) p z n = absurd (true≢false n)
   keeps-whole d (undoing t) p z n = absurd (passes (lookAt d t) (undoing t) z .1 (ap (λ (x : Seat × List Edit). x .0 .standing) p ∙ none))
@@ -140,7 +140,7 @@ same-until-edit calls d s o m e n =
 -- An accepted call but opening finds its seat open.
 found-open : (d : Desk) (c : Call) → accepted (step d c .verdict) ≡ true → isOpening c ≡ false → seatOf d (seatIn c) .opened ≡ true
 unfolding step answerOf Passes
-found-open d (opening t job map) z n = absurd (true≢false n)
+found-open d (opening t job form map) z n = absurd (true≢false n)
 found-open d (closing t) z n = passes (lookAt d t) (closing t) z .shown
 found-open d (making t m) z n = passes (lookAt d t) (making t m) z .reaches .shown
 found-open d (undoing t) z n = passes (lookAt d t) (undoing t) z .0 .shown
@@ -160,36 +160,36 @@ closed-until-opening calls d s o n =
 
 -- ---- opening and closing
 
-module _ (d : Desk) (s job : ℕ) (map : List ℕ) (z : accepted (step d (opening s job map) .verdict) ≡ true) where
+module _ (d : Desk) (s job : ℕ) (form : Form) (map : List ℕ) (z : accepted (step d (opening s job form map) .verdict) ≡ true) where
   -- What the opening has passed.
-  opens-here : Opens (lookAt d s) job map
+  opens-here : Opens (lookAt d s) job form map
   unfolding step answerOf Passes
-  opens-here = passes (lookAt d s) (opening s job map) z
+  opens-here = passes (lookAt d s) (opening s job form map) z
 
   -- The map of an accepted opening is read.
-  pub opened-map-read : accepted (readMap map job .verdict) ≡ true
+  pub opened-map-read : accepted (readMap form map job .verdict) ≡ true
   opened-map-read = opens-here .read
 
   -- An accepted opening leaves the seat open, with the job and the map's pins;
-  pub opened-seat : seatOf (step d (opening s job map) .desk) s ≡ openSeat job (readMap map job .pins)
+  pub opened-seat : seatOf (step d (opening s job form map) .desk) s ≡ openSeat job (readMap form map job .pins)
   unfolding effect
   opened-seat =
       let h : sound d ≡ true = not-false _ (opens-here .unbroken) in
       let k : s < length (d .seats) = omega (arith, eight-seats d h, opens-here .low) in
-      here-is d (opening s job map) z ∙ getD-set-same (d .seats) s (openSeat job (readMap map job .pins)) noSeat k
+      here-is d (opening s job form map) z ∙ getD-set-same (d .seats) s (openSeat job (readMap form map job .pins)) noSeat k
 
   -- it begins a new history: the seat has no edits,
-  pub opened-without-edits : editsOf (step d (opening s job map) .desk) s ≡ []
+  pub opened-without-edits : editsOf (step d (opening s job form map) .desk) s ≡ []
   unfolding effect
   opened-without-edits =
-      ap (λ (x : Desk). editsOf x s) (accepted-takes-effect d (opening s job map) z)
+      ap (λ (x : Desk). editsOf x s) (accepted-takes-effect d (opening s job form map) z)
       ∙ empty (editsOf d s) (closed-owns-none d (not-false _ (opens-here .unbroken)) s (opens-here .low) (opens-here .shown))
 
   -- none stands, and none is taken back.
-  pub opened-anew : (standingOf (step d (opening s job map) .desk) s ≡ []) × (takenBackOf (step d (opening s job map) .desk) s ≡ [])
+  pub opened-anew : (standingOf (step d (opening s job form map) .desk) s ≡ []) × (takenBackOf (step d (opening s job form map) .desk) s ≡ [])
   opened-anew =
       let e = opened-without-edits in
-      let n : seatOf (step d (opening s job map) .desk) s .standing ≡ 0 = ap (λ (x : Seat). x .standing) opened-seat in
+      let n : seatOf (step d (opening s job form map) .desk) s .standing ≡ 0 = ap (λ (x : Seat). x .standing) opened-seat in
       (λ i. reverse (take (n i) (e i)), λ i. drop (n i) (e i))
 
 -- An accepted closing leaves the seat closed, and frees all of its records.
@@ -202,49 +202,3 @@ closed-seat d s z =
       here-is d (closing s) z ∙ getD-set-same (d .seats) s closedSeat noSeat k,
       ap (λ (x : Desk). editsOf x s) (accepted-takes-effect d (closing s) z) ∙ ap (own s) (take-filled (kept s 0 (inUse d))) ∙ own-kept s 0 (inUse d),
     )
-
--- ---- a job has two bytes
-
--- Jobs of two bytes stay so with one seat changed,
-job-set : (l : List Seat) (s : ℕ) (q : Seat) → q .job < 65536 → ((t : ℕ) → getD l t noSeat .job < 65536) → (t : ℕ) → getD (set l s q) t noSeat .job < 65536
-job-set [] s q j h t = h t
-job-set (r ∷ l) zero q j h zero = j
-job-set (r ∷ l) zero q j h (suc t) = h (suc t)
-job-set (r ∷ l) (suc s) q j h zero = h zero
-job-set (r ∷ l) (suc s) q j h (suc t) = job-set l s q j (λ u. h (suc u)) t
-
--- by what a call makes of the desk,
-job-effect : (d : Desk) (c : Call) → ((t job : ℕ) (map : List ℕ) → c ≡ opening t job map → job < 65536)
-    → ((t : ℕ) → seatOf d t .job < 65536) → (t : ℕ) → seatOf (effect d c) t .job < 65536
-unfolding effect edited
-job-effect d (opening s job map) j h = job-set (d .seats) s _ (j s job map refl) h
-job-effect d (closing s) j h = job-set (d .seats) s closedSeat (omega arith) h
-job-effect d (making s m) j h = job-set (d .seats) s _ (h s) h
-job-effect d (undoing s) j h = job-set (d .seats) s _ (h s) h
-job-effect d (redoing s) j h = job-set (d .seats) s _ (h s) h
-job-effect d (asking s a) j h = h
-
--- accepted or not,
-job-by : (b : Bool) (d e : Desk) → ((t : ℕ) → seatOf d t .job < 65536) → ((t : ℕ) → seatOf e t .job < 65536)
-    → (t : ℕ) → seatOf (choose b e d) t .job < 65536
-unfolding choose
-job-by true d e h k = k
-job-by false d e h k = h
-
--- and after all of the calls.
-job-after : (calls : List Call) (d : Desk) → JobsFit calls → ((t : ℕ) → seatOf d t .job < 65536) → (t : ℕ) → seatOf (after d calls) t .job < 65536
-unfolding JobsFit after step
-job-after [] d j h = h
-job-after (c ∷ calls) d j h =
-    job-after calls (step d c .desk) (j .1) (job-by (accepted (answerOf d c)) d (effect d c) h (job-effect d c (j .0) h))
-
--- A closed seat has job 0.
-no-job : (n t : ℕ) → getD (replicate n closedSeat) t noSeat .job ≡ 0
-no-job zero t = refl
-no-job (suc n) zero = refl
-no-job (suc n) (suc t) = no-job n t
-
--- After such calls from the empty desk each seat's job has two bytes.
-pub job-fits : (calls : List Call) → JobsFit calls → (s : ℕ) → seatOf (after emptyDesk calls) s .job < 65536
-unfolding emptyDesk
-job-fits calls j = job-after calls emptyDesk j (λ t. rw (no-job mostSeats t) (omega arith))

@@ -109,8 +109,8 @@ module _ (h : List Past) (g : Sane h) where
   -- What an accepted call makes of its own seat is sane.
   sane-next : (c : Call) → accepted (answerIn h c) ≡ true → sane (next c (pastOf h (seatIn c)))
   unfolding next answerIn Passes sane stood
-  sane-next (opening s job map) z =
-      record { numbered = passes (lookIn h s) (opening s job map) z .set; start = read-lawful job map; stands = tt; redoes = turn-nil makeable made _ }
+  sane-next (opening s job form map) z =
+      record { numbered = passes (lookIn h s) (opening s job form map) z .set; start = read-lawful form job map; stands = tt; redoes = turn-nil makeable made _ }
   sane-next (closing s) z = tt
   sane-next (making s m) z = sane-anew (editOf (pinsIn (pastOf h s)) m) (pastOf h s) (g .each s) (passes (lookIn h s) (making s m) z .fits)
   sane-next (undoing s) z = sane-undone (pastOf h s) (g .each s)
@@ -128,7 +128,7 @@ module _ (h : List Past) (g : Sane h) where
   -- So no accepted call makes a job repeat,
   jobs-next : (c : Call) → accepted (answerIn h c) ≡ true → jobsApart (map jobIn (set h (seatIn c) (next c (pastOf h (seatIn c))))) ≡ true
   unfolding next answerIn Passes
-  jobs-next (opening s job map) z = jobs-set s _ (passes (lookIn h s) (opening s job map) z .fresh)
+  jobs-next (opening s job form map) z = jobs-set s _ (passes (lookIn h s) (opening s job form map) z .fresh)
   jobs-next (closing s) z = jobs-set s _ (none-among _)
   jobs-next (making s m) z = jobs-kept s _ (job-anew _ (pastOf h s))
   jobs-next (undoing s) z = jobs-kept s _ (job-undone (pastOf h s))

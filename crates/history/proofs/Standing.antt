@@ -70,7 +70,7 @@ redone-stands (opened job first standing (e ∷ takenBack)) = stand-more e stand
 next-stands : (h : List Past) (c : Call) → accepted (answerIn h c) ≡ true → isUndo c ≡ false → isClosing c ≡ false
     → StillStand (standingIn (pastOf h (seatIn c))) (standingIn (next c (pastOf h (seatIn c))))
 unfolding next answerIn Passes
-next-stands h (opening s job map) z u k = stand-none [] (none-closed (pastOf h s) (passes (lookIn h s) (opening s job map) z .shown))
+next-stands h (opening s job form map) z u k = stand-none [] (none-closed (pastOf h s) (passes (lookIn h s) (opening s job form map) z .shown))
 next-stands h (closing s) z u k = absurd (true≢false k)
 next-stands h (making s m) z u k = anew-stands _ (pastOf h s)
 next-stands h (undoing s) z u k = absurd (true≢false u)

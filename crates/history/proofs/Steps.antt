@@ -162,7 +162,7 @@ module _ (d : Desk) (h : List Past) (g : Agrees d h) (f : Sane h) where
 closed-verdict : (k m : Look) (c : Call) → k .broken ≡ false → m .broken ≡ false → k .seat ≡ m .seat → k .opened ≡ false → m .opened ≡ false
     → k .jobs ≡ m .jobs → firstOf (rowsOf k c) ≡ firstOf (rowsOf m c)
 unfolding firstOf choose
-closed-verdict k m (opening s job map) a b e o p j = rw (a, b, e, o, p, j)
+closed-verdict k m (opening s job form map) a b e o p j = rw (a, b, e, o, p, j)
 closed-verdict k m (closing s) a b e o p j = rw (a, b, e, o, p)
 closed-verdict k m (making s q) a b e o p j = rw (a, b, e, o, p)
 closed-verdict k m (undoing s) a b e o p j = rw (a, b, e, o, p)
@@ -267,10 +267,10 @@ module _ (d : Desk) (h : List Past) (g : Agrees d h) (f : Sane h) where
   -- After any accepted call the desk agrees,
   agrees-next : (c : Call) → accepted (answerIn h c) ≡ true → Agrees (effect d c) (set h (seatIn c) (next c (pastOf h (seatIn c))))
   unfolding effect next answerIn Passes
-  agrees-next (opening s job map) z =
-      let o = passes (lookIn h s) (opening s job map) z in
+  agrees-next (opening s job form map) z =
+      let o = passes (lookIn h s) (opening s job form map) z in
       agrees-seat d h s _ _ g (o .low) (edits-opened (pastOf h s) (o .shown))
-      (at-opened _ _ (pastOf h s) job (readMap map job .pins) (at-seat s (o .low)) (o .shown))
+      (at-opened _ _ (pastOf h s) job (readMap form map job .pins) (at-seat s (o .low)) (o .shown))
   agrees-next (closing s) z = agrees-closed s (passes (lookIn h s) (closing s) z .low)
   agrees-next (making s m) z =
       let p = passes (lookIn h s) (making s m) z in

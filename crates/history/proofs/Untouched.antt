@@ -37,7 +37,7 @@ module _ (d : Desk) (s t : ℕ) (apart : t ≡ s → ⊥) where
 -- What a call makes of the desk leaves the seats that it does not name,
 other-effect : (d : Desk) (c : Call) (t : ℕ) → (t ≡ seatIn c → ⊥) → Untouched d (effect d c) t
 unfolding effect edited
-other-effect d (opening s job map) t n = other-seat d s t n _
+other-effect d (opening s job form map) t n = other-seat d s t n _
 other-effect d (closing s) t n = other-records d s t n _ _ (own-other s t n 0 (inUse d))
 other-effect d (making s m) t n = other-records d s t n _ _ (other-added s (seatOf d s .standing) _ (inUse d) t n)
 other-effect d (undoing s) t n = other-seat d s t n _
@@ -71,9 +71,9 @@ unfolding step effect
 asking-leaves-the-desk d s a = choose-same (accepted (answerOf d (asking s a))) d
 
 -- The answer of wiring hands back the desk that it was given,
-pub wired-leaves-the-desk : (d : Desk) (s room : ℕ) (favour : Favour) → wiredOf d s room favour .desk ≡ d
+pub wired-leaves-the-desk : (d : Desk) (s net room : ℕ) (favour : Favour) → wiredOf d s net room favour .desk ≡ d
 unfolding wiredOf
-wired-leaves-the-desk d s room favour = refl
+wired-leaves-the-desk d s net room favour = refl
 
 -- and so does that of writing.
 pub written-leaves-the-desk : (d : Desk) (s : ℕ) (buffer : List ℕ) → writtenOf d s buffer .desk ≡ d

@@ -101,7 +101,7 @@ redone (opened job first standing (e ∷ takenBack)) = opened job first (e ∷ s
 
 -- What an accepted call makes of its own seat.
 unfoldable pub next : Call → Past → Past
-next (opening s job map) t = opened job (readMap map job .pins) [] []
+next (opening s job form map) t = opened job (readMap form map job .pins) [] []
 next (closing s) t = closed
 next (making s m) t = anew (editOf (pinsIn t) m) t
 next (undoing s) t = undone t

@@ -13,7 +13,7 @@ use Rattle.desk.specs.Desk.{step}
 
 -- The call is an opening.
 abbrev pub isOpening : Call → Bool
-isOpening (opening t job map) = true
+isOpening (opening t job form map) = true
 isOpening (closing t) = false
 isOpening (making t m) = false
 isOpening (undoing t) = false
@@ -22,7 +22,7 @@ isOpening (asking t a) = false
 
 -- The call is a closing.
 abbrev pub isClosing : Call → Bool
-isClosing (opening t job map) = false
+isClosing (opening t job form map) = false
 isClosing (closing t) = true
 isClosing (making t m) = false
 isClosing (undoing t) = false
@@ -31,7 +31,7 @@ isClosing (asking t a) = false
 
 -- The call makes an edit (placing, moving, removing) or is a closing.
 abbrev pub isEditOrClosing : Call → Bool
-isEditOrClosing (opening t job map) = false
+isEditOrClosing (opening t job form map) = false
 isEditOrClosing (closing t) = true
 isEditOrClosing (making t m) = true
 isEditOrClosing (undoing t) = false
@@ -40,7 +40,7 @@ isEditOrClosing (asking t a) = false
 
 -- The call is an undo.
 abbrev pub isUndo : Call → Bool
-isUndo (opening t job map) = false
+isUndo (opening t job form map) = false
 isUndo (closing t) = false
 isUndo (making t m) = false
 isUndo (undoing t) = true

@@ -15,15 +15,15 @@ use Rattle.journal.proofs.Seated.{ownedBelow}
 
 -- D1: a placing at seat 0, then one at seat 1.
 abbrev two : List Record
-two = recorded 0 (Placed 0 (holding (place (pos 20) (pos 20)))) ∷ recorded 1 (Placed 0 (holding (place (pos 40) (pos 40)))) ∷ []
+two = recorded 0 (Placed 0 (holding (place (pos 20) (pos 20)) 1 0)) ∷ recorded 1 (Placed 0 (holding (place (pos 40) (pos 40)) 1 0)) ∷ []
 
 -- Seat 0 has its own edit alone.
-seat-0-alone : own 0 two ≡ Placed 0 (holding (place (pos 20) (pos 20))) ∷ []
+seat-0-alone : own 0 two ≡ Placed 0 (holding (place (pos 20) (pos 20)) 1 0) ∷ []
 unfolding own choose
 seat-0-alone = refl
 
 -- Closing a seat leaves the record of the other.
-closing-leaves-the-other : kept 0 0 two ≡ recorded 1 (Placed 0 (holding (place (pos 40) (pos 40)))) ∷ []
+closing-leaves-the-other : kept 0 0 two ≡ recorded 1 (Placed 0 (holding (place (pos 40) (pos 40)) 1 0)) ∷ []
 unfolding kept choose
 closing-leaves-the-other = refl
 
@@ -39,16 +39,16 @@ each-seat-is-counted = refl
 
 -- D2: pin 0 placed and moved.
 abbrev moved : List Record
-moved = recorded 0 (Placed 0 (holding (place (pos 20) (pos 20)))) ∷ recorded 0 (Moved 0 (place (pos 20) (pos 20)) (place (pos 80) (pos 80))) ∷ []
+moved = recorded 0 (Placed 0 (holding (place (pos 20) (pos 20)) 1 0)) ∷ recorded 0 (Moved 0 (place (pos 20) (pos 20)) (place (pos 80) (pos 80))) ∷ []
 
 -- The move undone and pin 1 placed, seat 0 owns the two placings: the move is gone.
-move-is-freed : own 0 (added 0 1 (Placed 1 (holding (place (pos 40) (pos 40)))) moved) ≡ Placed 0 (holding (place (pos 20) (pos 20))) ∷ Placed 1 (holding (place (pos 40) (pos 40))) ∷ []
+move-is-freed : own 0 (added 0 1 (Placed 1 (holding (place (pos 40) (pos 40)) 1 0)) moved) ≡ Placed 0 (holding (place (pos 20) (pos 20)) 1 0) ∷ Placed 1 (holding (place (pos 40) (pos 40)) 1 0) ∷ []
 unfolding own kept choose
 move-is-freed = refl
 
 -- As many records as D4 has, a placing and 255 moves, all of seat 0.
 abbrev full : List Record
-full = recorded 0 (Placed 0 (holding (place (pos 20) (pos 20)))) ∷ replicate 255 (recorded 0 (Moved 0 (place (pos 20) (pos 20)) (place (pos 80) (pos 80))))
+full = recorded 0 (Placed 0 (holding (place (pos 20) (pos 20)) 1 0)) ∷ replicate 255 (recorded 0 (Moved 0 (place (pos 20) (pos 20)) (place (pos 80) (pos 80))))
 
 -- Another seat finds no room;
 another-seat-finds-no-room : length (kept 1 0 full) ≡ mostRecords
@@ -66,6 +66,6 @@ unfolding kept choose
 closing-makes-room-for-all = refl
 
 -- Seat 8 is none of the desk's.
-seat-eight : seated (recorded 8 (Placed 0 (holding (place (pos 20) (pos 20)))) ∷ []) ≡ false
+seat-eight : seated (recorded 8 (Placed 0 (holding (place (pos 20) (pos 20)) 1 0)) ∷ []) ≡ false
 unfolding eachOf both
 seat-eight = refl

@@ -25,7 +25,7 @@ mostSeats = 8
 
 -- The edit of a record that is not in use.
 abbrev pub noEdit : Edit
-noEdit = Placed 0 (holding middle)
+noEdit = Placed 0 (holding middle 0 0)
 
 -- A record that is not in use.
 abbrev pub blank : Record

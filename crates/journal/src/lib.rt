@@ -31,6 +31,8 @@ fn no_edit() -> Edit
 {
     let held = Held {
         place: board::middle(),
+        net: 0,
+        part: 0,
     };
     Edit::Placed(0, held)
 }

@@ -15,10 +15,11 @@ use Rattle.refusal.specs.Refusals.{accepted}
 use Rattle.refusal.specs.Rows.{firstOf}
 use Rattle.refusal.specs.declared.Verdict.the-variants.{JobZero, MapLength}
 use Rattle.board.specs.Spots.{spotsTooNear, within}
-use Rattle.drawing.specs.Pins.{lawful, spotOf, spotsOf}
+use Rattle.drawing.specs.Pins.{lawful, hasNet, isNet, isOf, feedSpot, feedOf, spotOf, spotsOf}
 use Rattle.tree.specs.Growth.{keptIf, pinsFrom, pinsOf}
 use Rattle.wiring.specs.Answer.{turnedAway, wiringWith, wiringFavouring, wiringOf}
 use Rattle.journal.specs.Journal.{own, filled, inTurn}
+use Rattle.pinmap.specs.declared.Form.the-variants.{Old}
 use Rattle.pinmap.specs.Map.{mostBytes, recordsIn, withPinsOf, rowsFrom, wrongLength, readMap}
 use Rattle.seats.specs.Seats.{sameJob}
 use Rattle.desk.specs.Desk.{jobOf, soundOpen, soundClosed, soundSeat, soundTo, sound, effect, answerOf, step, emptyDesk, wiredOf}
@@ -33,7 +34,7 @@ use Rattle.mapped.proofs.Opening.{opened, printed-refused}
 -- Empty input is a drawing without pins: nothing to wire.
 pub empty-input : mapAnswer [] ≡ text "refused 17\n"
 unfolding jobOfMap openedWith wiredWith mapAnswer mapText toldLine carriedText digits wiredOf step effect answerOf sameJob
-    sound soundTo soundSeat soundOpen soundClosed jobOf emptyDesk readMap wrongLength rowsFrom recordsIn withPinsOf own filled inTurn spotsTooNear within lawful spotOf spotsOf
+    sound soundTo soundSeat soundOpen soundClosed jobOf emptyDesk readMap wrongLength rowsFrom recordsIn withPinsOf own filled inTurn spotsTooNear within lawful hasNet isNet isOf feedSpot feedOf spotOf spotsOf
     wiringOf wiringFavouring wiringWith turnedAway pinsOf pinsFrom keptIf accepted firstOf both either choose anyOf noTwo eachOf
 empty-input = refl
 
@@ -53,9 +54,9 @@ unfolding jobOfMap toldLine carriedText digits choose
 two-zeros rest = job-zero (0 ∷ 0 ∷ rest) refl
 
 -- Under any other job more than 384 bytes are 13.
-pub above-384 : (input : List ℕ) → eqb (jobOfMap input) 0 ≡ false → mostBytes < length input → mapAnswer input ≡ text "refused 13\n"
+pub above-384 : (input : List ℕ) → eqb (jobOfMap input) 0 ≡ false → mostBytes Old < length input → mapAnswer input ≡ text "refused 13\n"
 unfolding firstOf choose either accepted wrongLength toldLine carriedText digits
-above-384 input e h = printed-refused input {v = MapLength} (opened input ∙ rw (e, lt-ltb mostBytes (length input) h)) refl
+above-384 input e h = printed-refused input {v = MapLength} (opened input ∙ rw (e, lt-ltb (mostBytes Old) (length input) h)) refl
 
 -- The job is read from what is kept.
 job-kept : (input : List ℕ) → jobOfMap (take mostRead input) ≡ jobOfMap input

@@ -7,12 +7,12 @@ use Rattle.basics.specs.Sums.{sum, different}
 use Rattle.refusal.specs.Refusals.{accepted}
 use Rattle.refusal.specs.Rows.{firstOf}
 use Rattle.refusal.specs.declared.Verdict.the-variants.{OtherJob, FaultyRecord}
-use Rattle.pinmap.specs.Number.{numberAt}
+use Rattle.pinmap.specs.Number.{bitsAt, numberAt}
 use Rattle.board.specs.Place.{difference, larger, sameNumber, samePlace, onBoard, inside, closer, tooNear, isStraight}
 use Rattle.tree.specs.Weight.{weightOf, pairOf, byPart, byNumber, comesBefore}
 use Rattle.board.specs.Place.{distanceOf}
 use Rattle.board.specs.Spots.{spotsTooNear, crowded, within, tooNearOther}
-use Rattle.drawing.specs.Pins.{isThere, lawful, spotOf, spotsOf}
+use Rattle.drawing.specs.Pins.{isThere, lawful, hasNet, isNet, isOf, feedSpot, feedOf, spotOf, spotsOf}
 use Rattle.tree.specs.Growth.{pairAt, sooner, keptIf, pinsFrom, without, runsFrom, runsBetween, earliest, earliestOf, nextRun, grown, runsAmong, pinsOf, runsOf}
 use Rattle.tree.specs.Boxes.{belowBoth, under, overlap, boxesShare, isEnd, common, clash}
 use Rattle.tree.specs.Bends.{bent}
@@ -50,8 +50,8 @@ W3 = placed 0 0 (0 ∷ 0 ∷ 0 ∷ 0 ∷ []) ++ placed 1 80 (0 ∷ 0 ∷ 0 ∷ 4
 -- For W3 exactly these three lines are printed.
 W3-holds : mapAnswer W3 ≡ text "job 7 length 160 runs 2 weighed 5\n0 1 lower\n1 2 straight\n"
 unfolding jobOfMap openedWith wiredWith mapAnswer mapText jobText textForEach entryLine runLine jobLine digits wiredOf step effect answerOf
-    sameJob sound soundTo soundSeat soundOpen soundClosed jobOf emptyDesk readMap wrongLength rowsFrom recordsIn withPinsOf recordOf numberAt faulty
-    withPinOf own filled inTurn isThere spotsTooNear tooNearOther crowded within spotOf spotsOf lawful wiringOf wiringFavouring wiringWith
+    sameJob sound soundTo soundSeat soundOpen soundClosed jobOf emptyDesk readMap wrongLength rowsFrom recordsIn withPinsOf recordOf numberAt bitsAt faulty
+    withPinOf own filled inTurn isThere spotsTooNear tooNearOther crowded within spotOf spotsOf lawful hasNet isNet isOf feedSpot feedOf wiringOf wiringFavouring wiringWith
     answerWith turnedAway legEntries runEntries shapedRuns weighedOf sum weighedAt howMany bent bestChoice shortestOf shortest lengthOfChoice legsOfChoice choicesOf
     withShapes withShape shapesOf bentShapes lengthOf different stepsOfAll stepsOf smaller stepsUp stepsAcross sameStep legsOf lowerCorner upperCorner
     isStraight clash common isEnd boxesShare overlap under belowBoth runsOf pinsOf runsAmong grown nextRun earliestOf earliest runsBetween runsFrom without
@@ -65,7 +65,7 @@ thirdOther = placed 0 0 (0 ∷ 0 ∷ 0 ∷ 0 ∷ []) ++ placed 1 80 (0 ∷ 0 ∷
 
 -- It is refused with 14 and that record.
 other-job : mapAnswer thirdOther ≡ text "refused 14 record 2\n"
-unfolding jobOfMap wrongLength rowsFrom recordsIn recordOf numberAt faulty withPinOf spotsTooNear anyOf tooNearOther crowded spotOf spotsOf difference closer
+unfolding jobOfMap wrongLength rowsFrom recordsIn recordOf numberAt bitsAt faulty withPinOf spotsTooNear anyOf tooNearOther crowded spotOf spotsOf difference closer
     tooNear inside onBoard accepted firstOf both either choose toldLine carriedText digits
 other-job = printed-refused thirdOther {v = OtherJob 2} (opened thirdOther) refl
 
@@ -75,6 +75,6 @@ pinTwice = placed 0 0 (0 ∷ 0 ∷ 0 ∷ 0 ∷ []) ++ placed 0 80 (0 ∷ 0 ∷ 0
 
 -- It is refused with 15 and the second record.
 pin-twice : mapAnswer pinTwice ≡ text "refused 15 record 1\n"
-unfolding jobOfMap wrongLength rowsFrom recordsIn recordOf numberAt faulty withPinOf spotsTooNear anyOf tooNearOther crowded spotOf spotsOf difference closer
+unfolding jobOfMap wrongLength rowsFrom recordsIn recordOf numberAt bitsAt faulty withPinOf spotsTooNear anyOf tooNearOther crowded spotOf spotsOf difference closer
     tooNear inside onBoard accepted firstOf both either choose toldLine carriedText digits
 pin-twice = printed-refused pinTwice {v = FaultyRecord 1} (opened pinTwice) refl

@@ -3,6 +3,7 @@ use mathlib.Core.List.{List, [], _∷_}
 use Prim.Native.Nat.{ℕ}
 use Rattle.basics.specs.Tests.{choose}
 use Rattle.refusal.specs.Refusals.{accepted}
+use Rattle.pinmap.specs.declared.Form.the-variants.{Old}
 use Rattle.pinmap.specs.Record.{jobAt}
 use Rattle.rows.specs.Calls.{opening}
 use Rattle.desk.specs.declared.Answered.{Answered}
@@ -19,13 +20,13 @@ jobOfMap [] = 1
 jobOfMap (b ∷ []) = 1
 jobOfMap (b ∷ c ∷ rest) = jobAt (b ∷ c ∷ rest)
 
--- The program opens the map at seat 0 of the empty desk, under its job.
+-- The program opens the map, in the old form, at seat 0 of the empty desk, under its job.
 unfoldable pub openedWith : List ℕ → Answered
-openedWith map = step emptyDesk (opening 0 (jobOfMap map) map)
+openedWith map = step emptyDesk (opening 0 (jobOfMap map) Old map)
 
--- And wires it, with room for all legs and lower asked for.
+-- And wires net 1, that of all its pins, with room for all legs and lower asked for.
 unfoldable pub wiredWith : List ℕ → Wiring
-wiredWith map = wiredOf (openedWith map .desk) 0 mostLegs Favour.Lower .laid .wiring
+wiredWith map = wiredOf (openedWith map .desk) 0 1 mostLegs Favour.Lower .laid .wiring
 
 -- What it prints: the wiring, or the refusal of the wiring or of the opening.
 unfoldable pub mapAnswer : List ℕ → List ℕ

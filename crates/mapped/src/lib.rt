@@ -2,11 +2,9 @@
 use board::PINS;
 use copper::Favour;
 use drawing::Pin;
-use pinmap::MOST_BYTES;
-use pinmap::RECORD_BYTES;
-use pinmap::Reading;
+use pinmap::Form;
+use pinmap::OLD_BYTES;
 use printed::print_verdict;
-use refusal::Verdict;
 use rows::Found;
 use shown::print_map;
 use text::ANSWER_BYTES;
@@ -14,21 +12,16 @@ use wiring::LEGS;
 use wiring::Laid;
 ghost use mathlib.Core.Path.{_≡_};
 ghost use mathlib.Core.Bool.{true};
-ghost use mathlib.Core.List.{_∷_};
 ghost use Prim.Native.Nat.{_≤_};
-ghost use lib.Dec.{eqb};
 ghost use lib.ListN.{length, replicate};
-ghost use Rattle.refusal.specs.Rows.{given};
-ghost use Rattle.refusal.specs.declared.Verdict.the-variants.{JobZero};
 ghost use Rattle.drawing.specs.Pins.{lawful, feedOf};
-ghost use Rattle.pinmap.specs.Map.{mapRows, readBy};
 ghost use Rattle.copper.specs.declared.Favour.the-variants.{Lower};
 ghost use Rattle.wiring.specs.Answer.{mostLegs, wiringOf};
 ghost use Rattle.text.specs.Text.{over, answerBytes};
 ghost use Rattle.mapped.specs.Mapped.{jobOfMap, mapAnswer, mostRead};
 
 // Of a longer input it is enough to read so many bytes (proofs/Inputs.antt).
-const MOST_READ: usize = MOST_BYTES + RECORD_BYTES + 1;
+const MOST_READ: usize = (PINS + 1) * OLD_BYTES + 1;
 
 // Room for as much of the input as is enough to read.
 pub fn window() -> [u8; MOST_READ]
@@ -47,24 +40,10 @@ fn job_of_map(map: &[u8]) -> u16
     pinmap::job_at(map)
 }
 
-// Reads a map under its job as opening it on an empty desk does: 4, then 13, 14 or 15.
-fn read_under(map: &[u8], job: u16) -> Reading
-    ensures { λ r. ⌜ r ≡ readBy (given (eqb job 0) JobZero ∷ mapRows (now (map .entry)) job) (now (map .entry)) ⌝ }
-{
-    if job == 0 {
-        let pins = drawing::no_pins();
-        return Reading {
-            verdict: Verdict::JobZero,
-            pins,
-        };
-    }
-    pinmap::read_map(map, job)
-}
-
-// Wires the pins of a map as those of seat 0, open for its job: room for all legs, lower asked for.
+// Wires net 1 of the pins of a map as those of seat 0, open for its job: room for all legs, lower asked for.
 fn wire_opened(job: u16, pins: [Pin; PINS]) -> Laid
     requires { ⌜ lawful pins ≡ true ⌝ }
-    ensures { λ r. ⌜ r ≡ wiringOf (feedOf pins) mostLegs Lower ⌝ }
+    ensures { λ r. ⌜ r ≡ wiringOf (feedOf pins 1) mostLegs Lower ⌝ }
 {
     let state = seats::open_seat(job, pins);
     let found = Found {
@@ -72,16 +51,16 @@ fn wire_opened(job: u16, pins: [Pin; PINS]) -> Laid
         seat: 0,
         state,
     };
-    rows::feed_wired(found, LEGS, Favour::Lower)
+    rows::feed_wired(found, 1, LEGS, Favour::Lower)
 }
 
-// Opens a map at seat 0 of an empty desk under its job, wires it with lower asked for, and prints the answer; says how many bytes that is.
+// Opens a map of the old form at seat 0 of an empty desk under its job, wires net 1 with lower asked for, and prints the answer; says how many bytes that is.
 // The desk itself is not held: of an empty one, opening and wiring look at the map alone.
 pub fn map_answer(map: &[u8], out: &mut [u8; ANSWER_BYTES]) -> usize
     ensures { λ r. ⌜ ((r ≡ length (mapAnswer (now (map .entry)))) × (r ≤ answerBytes)) × (now (out .exit) ≡ over (mapAnswer (now (map .entry))) (now (out .entry))) ⌝ }
 {
     let job = job_of_map(map);
-    let reading = read_under(map, job);
+    let reading = pinmap::read_under(Form::Old, map, job);
     let verdict = reading.verdict;
     if refusal::is_accepted(verdict) {
         let pins = reading.pins;

@@ -1,5 +1,5 @@
 -- A record is accepted just where none of its faults is there. Assumes nothing.
-use mathlib.Core.Path.{_≡_, refl, sym, ap}
+use mathlib.Core.Path.{_≡_, ap}
 use mathlib.Core.Bool.{true, false, not}
 use mathlib.Core.List.{List}
 use Prim.Native.Nat.{ℕ, _<_, _≤_}
@@ -14,25 +14,26 @@ use Rattle.drawing.specs.declared.Pin.{Pin}
 use Rattle.board.specs.declared.Spot.the-variants.{At}
 use Rattle.board.specs.Spots.{mostPins, tooNearAny}
 use Rattle.drawing.specs.Pins.{spotsOf}
+use Rattle.pinmap.specs.declared.Form.{Form}
 use Rattle.pinmap.specs.declared.MapRecord.{MapRecord}
-use Rattle.pinmap.specs.Record.{faulty, recordRows}
+use Rattle.pinmap.specs.Record.{wrongByte, faulty, recordRows}
 use Rattle.pinmap.proofs.Judging.{judged, record-apart}
 
 -- A record without a fault.
-pub record Faultless (job next : ℕ) (earlier : List Pin) (r : MapRecord) : Type 0 where
+pub record Faultless (form : Form) (job next : ℕ) (earlier : List Pin) (r : MapRecord) : Type 0 where
   pub own-job : r .job ≡ job
   pub pin-low : r .pin < mostPins
-  pub zero : r .byte3 ≡ 0
+  pub byte : wrongByte form (r .byte3) ≡ false
   pub on-board : inside (r .place) ≡ true
   pub above : next ≤ r .pin
   pub free : tooNearAny (At (r .place)) (spotsOf earlier) ≡ false
 
-module _ (job number next : ℕ) (earlier : List Pin) (r : MapRecord) where
+module _ (form : Form) (job number next : ℕ) (earlier : List Pin) (r : MapRecord) where
   -- A record that is accepted has no fault,
-  pub faultless : accepted (judged job number next earlier r) ≡ true → Faultless job next earlier r
+  pub faultless : accepted (judged form job number next earlier r) ≡ true → Faultless form job next earlier r
   unfolding faulty NoneHolds
   faultless y =
-      let n = none-holds (recordRows job number next (spotsOf earlier) r) (record-apart job number next earlier r) y in
+      let n = none-holds (recordRows form job number next (spotsOf earlier) r) (record-apart form job number next earlier r) y in
       let f1 = either-false _ _ (n .1 .0) in
       let f2 = either-false _ _ (f1 .1) in
       let f3 = either-false _ _ (f2 .1) in
@@ -40,21 +41,21 @@ module _ (job number next : ℕ) (earlier : List Pin) (r : MapRecord) where
       record {
         own-job = eqb-true _ _ (not-false _ (n .0));
         pin-low = leb-false _ _ (f1 .0);
-        zero = eqb-true _ _ (not-false _ (f3 .0));
+        byte = f3 .0;
         on-board = not-false _ (f4 .0);
         above = ltb-false _ _ (f2 .0);
         free = f4 .1;
       }
 
   -- and one that has none is accepted.
-  pub no-fault : Faultless job next earlier r → judged job number next earlier r ≡ Accepted
+  pub no-fault : Faultless form job next earlier r → judged form job number next earlier r ≡ Accepted
   unfolding faulty NoneHolds
   no-fault h =
-      none-accepted (recordRows job number next (spotsOf earlier) r) (
+      none-accepted (recordRows form job number next (spotsOf earlier) r) (
         ap not (eq-eqb _ _ (h .own-job)),
         (
           either-no (lt-leb _ _ (h .pin-low))
-              (either-no (le-ltb _ _ (h .above)) (either-no (ap not (eq-eqb _ _ (h .zero))) (either-no (ap not (h .on-board)) (h .free)))),
+              (either-no (le-ltb _ _ (h .above)) (either-no (h .byte) (either-no (ap not (h .on-board)) (h .free)))),
           tt,
         ),
       )

@@ -1,10 +1,10 @@
-// Numbers of a map: four bytes, high byte first, as 32-bit two's complement, and back.
+// Numbers of a map: four bytes, high byte first, as they are or as 32-bit two's complement, and back.
 ghost use mathlib.Core.Path.{_≡_};
 ghost use Prim.Native.Nat.{_+_, _≤_};
 ghost use lib.ListN.{length};
 ghost use mir.Syntax.{w32};
 ghost use mir.Val.{toZ, ofZ};
-ghost use Rattle.pinmap.specs.Number.{joined, numberAt, putAt};
+ghost use Rattle.pinmap.specs.Number.{joined, bitsAt, numberAt, bitsOf, putAt};
 
 // The i32 that 32 bits hold in two's complement.
 fn of_bits(n: u32) -> i32
@@ -34,19 +34,34 @@ fn join(a: u8, b: u8, c: u8, d: u8) -> u32
 }
 
 // The number whose four bytes begin at `at`.
+pub(crate) fn read_bits(bytes: &[u8], at: usize) -> u32
+    requires { ⌜ at + 4 ≤ length (now bytes) ⌝ }
+    ensures { λ r. ⌜ r ≡ bitsAt (now (bytes .entry)) at ⌝ }
+{
+    join(bytes[at], bytes[at + 1], bytes[at + 2], bytes[at + 3])
+}
+
+// The same in two's complement.
 pub(crate) fn read_number(bytes: &[u8], at: usize) -> i32
     requires { ⌜ at + 4 ≤ length (now bytes) ⌝ }
     ensures { λ r. ⌜ r ≡ numberAt (now (bytes .entry)) at ⌝ }
 {
-    of_bits(join(bytes[at], bytes[at + 1], bytes[at + 2], bytes[at + 3]))
+    of_bits(read_bits(bytes, at))
+}
+
+// Writes the four bytes of an i32 from `at` on.
+pub(crate) fn write_number(bytes: &mut [u8], at: usize, z: i32)
+    requires { ⌜ at + 4 ≤ length (now bytes) ⌝ }
+    ensures { λ _. ⌜ now (bytes .exit) ≡ putAt (now (bytes .entry)) at (bitsOf z) ⌝ }
+{
+    write_bits(bytes, at, to_bits(z));
 }
 
 // Writes the four bytes of a number from `at` on.
-pub(crate) fn write_number(bytes: &mut [u8], at: usize, z: i32)
+pub(crate) fn write_bits(bytes: &mut [u8], at: usize, n: u32)
     requires { ⌜ at + 4 ≤ length (now bytes) ⌝ }
-    ensures { λ _. ⌜ now (bytes .exit) ≡ putAt (now (bytes .entry)) at z ⌝ }
+    ensures { λ _. ⌜ now (bytes .exit) ≡ putAt (now (bytes .entry)) at n ⌝ }
 {
-    let n = to_bits(z);
     bytes[at] = (n / 16777216) as u8;
     bytes[at + 1] = (n / 65536 % 256) as u8;
     bytes[at + 2] = (n / 256 % 256) as u8;

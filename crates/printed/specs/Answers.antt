@@ -33,7 +33,7 @@ mostLegBytes = 96
 
 -- The line of a pin has at most so many bytes.
 abbrev pub mostPinBytes : ℕ
-mostPinBytes = 69
+mostPinBytes = 111
 
 -- What a refusal carries has at most so many bytes.
 abbrev pub mostCarriedBytes : ℕ
@@ -100,9 +100,9 @@ unfoldable pub drawingLine : ℕ → ℕ → ℕ → ℕ → List ℕ
 drawingLine job pins standing taken =
     field "job " job ++ field " pins " pins ++ field " standing " standing ++ field " taken " taken ++ text "\n"
 
--- A pin of a drawing: `pin P X Y`.
-unfoldable pub pinLine : ℕ → Place → List ℕ
-pinLine pin place = field "pin " pin ++ placeText (text " ") place ++ text "\n"
+-- A pin of a drawing: `pin P X Y NET PART`.
+unfoldable pub pinLine : ℕ → Place → ℕ → ℕ → List ℕ
+pinLine pin place net part = field "pin " pin ++ placeText (text " ") place ++ field " " net ++ field " " part ++ text "\n"
 
 -- A drop: a space and the bits of an f32 as eight hex digits.
 unfoldable pub dropText : Float → List ℕ

@@ -126,15 +126,24 @@ pub fn print_drawing(
     put(out, four, b"\n")
 }
 
-// A pin of a drawing and its place, from a position on.
-pub fn print_pin(pin: usize, place: Place, out: &mut [u8; ANSWER_BYTES], at: usize) -> usize
+// A pin of a drawing, its place, its net and its part, from a position on.
+pub fn print_pin(
+    pin: usize,
+    place: Place,
+    net: u32,
+    part: u32,
+    out: &mut [u8; ANSWER_BYTES],
+    at: usize,
+) -> usize
     requires { ⌜ at + mostPinBytes ≤ answerBytes ⌝ }
-    ensures { λ r. ⌜ (r ≡ at + length (pinLine pin place)) × (r ≤ at + mostPinBytes) ⌝ }
-    ensures { λ _. ⌜ now (out .exit) ≡ sets (now (out .entry)) at (pinLine pin place) ⌝ }
+    ensures { λ r. ⌜ (r ≡ at + length (pinLine pin place net part)) × (r ≤ at + mostPinBytes) ⌝ }
+    ensures { λ _. ⌜ now (out .exit) ≡ sets (now (out .entry)) at (pinLine pin place net part) ⌝ }
 {
     let one = put_field(out, at, b"pin ", pin);
     let two = put_place(out, one, b" ", place);
-    put(out, two, b"\n")
+    let three = put_field(out, two, b" ", net as usize);
+    let four = put_field(out, three, b" ", part as usize);
+    put(out, four, b"\n")
 }
 
 // What a refusal carries.

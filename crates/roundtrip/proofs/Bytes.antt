@@ -1,51 +1,51 @@
 -- Four bytes and their number: reading what was written gives the number, writing what was read gives the bytes. Assumes nothing.
 use mathlib.Core.Path.{_≡_, ap, _∙_}
 use mathlib.Core.List.{List}
-use Prim.Native.Nat.{ℕ, _+_, _/_, _%_, _<_, _≤_}
+use Prim.Native.Nat.{ℕ, _+_, _<_, _≤_}
 use native.Mathlib.Omega.{arith}
 use lib.IntN.{ℤ}
 use lib.ListN.{length, getD, set, length-set}
 use lib.Seq.{getD-set-same, getD-set-other, set-getD}
 use mir.Syntax.{w32}
-use mir.Val.{toZ, ofZ, Fits, SFits}
-use mir.Facts.{toZ-ofZ, ofZ-toZ, fits-ofZ}
-use Rattle.pinmap.specs.Number.{joined, numberAt, firstByte, secondByte, thirdByte, fourthByte, putAt}
+use mir.Val.{toZ, Fits, SFits}
+use mir.Facts.{toZ-ofZ, ofZ-toZ}
+use Rattle.pinmap.specs.Number.{joined, bitsAt, numberAt, firstByte, secondByte, thirdByte, fourthByte, bitsOf, putAt}
+use Rattle.pinmap.specs.Record.{Bytes}
 
--- The four bytes of a number, joined, are the number: for every i32.
-pub join-split : (z : ℤ) → SFits w32 z → toZ w32 (joined (firstByte z) (secondByte z) (thirdByte z) (fourthByte z)) ≡ z
+-- The four bytes of a number, joined, are the number,
+pub join-split : (n : ℕ) → joined (firstByte n) (secondByte n) (thirdByte n) (fourthByte n) ≡ n
 unfolding firstByte secondByte thirdByte fourthByte
-join-split z h =
-    let f : Fits w32 (ofZ w32 z) = fits-ofZ h in
-    let e : joined (ofZ w32 z / 16777216) (ofZ w32 z / 65536 % 256) (ofZ w32 z / 256 % 256) (ofZ w32 z % 256) ≡ ofZ w32 z = omega arith in
-    ap (toZ w32) e ∙ toZ-ofZ h
+join-split n = omega arith
 
--- The bytes of the number that four bytes hold are those bytes: for every four bytes.
+-- in two's complement too: for every i32.
+pub number-split : (z : ℤ) → SFits w32 z → toZ w32 (joined (firstByte (bitsOf z)) (secondByte (bitsOf z)) (thirdByte (bitsOf z)) (fourthByte (bitsOf z))) ≡ z
+number-split z h = ap (toZ w32) (join-split (bitsOf z)) ∙ toZ-ofZ h
+
+-- The bytes of the number that four bytes make are those bytes: for every four bytes.
 pub split-join : (a b c d : ℕ) → a < 256 → b < 256 → c < 256 → d < 256
-    → let z : ℤ = toZ w32 (joined a b c d) in (firstByte z ≡ a) × (secondByte z ≡ b) × (thirdByte z ≡ c) × (fourthByte z ≡ d)
+    → let n : ℕ = joined a b c d in (firstByte n ≡ a) × (secondByte n ≡ b) × (thirdByte n ≡ c) × (fourthByte n ≡ d)
 unfolding firstByte secondByte thirdByte fourthByte
-split-join a b c d ha hb hc hd =
-    let f : Fits w32 (joined a b c d) = omega arith in
-    rw (ofZ-toZ f) (omega arith)
+split-join a b c d ha hb hc hd = omega arith
 
--- The first byte of a number that an i32 holds is below 256,
-pub first-byte : (z : ℤ) → SFits w32 z → firstByte z < 256
+-- The first byte of a number of 32 bits is below 256,
+pub first-byte : (n : ℕ) → n < 4294967296 → firstByte n < 256
 unfolding firstByte
-first-byte z h = omega (arith, fits-ofZ h)
+first-byte n h = omega arith
 
 -- and so are the second,
-pub second-byte : (z : ℤ) → secondByte z < 256
+pub second-byte : (n : ℕ) → secondByte n < 256
 unfolding secondByte
-second-byte z = omega arith
+second-byte n = omega arith
 
 -- and the third,
-pub third-byte : (z : ℤ) → thirdByte z < 256
+pub third-byte : (n : ℕ) → thirdByte n < 256
 unfolding thirdByte
-third-byte z = omega arith
+third-byte n = omega arith
 
 -- and the fourth.
-pub fourth-byte : (z : ℤ) → fourthByte z < 256
+pub fourth-byte : (n : ℕ) → fourthByte n < 256
 unfolding fourthByte
-fourth-byte z = omega arith
+fourth-byte n = omega arith
 
 -- What stands at each of four places in a row after they were set.
 module _ (l : List ℕ) (k a b c d : ℕ) (h : k + 4 ≤ length l) where
@@ -82,23 +82,32 @@ module _ (l : List ℕ) (k a b c d : ℕ) (h : k + 4 ≤ length l) where
       ∙ getD-set-other l1 (k + 1) k b 0 (λ e. omega arith) ∙ getD-set-same l k a 0 (omega arith)
 
 -- The number read where a number was written is that number.
-pub read-written : (l : List ℕ) (k : ℕ) (z : ℤ) → SFits w32 z → k + 4 ≤ length l → numberAt (putAt l k z) k ≡ z
-unfolding numberAt putAt
-read-written l k z f h =
-    let e : joined (getD (putAt l k z) k 0) (getD (putAt l k z) (k + 1) 0) (getD (putAt l k z) (k + 2) 0) (getD (putAt l k z) (k + 3) 0)
-    ≡ joined (firstByte z) (secondByte z) (thirdByte z) (fourthByte z) =
+pub read-written : (l : List ℕ) (k n : ℕ) → k + 4 ≤ length l → bitsAt (putAt l k n) k ≡ n
+unfolding bitsAt putAt
+read-written l k n h =
     omega (
       arith,
-      four-0 l k (firstByte z) (secondByte z) (thirdByte z) (fourthByte z) h,
-      four-1 l k (firstByte z) (secondByte z) (thirdByte z) (fourthByte z) h,
-      four-2 l k (firstByte z) (secondByte z) (thirdByte z) (fourthByte z) h,
-      four-3 l k (firstByte z) (secondByte z) (thirdByte z) (fourthByte z) h,
-    ) in
-    ap (toZ w32) e ∙ join-split z f
+      join-split n,
+      four-0 l k (firstByte n) (secondByte n) (thirdByte n) (fourthByte n) h,
+      four-1 l k (firstByte n) (secondByte n) (thirdByte n) (fourthByte n) h,
+      four-2 l k (firstByte n) (secondByte n) (thirdByte n) (fourthByte n) h,
+      four-3 l k (firstByte n) (secondByte n) (thirdByte n) (fourthByte n) h,
+    )
 
--- Writing the number that was read leaves the bytes as they were.
-pub written-read : (l : List ℕ) (k : ℕ) → ((j : ℕ) → getD l j 0 < 256) → k + 4 ≤ length l → putAt l k (numberAt l k) ≡ l
-unfolding putAt numberAt
-written-read l k bytes h =
-    let s : _ = split-join (getD l k 0) (getD l (k + 1) 0) (getD l (k + 2) 0) (getD l (k + 3) 0) (bytes k) (bytes (k + 1)) (bytes (k + 2)) (bytes (k + 3)) in
-    rw (s .0, s .1, s .2, s .3) (simp set-getD)
+module _ (l : List ℕ) (k : ℕ) (bytes : Bytes l) where
+  -- The number that four bytes make has 32 bits,
+  pub bits-fit : bitsAt l k < 4294967296
+  unfolding bitsAt
+  bits-fit = omega (arith, bytes k, bytes (k + 1), bytes (k + 2), bytes (k + 3))
+
+  -- and they are those of the number that it is in two's complement.
+  pub bits-number : bitsOf (numberAt l k) ≡ bitsAt l k
+  unfolding numberAt
+  bits-number = let f : Fits w32 (bitsAt l k) = record { fits = bits-fit } in ofZ-toZ f
+
+  -- Writing the number that was read leaves the bytes as they were.
+  pub written-read : k + 4 ≤ length l → putAt l k (bitsAt l k) ≡ l
+  unfolding putAt bitsAt
+  written-read h =
+      let s : _ = split-join (getD l k 0) (getD l (k + 1) 0) (getD l (k + 2) 0) (getD l (k + 3) 0) (bytes k) (bytes (k + 1)) (bytes (k + 2)) (bytes (k + 3)) in
+      rw (s .0, s .1, s .2, s .3) (simp set-getD)

@@ -1,5 +1,6 @@
 -- The round trips of a pin map, and maps worked by hand.
 pub mod Bytes
+pub mod Holding
 pub mod Records
 pub mod Opening
 pub mod Back

@@ -22,6 +22,7 @@ use Rattle.drawing.specs.Pins.{there, pinAt, thereIn, isThere, lawful}
 use Rattle.drawing.specs.Edits.{heldIn, heldBy, standsIn, standsAt, makeable}
 use Rattle.drawing.specs.Stated.{editOf}
 use Rattle.drawing.proofs.Changing.{placed-makeable, moved-makeable, removed-makeable}
+use Rattle.pinmap.specs.declared.Form.{Form}
 use Rattle.pinmap.specs.Map.{mapRows, readMap}
 use Rattle.journal.specs.Journal.{mostSeats, mostRecords}
 use Rattle.seats.specs.Seats.{jobAmong}
@@ -34,13 +35,13 @@ abbrev pub OpenSeat : Look → Type 0
 OpenSeat l = SeatOpen (l .broken) (l .seat) (l .opened)
 
 -- An accepted opening: the seat is closed, the job is not 0 and open nowhere, and the map is read.
-pub record Opens (l : Look) (job : ℕ) (map : List ℕ) : Type 0 where
+pub record Opens (l : Look) (job : ℕ) (form : Form) (map : List ℕ) : Type 0 where
   pub unbroken : l .broken ≡ false
   pub low : l .seat < mostSeats
   pub shown : l .opened ≡ false
   pub set : job ≡ 0 → ⊥
   pub fresh : jobAmong job (l .jobs) ≡ false
-  pub read : accepted (readMap map job .verdict) ≡ true
+  pub read : accepted (readMap form map job .verdict) ≡ true
 
 -- An accepted new edit: it can be made on pins that keep the rules, and the journal has room.
 pub record Enters (l : Look) (m : Making) : Type 0 where
@@ -50,7 +51,7 @@ pub record Enters (l : Look) (m : Making) : Type 0 where
 
 -- What an accepted call has passed.
 unfoldable pub Passes : Look → Call → Type 0
-Passes l (opening s job map) = Opens l job map
+Passes l (opening s job form map) = Opens l job form map
 Passes l (closing s) = OpenSeat l
 Passes l (making s m) = Enters l m
 Passes l (undoing s) = OpenSeat l × (l .standing ≡ 0 → ⊥)
@@ -86,7 +87,7 @@ is-there l p e = let f = either-false (leb mostPins p) _ e in (leb-false mostPin
 -- Where no row of the pins applies, the edit can be made on pins that keep the rules.
 makes : (l : List Pin) (m : Making) → NoneHolds (makingRows l m) → lawful l ≡ true → makeable l (editOf l m) ≡ true
 unfolding NoneHolds
-makes l (Placing p h) n k = placed-makeable l k p (leb-false mostPins p (n .0)) h (n .1 .0) (not-false _ (n .1 .1 .0)) (n .1 .1 .1 .0)
+makes l (Placing p h) n k = placed-makeable l k p (leb-false mostPins p (n .0)) h (n .1 .0) (not-false _ (n .1 .1 .0)) (not-false _ (n .1 .1 .1 .0)) (n .1 .1 .1 .1 .0)
 makes l (Moving p to) n k =
     let t = is-there l p (n .0) in
     let f = either-false (standsAt (pinAt l p) to) _ (n .1 .1 .0) in
@@ -105,14 +106,14 @@ after-naming l more n =
 -- Where no row of a call applies, so much is passed.
 none-passes : (l : Look) (c : Call) → NoneHolds (rowsOf l c) → Passes l c
 unfolding Passes NoneHolds readMap accepted
-none-passes l (opening s job map) n =
+none-passes l (opening s job form map) n =
     record {
       unbroken = n .0;
       low = leb-false _ _ (n .1 .0);
       shown = n .1 .1 .0;
       set = eqb-false _ _ (n .1 .1 .1 .0);
       fresh = n .1 .1 .1 .1 .0;
-      read = ap accepted (none-accepted (mapRows map job) (n .1 .1 .1 .1 .1));
+      read = ap accepted (none-accepted (mapRows form map job) (n .1 .1 .1 .1 .1));
     }
 none-passes l (closing s) n = seat-open (l .broken) (l .seat) (l .opened) n
 none-passes l (making s m) n =

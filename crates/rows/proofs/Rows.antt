@@ -11,13 +11,14 @@ use Rattle.refusal.specs.Refusals.{accepted}
 use Rattle.refusal.specs.Rows.{Row, given, firstOf, NoneHolds}
 use Rattle.refusal.specs.declared.Verdict.{Verdict}
 use Rattle.refusal.specs.declared.Verdict.the-variants.{SeatAbove, DeskBroken}
-use Rattle.refusal.proofs.Rows.{unlike, distinct, Apart, apart-by, apart-both, none-holds, stops, goes, decided-away, decided-on}
+use Rattle.refusal.proofs.Rows.{unlike, distinct, Apart, apart-by, apart-both, none-holds, none-before, stops, goes, decided-away, decided-on}
 use Rattle.drawing.specs.declared.Pin.{Pin}
 use Rattle.drawing.specs.declared.stated.Making.{Making}
 use Rattle.drawing.specs.declared.stated.Making.the-variants.{Placing, Moving, Removing}
 use lib.ListN.{length}
 use lib.Ieee.{Float}
 use Rattle.drawing.specs.Pins.{noPins}
+use Rattle.pinmap.specs.declared.Form.{Form}
 use Rattle.pinmap.specs.declared.Reading.{Reading}
 use Rattle.pinmap.specs.declared.Writing.{Writing}
 use Rattle.pinmap.specs.Map.{recordsOf, withPinsOf, mapRows, readBy, written, writeBy, bufferBy}
@@ -29,7 +30,7 @@ use Rattle.journal.specs.Journal.{mostSeats}
 use Rattle.rows.specs.Calls.{Call, opening, closing, making, undoing, redoing, asking, Asking, writing, wiring, milling, dropping}
 use Rattle.rows.specs.declared.Found.{Found}
 use Rattle.rows.specs.Found.{namingFound}
-use Rattle.rows.specs.Refusals.{Look, namingRows, takingRows, makingRows, rowsOf}
+use Rattle.rows.specs.Refusals.{Look, namingRows, takingRows, netRow, namingNetRows, makingRows, rowsOf}
 
 -- ---- the rows are apart
 
@@ -43,6 +44,11 @@ pub taking-apart : (broken : Bool) (seat : ℕ) (opened : Bool) (job : ℕ) (job
 unfolding distinct unlike accepted both
 taking-apart broken seat opened job jobs = apart-by (takingRows broken seat opened job jobs) refl
 
+-- 28, 1, 2 and 21 are.
+pub net-apart : (broken : Bool) (seat : ℕ) (opened : Bool) (net : ℕ) → Apart (namingNetRows broken seat opened net)
+unfolding distinct unlike accepted both
+net-apart broken seat opened net = apart-by (namingNetRows broken seat opened net) refl
+
 -- What the pins say of an edit is.
 pub making-apart : (l : List Pin) (m : Making) → Apart (makingRows l m)
 unfolding distinct unlike accepted both
@@ -53,9 +59,9 @@ making-apart l (Removing p) = apart-by (makingRows l (Removing p)) refl
 -- THE ROWS OF EVERY CALL ARE APART.
 pub rows-apart : (l : Look) (c : Call) → Apart (rowsOf l c)
 unfolding distinct unlike accepted both notOfMap eachOf
-rows-apart l (opening s job map) =
-    apart-both (takingRows (l .broken) (l .seat) (l .opened) job (l .jobs)) (mapRows map job) notOfMap
-    (taking-apart (l .broken) (l .seat) (l .opened) job (l .jobs)) refl (map-differs map job) (map-apart map job)
+rows-apart l (opening s job form map) =
+    apart-both (takingRows (l .broken) (l .seat) (l .opened) job (l .jobs)) (mapRows form map job) notOfMap
+    (taking-apart (l .broken) (l .seat) (l .opened) job (l .jobs)) refl (map-differs form map job) (map-apart form map job)
 rows-apart l (closing s) = naming-apart (l .broken) (l .seat) (l .opened)
 rows-apart l (making s (Placing p h)) = apart-by (rowsOf l (making s (Placing p h))) refl
 rows-apart l (making s (Moving p to)) = apart-by (rowsOf l (making s (Moving p to))) refl
@@ -63,9 +69,9 @@ rows-apart l (making s (Removing p)) = apart-by (rowsOf l (making s (Removing p)
 rows-apart l (undoing s) = apart-by (rowsOf l (undoing s)) refl
 rows-apart l (redoing s) = apart-by (rowsOf l (redoing s)) refl
 rows-apart l (asking s (writing room)) = apart-by (rowsOf l (asking s (writing room))) refl
-rows-apart l (asking s (wiring room favour)) = apart-by (rowsOf l (asking s (wiring room favour))) refl
-rows-apart l (asking s (milling room favour)) = apart-by (rowsOf l (asking s (milling room favour))) refl
-rows-apart l (asking s (dropping loads sheet)) = apart-by (rowsOf l (asking s (dropping loads sheet))) refl
+rows-apart l (asking s (wiring net room favour)) = apart-by (rowsOf l (asking s (wiring net room favour))) refl
+rows-apart l (asking s (milling net room favour)) = apart-by (rowsOf l (asking s (milling net room favour))) refl
+rows-apart l (asking s (dropping net loads sheet)) = apart-by (rowsOf l (asking s (dropping net loads sheet))) refl
 
 -- ---- what was read first
 
@@ -90,12 +96,20 @@ pub seat-open : (broken : Bool) (seat : ℕ) (opened : Bool) → NoneHolds (nami
 unfolding NoneHolds
 seat-open broken seat opened n = record { unbroken = n .0; low = leb-false _ _ (n .1 .0); shown = not-false _ (n .1 .1 .0) }
 
+-- And where none of them and 21 turns a call away.
+pub net-open : (broken : Bool) (seat : ℕ) (opened : Bool) (net : ℕ) → accepted (firstOf (namingNetRows broken seat opened net)) ≡ true
+    → SeatOpen broken seat opened
+net-open broken seat opened net y =
+    let rows = namingRows broken seat opened in
+    seat-open broken seat opened
+    (none-before rows (netRow net ∷ []) (none-holds (rows ++ (netRow net ∷ [])) (net-apart broken seat opened net) y))
+
 -- ---- what begins the rows of every call
 
 -- 28 and 1 come first in the rows of every call.
 pub rows-begin : (l : Look) (c : Call)
     → (k : List Row) × (rowsOf l c ≡ given (l .broken) DeskBroken ∷ given (leb mostSeats (l .seat)) SeatAbove ∷ k)
-rows-begin l (opening s job map) = (_, refl)
+rows-begin l (opening s job form map) = (_, refl)
 rows-begin l (closing s) = (_, refl)
 rows-begin l (making s m) = (_, refl)
 rows-begin l (undoing s) = (_, refl)
@@ -137,12 +151,12 @@ module _ (f : Found) {v : Verdict} (e : v ≡ firstOf (namingFound f)) where
 -- Where the first rows were asked before:
 module _ (rows more : List Row) (a : Apart rows) {v : Verdict} (e : v ≡ firstOf rows) where
   -- a map that they turn away is not read,
-  pub read-away : (map : List ℕ) → accepted v ≡ false → _≡_ {A = Reading} (record { verdict = v; pins = noPins }) (readBy (rows ++ more) map)
-  read-away map n = decided-away rows more a e (λ v pins. record { verdict = v; pins = pins }) (withPinsOf noPins (recordsOf map)) noPins n
+  pub read-away : (form : Form) (map : List ℕ) → accepted v ≡ false → _≡_ {A = Reading} (record { verdict = v; pins = noPins }) (readBy (rows ++ more) form map)
+  read-away form map n = decided-away rows more a e (λ v pins. record { verdict = v; pins = pins }) (withPinsOf form noPins (recordsOf form map)) noPins n
 
   -- and one that they pass is read as the later rows decide;
-  pub read-on : (map : List ℕ) → accepted v ≡ true → readBy more map ≡ readBy (rows ++ more) map
-  read-on map y = decided-on rows more a e (λ v pins. record { verdict = v; pins = pins }) (withPinsOf noPins (recordsOf map)) noPins y
+  pub read-on : (form : Form) (map : List ℕ) → accepted v ≡ true → readBy more form map ≡ readBy (rows ++ more) form map
+  read-on form map y = decided-on rows more a e (λ v pins. record { verdict = v; pins = pins }) (withPinsOf form noPins (recordsOf form map)) noPins y
 
   -- so it is with a map that is not written,
   pub write-away : (map buffer : List ℕ) → accepted v ≡ false

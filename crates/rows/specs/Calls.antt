@@ -5,18 +5,19 @@ use Rattle.drawing.specs.declared.stated.Making.{Making}
 use Rattle.copper.specs.declared.Favour.{Favour}
 use Rattle.drops.specs.declared.Loaded.{Loaded}
 use Rattle.drops.specs.declared.Sheet.{Sheet}
+use Rattle.pinmap.specs.declared.Form.{Form}
 
--- What is asked of a drawing: to write its map into lent room (bytes), to wire it into lent room (legs) with what is said of the shape to favour, to give its
--- copper as segments into lent room (segments) with the same said, or to tell the volts lost to its pins, for these loads and this board sheet.
+-- What is asked of a drawing: to write its map into lent room (bytes), to wire a net into lent room (legs) with what is said of the shape to favour, to give that
+-- net's copper as segments into lent room (segments) with the same said, or to tell the volts lost to the net's pins, for these loads and this board sheet. The net comes first, then the room.
 pub data Asking : Type 0 where
   writing : ℕ → Asking
-  wiring : ℕ → Favour → Asking
-  milling : ℕ → Favour → Asking
-  dropping : List Loaded → Sheet → Asking
+  wiring : ℕ → ℕ → Favour → Asking
+  milling : ℕ → ℕ → Favour → Asking
+  dropping : ℕ → List Loaded → Sheet → Asking
 
--- Opening from a pin map, closing, making an edit (placing, moving, removing a pin), undo, redo, and asking.
+-- Opening from a pin map of a form, closing, making an edit (placing, moving, removing a pin), undo, redo, and asking.
 pub data Call : Type 0 where
-  opening : ℕ → ℕ → List ℕ → Call
+  opening : ℕ → ℕ → Form → List ℕ → Call
   closing : ℕ → Call
   making : ℕ → Making → Call
   undoing : ℕ → Call
@@ -25,7 +26,7 @@ pub data Call : Type 0 where
 
 -- The seat that a call names.
 abbrev pub seatIn : Call → ℕ
-seatIn (opening s job map) = s
+seatIn (opening s job form map) = s
 seatIn (closing s) = s
 seatIn (making s m) = s
 seatIn (undoing s) = s

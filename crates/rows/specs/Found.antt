@@ -16,7 +16,7 @@ use Rattle.seats.specs.declared.Seat.{Seat}
 use Rattle.seats.specs.Seats.{closedSeat, noSeat}
 use Rattle.seats.specs.Sound.{soundAll}
 use Rattle.rows.specs.declared.Found.{Found}
-use Rattle.rows.specs.Refusals.{namingRows}
+use Rattle.rows.specs.Refusals.{namingRows, namingNetRows}
 use Rattle.copper.specs.declared.Favour.{Favour}
 
 -- What a call finds on these seats and this journal: whether they are not sound, and the state of the seat that it names, a closed one's above 7.
@@ -27,6 +27,10 @@ foundIn l journal used s =
 -- 28, 1 and 2 of what is found.
 abbrev pub namingFound : Found → List Row
 namingFound f = namingRows (f .broken) (f .seat) (f .state .opened)
+
+-- These, and 21 of the net that the call names.
+abbrev pub namingNet : Found → ℕ → List Row
+namingNet f net = namingNetRows (f .broken) (f .seat) (f .state .opened) net
 
 -- Wiring a feed, with room for so many legs, where these rows come first: they turn it away, or it is wired, which 17, 18 or 19 may turn away.
 abbrev pub wiredBy : List Row → List Spot → ℕ → Favour → Laid

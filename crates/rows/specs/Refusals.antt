@@ -5,15 +5,16 @@ use Prim.Native.Nat.{ℕ, _-_}
 use lib.Dec.{eqb, leb}
 use Rattle.basics.specs.Tests.{either}
 use Rattle.refusal.specs.Rows.{Row, given}
-use Rattle.refusal.specs.declared.Verdict.the-variants.{SeatAbove, NotOpen, OpenAlready, JobZero, JobElsewhere, NoSuchPin, PinThere, Outside, PinTooNear, NothingStands, NothingTakenBack, JournalFull, DeskBroken}
+use Rattle.refusal.specs.declared.Verdict.the-variants.{SeatAbove, NotOpen, OpenAlready, JobZero, JobElsewhere, NoSuchPin, PinThere, Outside, PinTooNear, NothingStands, NothingTakenBack, JournalFull, NoSuchNet, DeskBroken}
 use Rattle.board.specs.Place.{inside}
 use Rattle.board.specs.Spots.{mostPins, crowded}
 use Rattle.drawing.specs.declared.Pin.{Pin}
 use Rattle.drawing.specs.declared.stated.Making.{Making}
 use Rattle.drawing.specs.declared.stated.Making.the-variants.{Placing, Moving, Removing}
-use Rattle.drawing.specs.Pins.{isThere, spotsOf, feedOf}
+use Rattle.drawing.specs.Pins.{isThere, isNet, spotsOf, feedOf}
 use Rattle.drawing.specs.Edits.{standsAt}
 use Rattle.drawing.specs.Pins.{pinAt}
+use Rattle.pinmap.specs.declared.Form.the-variants.{New}
 use Rattle.pinmap.specs.Map.{mapRows, roomRows}
 use Rattle.drops.specs.Drops.{dropRows}
 use Rattle.wiring.specs.Answer.{feedRows}
@@ -53,11 +54,20 @@ takingRows broken seat opened job jobs =
 abbrev pub notThere : List Pin → ℕ → Bool
 notThere l p = either (leb mostPins p) (not (isThere (pinAt l p)))
 
--- Placing: 6, 7, 8, 9. Moving: 6, 8, 9; a move to the place where the pin already stands is 9. Removing: 6.
+-- 21: the net is not 1 to 8.
+abbrev pub netRow : ℕ → Row
+netRow net = given (not (isNet net)) NoSuchNet
+
+-- Every call that asks for a net of a seat: 28, 1, 2, 21.
+abbrev pub namingNetRows : Bool → ℕ → Bool → ℕ → List Row
+namingNetRows broken seat opened net = namingRows broken seat opened ++ (netRow net ∷ [])
+
+-- Placing: 6, 7, 21, 8, 9. Moving: 6, 8, 9; a move to the place where the pin already stands is 9. Removing: 6.
 abbrev pub makingRows : List Pin → Making → List Row
 makingRows l (Placing p h) =
     given (leb mostPins p) NoSuchPin
     ∷ given (isThere (pinAt l p)) PinThere
+    ∷ netRow (h .net)
     ∷ given (not (inside (h .place))) Outside
     ∷ given (crowded (spotsOf l) p (h .place)) PinTooNear
     ∷ []
@@ -80,16 +90,16 @@ undoingRow standing = given (eqb standing 0) NothingStands ∷ []
 abbrev pub redoingRow : ℕ → List Row
 redoingRow takenBack = given (eqb takenBack 0) NothingTakenBack ∷ []
 
--- Writing: 19. Wiring: 17, 18, 19. Milling: 17, 18, 19, counted in segments. Volts lost: 17, 18, 20.
+-- Writing, in the new form: 19. Wiring a net: 21, 17, 18, 19. Milling one: 21, 17, 18, 19, counted in segments. Volts lost to one: 21, 17, 18, 20.
 abbrev pub askingRows : ℕ → List Pin → Asking → List Row
-askingRows job l (writing room) = roomRows job l room
-askingRows job l (wiring room favour) = feedRows (feedOf l) room favour
-askingRows job l (milling room favour) = millRows (feedOf l) room favour
-askingRows job l (dropping loads sheet) = dropRows (feedOf l) loads sheet
+askingRows job l (writing room) = roomRows New job l room
+askingRows job l (wiring net room favour) = netRow net ∷ feedRows (feedOf l net) room favour
+askingRows job l (milling net room favour) = netRow net ∷ millRows (feedOf l net) room favour
+askingRows job l (dropping net loads sheet) = netRow net ∷ dropRows (feedOf l net) loads sheet
 
 -- The rows of each call.
 abbrev pub rowsOf : Look → Call → List Row
-rowsOf l (opening s job map) = takingRows (l .broken) (l .seat) (l .opened) job (l .jobs) ++ mapRows map job
+rowsOf l (opening s job form map) = takingRows (l .broken) (l .seat) (l .opened) job (l .jobs) ++ mapRows form map job
 rowsOf l (closing s) = namingRows (l .broken) (l .seat) (l .opened)
 rowsOf l (making s m) = namingRows (l .broken) (l .seat) (l .opened) ++ (makingRows (l .pins) m ++ fullRow (l .used) (l .takenBack))
 rowsOf l (undoing s) = namingRows (l .broken) (l .seat) (l .opened) ++ undoingRow (l .standing)

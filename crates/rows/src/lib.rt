@@ -12,6 +12,7 @@ use journal::RECORDS;
 use journal::Record;
 use journal::SEATS;
 use mill::Cut;
+use pinmap::Form;
 use pinmap::Reading;
 use pinmap::Writing;
 use refusal::Verdict;
@@ -25,13 +26,14 @@ ghost use lib.ListN.{length, take};
 ghost use Rattle.refusal.specs.Rows.{firstOf};
 ghost use Rattle.drawing.specs.Pins.{lawful, feedOf};
 ghost use Rattle.drawing.specs.declared.stated.Making.the-variants.{Placing, Moving, Removing};
+ghost use Rattle.pinmap.specs.declared.Form.the-variants.{New};
 ghost use Rattle.pinmap.specs.Map.{mapRows, mapOf, readBy, roomRows, writeBy, bufferBy};
 ghost use Rattle.journal.specs.Journal.{mostRecords, own};
 ghost use Rattle.seats.specs.Seats.{takenBackCount, jobsIn};
 ghost use Rattle.rows.specs.Refusals.{takingRows, makingRows, fullRow, undoingRow, redoingRow};
 ghost use Rattle.mill.specs.Answer.{copperOf, millRows, cutBy};
 ghost use Rattle.drops.specs.Drops.{dropRows, dropsOf, lostBy};
-ghost use Rattle.rows.specs.Found.{foundIn, namingFound, wiredBy};
+ghost use Rattle.rows.specs.Found.{foundIn, namingFound, namingNet, wiredBy};
 
 // What a call finds: whether the desk is broken, the seat that it names, and that seat's state, a closed one's where there is no such seat.
 pub struct Found {
@@ -79,7 +81,7 @@ pub fn turned_naming(found: Found) -> Verdict
     }
 }
 
-// Placing on these pins: 6, 7, 8, 9.
+// Placing on these pins: 6, 7, 21, 8, 9.
 fn turned_placing(pins: [Pin; PINS], pin: usize, held: Held) -> Verdict
     ensures { λ r. ⌜ r ≡ firstOf (makingRows pins (Placing pin held)) ⌝ }
 {
@@ -89,6 +91,9 @@ fn turned_placing(pins: [Pin; PINS], pin: usize, held: Held) -> Verdict
     let there = drawing::pin_at(pins, pin);
     if drawing::is_there(there) {
         return Verdict::PinThere;
+    }
+    if !drawing::is_net(held.net) {
+        return Verdict::NoSuchNet;
     }
     let at = held.place;
     if !board::is_inside(at) {
@@ -246,44 +251,60 @@ fn turned_taking(found: Found, seats: [Seat; SEATS], job: u16) -> Verdict
     }
 }
 
-// Opening: 28, 1, 3, 4, 5, then 13, 14 or 15 of the map; and the pins, where none applies.
-pub fn map_read(found: Found, seats: [Seat; SEATS], job: u16, map: &[u8]) -> Reading
-    ensures { λ r. ⌜ r ≡ readBy (takingRows (found .broken) (found .seat) (found .state .opened) job (jobsIn seats) ++ mapRows (now (map .entry)) job) (now (map .entry)) ⌝ }
+// Opening with a map of a form: 28, 1, 3, 4, 5, then 13, 14 or 15 of the map; and the pins, where none applies.
+pub fn map_read(found: Found, seats: [Seat; SEATS], job: u16, form: Form, map: &[u8]) -> Reading
+    ensures { λ r. ⌜ r ≡ readBy (takingRows (found .broken) (found .seat) (found .state .opened) job (jobsIn seats) ++ mapRows form (now (map .entry)) job) form (now (map .entry)) ⌝ }
 {
     let verdict = turned_taking(found, seats, job);
     if refusal::is_accepted(verdict) {
-        pinmap::read_map(map, job)
+        pinmap::read_map(form, map, job)
     } else {
         let pins = drawing::no_pins();
         Reading { verdict, pins }
     }
 }
 
-// Writing: 28, 1, 2, 19; the map into the lent buffer, and the number of bytes, where none applies.
+// Writing, in the new form: 28, 1, 2, 19; the map into the lent buffer, and the number of bytes, where none applies.
 pub fn map_written(found: Found, buffer: &mut [u8]) -> Writing
-    ensures { λ r. ⌜ r ≡ writeBy (namingFound found ++ roomRows (found .state .job) (found .state .pins) (length (now (buffer .entry)))) (mapOf (found .state .job) (found .state .pins)) ⌝ }
-    ensures { λ _. ⌜ now (buffer .exit) ≡ bufferBy (namingFound found ++ roomRows (found .state .job) (found .state .pins) (length (now (buffer .entry)))) (mapOf (found .state .job) (found .state .pins)) (now (buffer .entry)) ⌝ }
+    requires { ⌜ (found .broken ≡ false → found .state .opened ≡ true → lawful (found .state .pins) ≡ true) ⌝ }
+    ensures { λ r. ⌜ r ≡ writeBy (namingFound found ++ roomRows New (found .state .job) (found .state .pins) (length (now (buffer .entry)))) (mapOf New (found .state .job) (found .state .pins)) ⌝ }
+    ensures { λ _. ⌜ now (buffer .exit) ≡ bufferBy (namingFound found ++ roomRows New (found .state .job) (found .state .pins) (length (now (buffer .entry)))) (mapOf New (found .state .job) (found .state .pins)) (now (buffer .entry)) ⌝ }
 {
     let verdict = turned_naming(found);
     if refusal::is_accepted(verdict) {
         let s = found.state;
         let pins = s.pins;
-        pinmap::write_map(pins, s.job, buffer)
+        pinmap::write_map(Form::New, pins, s.job, buffer)
     } else {
         Writing { verdict, bytes: 0 }
     }
 }
 
-// Wiring a seat, with room for so many legs and what is said of the shape to favour: 28, 1, 2, then what wiring the drawing's feed answers, 17, 18 or 19 among it.
-pub fn feed_wired(found: Found, room: usize, favour: Favour) -> Laid
-    requires { ⌜ (found .broken ≡ false → found .state .opened ≡ true → lawful (found .state .pins) ≡ true) ⌝ }
-    ensures { λ r. ⌜ r ≡ wiredBy (namingFound found) (feedOf (found .state .pins)) room favour ⌝ }
+// Every call that asks for a net of a seat: 28, 1, 2, 21.
+fn turned_asking(found: Found, net: u32) -> Verdict
+    ensures { λ r. ⌜ r ≡ firstOf (namingNet found net) ⌝ }
 {
     let verdict = turned_naming(found);
+    if !refusal::is_accepted(verdict) {
+        return verdict;
+    }
+    if drawing::is_net(net) {
+        Verdict::Accepted
+    } else {
+        Verdict::NoSuchNet
+    }
+}
+
+// Wiring a net of a seat, with room for so many legs and what is said of the shape to favour: 28, 1, 2, 21, then what wiring the net's feed answers, 17, 18 or 19 among it.
+pub fn feed_wired(found: Found, net: u32, room: usize, favour: Favour) -> Laid
+    requires { ⌜ (found .broken ≡ false → found .state .opened ≡ true → lawful (found .state .pins) ≡ true) ⌝ }
+    ensures { λ r. ⌜ r ≡ wiredBy (namingNet found net) (feedOf (found .state .pins) net) room favour ⌝ }
+{
+    let verdict = turned_asking(found, net);
     if refusal::is_accepted(verdict) {
         let s = found.state;
         let pins = s.pins;
-        let lists = drawing::lists_of(pins);
+        let lists = drawing::feed_lists(pins, net);
         let xs = lists.xs;
         let ys = lists.ys;
         let there = lists.there;
@@ -293,16 +314,16 @@ pub fn feed_wired(found: Found, room: usize, favour: Favour) -> Laid
     }
 }
 
-// The copper of a seat as segments, with room for so many and what is said of the shape to favour: 28, 1, 2, then what is answered for the drawing's feed, 17, 18 or 19 among it.
-pub fn feed_milled(found: Found, room: usize, favour: Favour) -> Cut
+// The copper of a net of a seat as segments, with room for so many and what is said of the shape to favour: 28, 1, 2, 21, then what is answered for the net's feed, 17, 18 or 19 among it.
+pub fn feed_milled(found: Found, net: u32, room: usize, favour: Favour) -> Cut
     requires { ⌜ (found .broken ≡ false → found .state .opened ≡ true → lawful (found .state .pins) ≡ true) ⌝ }
-    ensures { λ r. ⌜ r ≡ cutBy (namingFound found ++ millRows (feedOf (found .state .pins)) room favour) (copperOf (feedOf (found .state .pins)) favour) ⌝ }
+    ensures { λ r. ⌜ r ≡ cutBy (namingNet found net ++ millRows (feedOf (found .state .pins) net) room favour) (copperOf (feedOf (found .state .pins) net) favour) ⌝ }
 {
-    let verdict = turned_naming(found);
+    let verdict = turned_asking(found, net);
     if refusal::is_accepted(verdict) {
         let s = found.state;
         let pins = s.pins;
-        let lists = drawing::lists_of(pins);
+        let lists = drawing::feed_lists(pins, net);
         let xs = lists.xs;
         let ys = lists.ys;
         let there = lists.there;
@@ -312,16 +333,16 @@ pub fn feed_milled(found: Found, room: usize, favour: Favour) -> Cut
     }
 }
 
-// The volts lost to the pins of a seat: 28, 1, 2, then what is answered for the drawing's feed, 17, 18 or 20 among it.
-pub fn feed_dropped(found: Found, loads: [Loaded; PINS], sheet: Sheet) -> Lost
+// The volts lost to the pins of a net of a seat: 28, 1, 2, 21, then what is answered for the net's feed, 17, 18 or 20 among it.
+pub fn feed_dropped(found: Found, net: u32, loads: [Loaded; PINS], sheet: Sheet) -> Lost
     requires { ⌜ (found .broken ≡ false → found .state .opened ≡ true → lawful (found .state .pins) ≡ true) ⌝ }
-    ensures { λ r. ⌜ r ≡ lostBy (namingFound found ++ dropRows (feedOf (found .state .pins)) loads sheet) (dropsOf (feedOf (found .state .pins)) loads sheet) ⌝ }
+    ensures { λ r. ⌜ r ≡ lostBy (namingNet found net ++ dropRows (feedOf (found .state .pins) net) loads sheet) (dropsOf (feedOf (found .state .pins) net) loads sheet) ⌝ }
 {
-    let verdict = turned_naming(found);
+    let verdict = turned_asking(found, net);
     if refusal::is_accepted(verdict) {
         let s = found.state;
         let pins = s.pins;
-        let lists = drawing::lists_of(pins);
+        let lists = drawing::feed_lists(pins, net);
         let xs = lists.xs;
         let ys = lists.ys;
         let there = lists.there;

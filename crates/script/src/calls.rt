@@ -1,10 +1,12 @@
 // What the words of a line say: a small reader for each call.
+use crate::Lending;
 use crate::Pair;
 use crate::Placing;
 use crate::Said;
 use crate::loads::is_loads;
 use board::Place;
 use copper::Favour;
+use pinmap::Form;
 use text::Coordinate;
 use text::MOST_ROOM;
 use text::Number;
@@ -19,11 +21,12 @@ use text::words::same;
 use text::words::word;
 ghost use mathlib.Core.Path.{_≡_};
 ghost use Prim.Native.Nat.{_≤_};
-ghost use Rattle.text.specs.Text.{text as bytesOf, same as sameBytes, mostRoom};
+ghost use Rattle.text.specs.Text.{same as sameBytes, mostRoom};
 ghost use Rattle.text.specs.Words.{wordsOf};
-ghost use Rattle.text.specs.Numbers.{mostNumber};
-ghost use Rattle.basics.specs.Tests.{either, choose};
-ghost use Rattle.script.specs.Said.{numberIn, placeIn, isSeatAlone, hasTwo, isPair, isPlacing, seatCall, pairCall, placeCall, favourIn, endsInFavour, openCall, isLending, lendingCall, bareCall, dropsCall, callIn, isSkipped as skipped};
+ghost use Rattle.text.specs.Numbers.{mostNumber, valueOf, isNumber};
+ghost use Rattle.basics.specs.Tests.{both, either, choose};
+ghost use Rattle.script.specs.Said.{numberIn, placeIn, isSeatAlone, isPair, isPlacing, seatCall, pairCall, placeCall, moveCall, favourIn, endsInFavour, formIn, openCall, movingCall, isLending, lendingCall, bareCall, dropsCall, callIn, isSkipped as skipped};
+ghost use Rattle.pinmap.specs.declared.Form.the-variants.{Old, New};
 
 // The most legs or segments that a call lends.
 const MOST_LEGS_LENT: usize = 64;
@@ -41,18 +44,18 @@ fn seat_alone(text: &[u8]) -> Number
     number(word(text, 1), MOST)
 }
 
-// The seat that is the word after the name, and the number after it, from 0 to `top`.
-fn two_numbers(text: &[u8], top: usize) -> Pair
-    requires { ⌜ top ≤ mostNumber ⌝ }
-    ensures { λ r. ⌜ r ≡ choose (hasTwo top (wordsOf (now (text .entry)))) (Pair.Of (numberIn 1 (wordsOf (now (text .entry)))) (numberIn 2 (wordsOf (now (text .entry))))) Pair.Unread ⌝ }
+// Two words read as numbers, the first from 0 to `high`, the second from 0 to `top`.
+fn two_numbers(a: &[u8], high: usize, b: &[u8], top: usize) -> Pair
+    requires { ⌜ (high ≤ mostNumber) × (top ≤ mostNumber) ⌝ }
+    ensures { λ r. ⌜ r ≡ choose (both (isNumber high (now (a .entry))) (isNumber top (now (b .entry)))) (Pair.Of (valueOf (now (a .entry))) (valueOf (now (b .entry)))) Pair.Unread ⌝ }
 {
-    let Number::Of(seat) = number(word(text, 1), MOST) else {
+    let Number::Of(m) = number(a, high) else {
         return Pair::Unread;
     };
-    let Number::Of(n) = number(word(text, 2), top) else {
+    let Number::Of(n) = number(b, top) else {
         return Pair::Unread;
     };
-    Pair::Of(seat, n)
+    Pair::Of(m, n)
 }
 
 // NAME SEAT and one number more, from 0 to `top`.
@@ -63,14 +66,14 @@ fn pair(text: &[u8], top: usize) -> Pair
     if count_words(text) != 3 {
         return Pair::Unread;
     }
-    two_numbers(text, top)
+    two_numbers(word(text, 1), MOST, word(text, 2), top)
 }
 
-// NAME SEAT PIN X Y
-fn placing(text: &[u8]) -> Placing
-    ensures { λ r. ⌜ r ≡ choose (isPlacing (wordsOf (now (text .entry)))) (Placing.Of (numberIn 1 (wordsOf (now (text .entry)))) (numberIn 2 (wordsOf (now (text .entry)))) (placeIn (wordsOf (now (text .entry))))) Placing.Unread ⌝ }
+// So many words, of which those after the name are SEAT PIN X Y
+fn placing(text: &[u8], words: usize) -> Placing
+    ensures { λ r. ⌜ r ≡ choose (isPlacing words (wordsOf (now (text .entry)))) (Placing.Of (numberIn 1 (wordsOf (now (text .entry)))) (numberIn 2 (wordsOf (now (text .entry)))) (placeIn (wordsOf (now (text .entry))))) Placing.Unread ⌝ }
 {
-    if count_words(text) != 5 {
+    if count_words(text) != words {
         return Placing::Unread;
     }
     let Number::Of(seat) = number(word(text, 1), MOST) else {
@@ -101,43 +104,55 @@ pub(crate) fn favour_in(name: &[u8]) -> Favour
     Favour::Unsaid
 }
 
-// Whether a word is `lower` or `upper`.
-fn is_favour(name: &[u8]) -> bool
-    ensures { λ r. ⌜ r ≡ either (sameBytes (now (name .entry)) (bytesOf "lower")) (sameBytes (now (name .entry)) (bytesOf "upper")) ⌝ }
+// Whether a word is one of two.
+fn is_either(name: &[u8], one: &[u8], other: &[u8]) -> bool
+    ensures { λ r. ⌜ r ≡ either (sameBytes (now (name .entry)) (now (one .entry))) (sameBytes (now (name .entry)) (now (other .entry))) ⌝ }
 {
-    same(name, b"lower") || same(name, b"upper")
+    same(name, one) || same(name, other)
 }
 
-// So many words, or one more that is `lower` or `upper`.
-fn ends_in_favour(text: &[u8], words: usize) -> bool
-    ensures { λ r. ⌜ r ≡ endsInFavour words (wordsOf (now (text .entry))) ⌝ }
+// Four words, or one more that is `lower` or `upper`.
+fn ends_in_favour(text: &[u8]) -> bool
+    ensures { λ r. ⌜ r ≡ endsInFavour (wordsOf (now (text .entry))) ⌝ }
 {
     let count = count_words(text);
-    if count <= words {
-        return count == words;
+    if count != 5 {
+        return count == 4;
     }
-    count - words == 1 && is_favour(word(text, words))
+    is_either(word(text, 4), b"lower", b"upper")
 }
 
-// open SEAT JOB MAP
+// FORM: the form that a word names, `old` or else the new one.
+fn form_in(name: &[u8]) -> Form
+    ensures { λ r. ⌜ r ≡ formIn (now (name .entry)) ⌝ }
+{
+    if same(name, b"old") {
+        return Form::Old;
+    }
+    Form::New
+}
+
+// open SEAT JOB FORM MAP
 fn read_open(text: &[u8]) -> Said
     ensures { λ r. ⌜ r ≡ openCall (wordsOf (now (text .entry))) ⌝ }
 {
-    if count_words(text) != 4 {
+    if count_words(text) != 5 {
         return Said::NotACall;
     }
-    let Number::Of(seat) = number(word(text, 1), MOST) else {
+    let Pair::Of(seat, job) = two_numbers(word(text, 1), MOST, word(text, 2), MOST_JOB) else {
         return Said::NotACall;
     };
-    let Number::Of(job) = number(word(text, 2), MOST_JOB) else {
+    let name = word(text, 3);
+    if !is_either(name, b"old", b"new") {
         return Said::NotACall;
-    };
-    if !is_map(word(text, 3)) {
+    }
+    if !is_map(word(text, 4)) {
         return Said::NotACall;
     }
     Said::Open {
         seat,
         job: job as u16,
+        form: form_in(name),
     }
 }
 
@@ -151,21 +166,30 @@ fn read_close(text: &[u8]) -> Said
     Said::Close { seat }
 }
 
-// place SEAT PIN X Y
+// place SEAT PIN X Y NET PART
 fn read_place(text: &[u8]) -> Said
-    ensures { λ r. ⌜ r ≡ placeCall Said.Place (wordsOf (now (text .entry))) ⌝ }
+    ensures { λ r. ⌜ r ≡ placeCall (wordsOf (now (text .entry))) ⌝ }
 {
-    let Placing::Of(seat, pin, at) = placing(text) else {
+    let Placing::Of(seat, pin, at) = placing(text, 7) else {
         return Said::NotACall;
     };
-    Said::Place { seat, pin, at }
+    let Pair::Of(net, part) = two_numbers(word(text, 5), MOST, word(text, 6), MOST) else {
+        return Said::NotACall;
+    };
+    Said::Place {
+        seat,
+        pin,
+        at,
+        net: net as u32,
+        part: part as u32,
+    }
 }
 
 // move SEAT PIN X Y
 fn read_move(text: &[u8]) -> Said
-    ensures { λ r. ⌜ r ≡ placeCall Said.Move (wordsOf (now (text .entry))) ⌝ }
+    ensures { λ r. ⌜ r ≡ moveCall (wordsOf (now (text .entry))) ⌝ }
 {
-    let Placing::Of(seat, pin, to) = placing(text) else {
+    let Placing::Of(seat, pin, to) = placing(text, 5) else {
         return Said::NotACall;
     };
     Said::Move { seat, pin, to }
@@ -211,41 +235,47 @@ fn read_write(text: &[u8]) -> Said
     Said::Write { seat, room }
 }
 
-// NAME SEAT ROOM [FAVOUR]
-fn lending(text: &[u8]) -> Pair
-    ensures { λ r. ⌜ r ≡ choose (isLending (wordsOf (now (text .entry)))) (Pair.Of (numberIn 1 (wordsOf (now (text .entry)))) (numberIn 2 (wordsOf (now (text .entry))))) Pair.Unread ⌝ }
+// NAME SEAT NET ROOM [FAVOUR]
+fn lending(text: &[u8]) -> Lending
+    ensures { λ r. ⌜ r ≡ choose (isLending (wordsOf (now (text .entry)))) (Lending.Of (numberIn 1 (wordsOf (now (text .entry)))) (numberIn 2 (wordsOf (now (text .entry)))) (numberIn 3 (wordsOf (now (text .entry))))) Lending.Unread ⌝ }
 {
-    if !ends_in_favour(text, 3) {
-        return Pair::Unread;
+    if !ends_in_favour(text) {
+        return Lending::Unread;
     }
-    two_numbers(text, MOST_LEGS_LENT)
+    let Pair::Of(seat, net) = two_numbers(word(text, 1), MOST, word(text, 2), MOST) else {
+        return Lending::Unread;
+    };
+    let Number::Of(room) = number(word(text, 3), MOST_LEGS_LENT) else {
+        return Lending::Unread;
+    };
+    Lending::Of(seat, net as u32, room)
 }
 
-// wire SEAT ROOM [FAVOUR]
+// wire SEAT NET ROOM [FAVOUR]
 fn read_wire(text: &[u8]) -> Said
     ensures { λ r. ⌜ r ≡ lendingCall Said.Wire (wordsOf (now (text .entry))) ⌝ }
 {
-    let Pair::Of(seat, room) = lending(text) else {
+    let Lending::Of(seat, net, room) = lending(text) else {
         return Said::NotACall;
     };
-    Said::Wire { seat, room }
+    Said::Wire { seat, net, room }
 }
 
-// mill SEAT ROOM [FAVOUR]
+// mill SEAT NET ROOM [FAVOUR]
 fn read_mill(text: &[u8]) -> Said
     ensures { λ r. ⌜ r ≡ lendingCall Said.Mill (wordsOf (now (text .entry))) ⌝ }
 {
-    let Pair::Of(seat, room) = lending(text) else {
+    let Lending::Of(seat, net, room) = lending(text) else {
         return Said::NotACall;
     };
-    Said::Mill { seat, room }
+    Said::Mill { seat, net, room }
 }
 
 // bare ROOM XS YS [FAVOUR]
 fn read_bare(text: &[u8]) -> Said
     ensures { λ r. ⌜ r ≡ bareCall (wordsOf (now (text .entry))) ⌝ }
 {
-    if !ends_in_favour(text, 4) {
+    if !ends_in_favour(text) {
         return Said::NotACall;
     }
     let Number::Of(room) = number(word(text, 1), MOST_LEGS_LENT) else {
@@ -260,26 +290,63 @@ fn read_bare(text: &[u8]) -> Said
     Said::Bare { room }
 }
 
-// drops SEAT VOLTS OHMS LOADS
+// drops SEAT NET VOLTS OHMS LOADS
 fn read_drops(text: &[u8]) -> Said
     ensures { λ r. ⌜ r ≡ dropsCall (wordsOf (now (text .entry))) ⌝ }
 {
-    if count_words(text) != 5 {
+    if count_words(text) != 6 {
         return Said::NotACall;
     }
-    let Number::Of(seat) = number(word(text, 1), MOST) else {
+    let Pair::Of(seat, net) = two_numbers(word(text, 1), MOST, word(text, 2), MOST) else {
         return Said::NotACall;
     };
-    if !is_bits(word(text, 2)) {
-        return Said::NotACall;
-    }
     if !is_bits(word(text, 3)) {
         return Said::NotACall;
     }
-    if !is_loads(word(text, 4)) {
+    if !is_bits(word(text, 4)) {
         return Said::NotACall;
     }
-    Said::Drops { seat }
+    if !is_loads(word(text, 5)) {
+        return Said::NotACall;
+    }
+    Said::Drops {
+        seat,
+        net: net as u32,
+    }
+}
+
+// NAME JOB ROOM MAP, a map to be moved to a form
+fn moving(text: &[u8], to: Form) -> Said
+    ensures { λ r. ⌜ r ≡ movingCall to (wordsOf (now (text .entry))) ⌝ }
+{
+    if count_words(text) != 4 {
+        return Said::NotACall;
+    }
+    let Pair::Of(job, room) = two_numbers(word(text, 1), MOST_JOB, word(text, 2), MOST_ROOM) else {
+        return Said::NotACall;
+    };
+    if !is_map(word(text, 3)) {
+        return Said::NotACall;
+    }
+    Said::Moved {
+        to,
+        job: job as u16,
+        room,
+    }
+}
+
+// over JOB ROOM MAP
+fn read_over(text: &[u8]) -> Said
+    ensures { λ r. ⌜ r ≡ movingCall New (wordsOf (now (text .entry))) ⌝ }
+{
+    moving(text, Form::New)
+}
+
+// back JOB ROOM MAP
+fn read_back(text: &[u8]) -> Said
+    ensures { λ r. ⌜ r ≡ movingCall Old (wordsOf (now (text .entry))) ⌝ }
+{
+    moving(text, Form::Old)
 }
 
 // pins SEAT
@@ -332,6 +399,12 @@ pub(crate) fn read_call(text: &[u8]) -> Said
     }
     if same(name, b"drops") {
         return read_drops(text);
+    }
+    if same(name, b"over") {
+        return read_over(text);
+    }
+    if same(name, b"back") {
+        return read_back(text);
     }
     if same(name, b"pins") {
         return read_pins(text);

@@ -11,6 +11,7 @@ use copper::Favour;
 use drops::Loaded;
 use drops::Sheet;
 use loads::loads_in;
+use pinmap::Form;
 use text::MOST_NUMBERS;
 use text::MOST_PAIRS;
 use text::numbers::fill_list;
@@ -28,7 +29,7 @@ ghost use Rattle.script.specs.Said.{saidBy, mapGiven, xsGiven, ysGiven, 
 // A line of more bytes is not a call.
 const MOST_LINE: usize = 16384;
 
-// Words read as a seat and one number more.
+// Two words read as numbers.
 pub enum Pair {
     Unread,
     Of(usize, usize),
@@ -40,24 +41,76 @@ pub enum Placing {
     Of(usize, usize, Place),
 }
 
-// What a line says: nothing, no call, or a call with its numbers. The map of an opening, the lists of a bare wiring, the shape to
+// Words read as a seat, a net and the room that is lent.
+pub enum Lending {
+    Unread,
+    Of(usize, u32, usize),
+}
+
+// What a line says: nothing, no call, or a call with its numbers. The map of an opening or of a moving, the lists of a bare wiring, the shape to
 // favour and what drops are asked for are read from the line by functions of their own, map and lists into lent buffers.
 pub enum Said {
     Skip,
     NotACall,
-    Open { seat: usize, job: u16 },
-    Close { seat: usize },
-    Place { seat: usize, pin: usize, at: Place },
-    Move { seat: usize, pin: usize, to: Place },
-    Remove { seat: usize, pin: usize },
-    Undo { seat: usize },
-    Redo { seat: usize },
-    Write { seat: usize, room: usize },
-    Wire { seat: usize, room: usize },
-    Mill { seat: usize, room: usize },
-    Bare { room: usize },
-    Drops { seat: usize },
-    Pins { seat: usize },
+    Open {
+        seat: usize,
+        job: u16,
+        form: Form,
+    },
+    Close {
+        seat: usize,
+    },
+    Place {
+        seat: usize,
+        pin: usize,
+        at: Place,
+        net: u32,
+        part: u32,
+    },
+    Move {
+        seat: usize,
+        pin: usize,
+        to: Place,
+    },
+    Remove {
+        seat: usize,
+        pin: usize,
+    },
+    Undo {
+        seat: usize,
+    },
+    Redo {
+        seat: usize,
+    },
+    Write {
+        seat: usize,
+        room: usize,
+    },
+    Wire {
+        seat: usize,
+        net: u32,
+        room: usize,
+    },
+    Mill {
+        seat: usize,
+        net: u32,
+        room: usize,
+    },
+    Bare {
+        room: usize,
+    },
+    Drops {
+        seat: usize,
+        net: u32,
+    },
+    Moved {
+        to: Form,
+        job: u16,
+        room: usize,
+    },
+    Pins {
+        seat: usize,
+    },
 }
 
 // Reads a line, without its newline.
@@ -74,12 +127,12 @@ pub fn read_line(line: &[u8]) -> Said
     read_call(text)
 }
 
-// Writes the map of an opening from the start on, and answers how many bytes it has.
-pub fn given_map(line: &[u8], map: &mut [u8; MOST_PAIRS]) -> usize
-    ensures { λ r. ⌜ (r ≡ length (mapGiven (now (line .entry)))) × (r ≤ mostPairs) ⌝ }
-    ensures { λ _. ⌜ now (map .exit) ≡ over (mapGiven (now (line .entry))) (now (map .entry)) ⌝ }
+// Writes the map in the word of a number, counted from 0, from the start on, and answers how many bytes it has.
+pub fn given_map(line: &[u8], at: usize, map: &mut [u8; MOST_PAIRS]) -> usize
+    ensures { λ r. ⌜ (r ≡ length (mapGiven at (now (line .entry)))) × (r ≤ mostPairs) ⌝ }
+    ensures { λ _. ⌜ now (map .exit) ≡ over (mapGiven at (now (line .entry))) (now (map .entry)) ⌝ }
 {
-    fill_map(word(without_return(line), 3), map)
+    fill_map(word(without_return(line), at), map)
 }
 
 // Writes the x of a bare wiring from the start on, and answers how many there are.
@@ -98,11 +151,11 @@ pub fn given_ys(line: &[u8], ys: &mut [i32; MOST_NUMBERS]) -> usize
     fill_list(word(without_return(line), 3), ys)
 }
 
-// What the line says of the shape to favour, in the word of a number, counted from 0.
-pub fn given_favour(line: &[u8], at: usize) -> Favour
-    ensures { λ r. ⌜ r ≡ favourGiven at (now (line .entry)) ⌝ }
+// What the line says of the shape to favour.
+pub fn given_favour(line: &[u8]) -> Favour
+    ensures { λ r. ⌜ r ≡ favourGiven (now (line .entry)) ⌝ }
 {
-    favour_in(word(without_return(line), at))
+    favour_in(word(without_return(line), 4))
 }
 
 // The board sheet that the line gives.
@@ -110,8 +163,8 @@ pub fn given_sheet(line: &[u8]) -> Sheet
     ensures { λ r. ⌜ r ≡ sheetGiven (now (line .entry)) ⌝ }
 {
     let text = without_return(line);
-    let volts = float(word(text, 2));
-    let ohms = float(word(text, 3));
+    let volts = float(word(text, 3));
+    let ohms = float(word(text, 4));
     Sheet { volts, ohms }
 }
 
@@ -119,5 +172,5 @@ pub fn given_sheet(line: &[u8]) -> Sheet
 pub fn given_loads(line: &[u8]) -> [Loaded; PINS]
     ensures { λ r. ⌜ r ≡ loadsGiven (now (line .entry)) ⌝ }
 {
-    loads_in(word(without_return(line), 4))
+    loads_in(word(without_return(line), 5))
 }

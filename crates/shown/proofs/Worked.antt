@@ -72,11 +72,13 @@ pub refused-maps : mapText 7 (turnedAway MapLength .wiring) ++ mapText 7 (turned
 unfolding turnedAway runEntries accepted choose digits carriedText toldLine mapText
 refused-maps = refl
 
--- A drawing whose pins 1 and 2 are there: (20,-20) and (20000,-20000).
+-- A drawing whose pins 1 and 2 are there: (20,-20) of net 1 and part 0, and (20000,-20000) of net 8 and part 4294967295.
 abbrev two : List Pin
-two = absent ∷ there (holding (record { x = pos 20; y = negsuc 19 })) ∷ there (holding (record { x = pos 20000; y = negsuc 19999 })) ∷ absent ∷ []
+two =
+    absent ∷ there (holding (record { x = pos 20; y = negsuc 19 }) 1 0) ∷ there (holding (record { x = pos 20000; y = negsuc 19999 }) 8 4294967295)
+    ∷ absent ∷ []
 
 -- It is printed with its two pins counted and a line for each.
-pub drawn-two : drawnText 7 two 2 1 ≡ text "job 7 pins 2 standing 2 taken 1\npin 1 20 -20\npin 2 20000 -20000\n"
+pub drawn-two : drawnText 7 two 2 1 ≡ text "job 7 pins 2 standing 2 taken 1\npin 1 20 -20 1 0\npin 2 20000 -20000 8 4294967295\n"
 unfolding choose digits integer placeText drawingLine pinLine pinText pinsText isThere howMany drawnText
 drawn-two = refl

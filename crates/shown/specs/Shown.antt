@@ -45,7 +45,7 @@ legsText word legs = textForEach (legText word) legs
 -- The line of a pin that is there; none for one that is not.
 unfoldable pub pinText : ℕ → Stand → List ℕ
 pinText number Absent = []
-pinText number (There held) = pinLine number (held .place)
+pinText number (There held) = pinLine number (held .place) (held .net) (held .part)
 
 -- A line for each pin that is there, numbered from the given number on.
 unfoldable pub pinsText : ℕ → List Pin → List ℕ

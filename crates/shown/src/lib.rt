@@ -107,7 +107,7 @@ fn put_pin(number: usize, pin: Pin, out: &mut [u8; ANSWER_BYTES], at: usize) -> 
         Stand::Absent => at,
         Stand::There(held) => {
             let place = held.place;
-            print_pin(number, place, out, at)
+            print_pin(number, place, held.net, held.part, out, at)
         }
     }
 }

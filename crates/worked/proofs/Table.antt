@@ -13,12 +13,13 @@ use Rattle.refusal.specs.declared.Verdict.{Verdict}
 use Rattle.refusal.specs.declared.Verdict.the-variants.{Accepted, NothingStands, NothingTakenBack}
 use Rattle.board.specs.declared.Place.{Place}
 use Rattle.board.specs.Boards.{W2, boards}
-use Rattle.pinmap.specs.Number.{firstByte, secondByte, thirdByte, fourthByte}
+use Rattle.pinmap.specs.Number.{fourBytes, firstByte, secondByte, thirdByte, fourthByte}
 use Rattle.board.specs.Place.{place, onBoard, inside, difference, closer, tooNear, sameNumber, samePlace}
 use Rattle.drawing.specs.declared.Pin.{Pin}
 use Rattle.board.specs.Spots.{spotsTooNear, crowded, within, tooNearOther}
-use Rattle.drawing.specs.Pins.{isThere, sameHeld, samePin, samePins, lawful, spotOf, spotsOf}
+use Rattle.drawing.specs.Pins.{isNet, hasNet, isThere, sameHeld, samePin, samePins, lawful, spotOf, spotsOf}
 use Rattle.drawing.specs.Edits.{movedPin, pinMade, pinUnmade, made, unmade, standsAt, foundAs, allFound, proper, makeable, takeable, heldBy}
+use Rattle.pinmap.specs.declared.Form.the-variants.{Old}
 use Rattle.pinmap.specs.Record.{recordBytes, pinBytes}
 use Rattle.pinmap.specs.Map.{recordsIn, withPinsOf, rowsFrom, wrongLength, readMap, mapFrom, mapOf, written}
 use Rattle.journal.specs.Journal.{own, kept, filled, inTurn}
@@ -55,15 +56,15 @@ AllHold (c ∷ table) = Holds c × AllHold table
 
 -- D1, up to the first undo: both seats opened empty, a pin placed at each, seat 0 undone.
 abbrev D1 : List Call
-D1 = opening 0 7 [] ∷ opening 1 9 [] ∷ placing 0 0 (place (pos 20) (pos 20)) ∷ placing 1 0 (place (pos 40) (pos 40)) ∷ undoing 0 ∷ []
+D1 = opening 0 7 Old [] ∷ opening 1 9 Old [] ∷ placing 0 0 (place (pos 20) (pos 20)) ∷ placing 1 0 (place (pos 40) (pos 40)) ∷ undoing 0 ∷ []
 
 -- D2: pin 0 placed and moved, the move undone, pin 1 placed; the redo is 11.
 abbrev D2 : List Call
-D2 = opening 0 7 [] ∷ placing 0 0 (place (pos 20) (pos 20)) ∷ moving 0 0 (place (pos 80) (pos 80)) ∷ undoing 0 ∷ placing 0 1 (place (pos 40) (pos 40)) ∷ redoing 0 ∷ []
+D2 = opening 0 7 Old [] ∷ placing 0 0 (place (pos 20) (pos 20)) ∷ moving 0 0 (place (pos 80) (pos 80)) ∷ undoing 0 ∷ placing 0 1 (place (pos 40) (pos 40)) ∷ redoing 0 ∷ []
 
--- D3: job 7, pin 0 at (20,-20). Written into 14 bytes that hold 9, the last two stay.
+-- D3: job 7, pin 0 at (20,-20), of net 1 with part number 0. Written into 18 bytes that hold 9, the last two stay.
 abbrev D3 : List Call
-D3 = opening 0 7 [] ∷ placing 0 0 (place (pos 20) (negsuc 19)) ∷ []
+D3 = opening 0 7 Old [] ∷ placing 0 0 (place (pos 20) (negsuc 19)) ∷ []
 
 -- The table: the boards with lower asked for, W2 with upper and with nothing said, D1 up to its first undo and to its end, D2, D3.
 abbrev pub table : List Case
@@ -75,14 +76,14 @@ table =
     ∷ session (D1 ++ (undoing 0 ∷ redoing 0 ∷ [])) (Accepted ∷ Accepted ∷ Accepted ∷ Accepted ∷ Accepted ∷ NothingStands ∷ Accepted ∷ [])
     (drawn (pinAt (pos 20) (pos 20) ∷ [])) (drawn (pinAt (pos 40) (pos 40) ∷ []))
     ∷ session D2 (Accepted ∷ Accepted ∷ Accepted ∷ Accepted ∷ Accepted ∷ NothingTakenBack ∷ []) (drawn (pinAt (pos 20) (pos 20) ∷ pinAt (pos 40) (pos 40) ∷ [])) (drawn [])
-    ∷ writes D3 (replicate 14 9) 12 (0 ∷ 7 ∷ 0 ∷ 0 ∷ 0 ∷ 0 ∷ 0 ∷ 20 ∷ 255 ∷ 255 ∷ 255 ∷ 236 ∷ 9 ∷ 9 ∷ [])
+    ∷ writes D3 (replicate 18 9) 16 (0 ∷ 7 ∷ 0 ∷ 1 ∷ 0 ∷ 0 ∷ 0 ∷ 20 ∷ 255 ∷ 255 ∷ 255 ∷ 236 ∷ 0 ∷ 0 ∷ 0 ∷ 0 ∷ 9 ∷ 9 ∷ [])
     ∷ []
 
 -- W1 TO W8 AND D1 TO D3 HOLD.
 pub worked : AllHold table
 unfolding Holds AllHold after answers both either choose accepted firstOf onBoard inside difference closer tooNear sameNumber samePlace isThere sameHeld samePin
-    samePins spotsTooNear tooNearOther crowded within spotOf spotsOf lawful movedPin pinMade pinUnmade made unmade standsAt foundAs allFound proper makeable takeable numbered heldBy
+    samePins spotsTooNear tooNearOther crowded within spotOf spotsOf lawful hasNet isNet movedPin pinMade pinUnmade made unmade standsAt foundAs allFound proper makeable takeable numbered heldBy
     recordsIn withPinsOf rowsFrom wrongLength readMap own kept filled inTurn sameJob
-    jobOf soundOpen soundClosed soundSeat soundTo sound edited effect answerOf step emptyDesk mapFrom mapOf recordBytes pinBytes
+    jobOf soundOpen soundClosed soundSeat soundTo sound edited effect answerOf step emptyDesk mapFrom mapOf recordBytes pinBytes fourBytes
     firstByte secondByte thirdByte fourthByte written writtenOf bufferOf anyOf eachOf noTwo
 worked = (bare.worked .0, (ap (take 1) (bare.worked .1), (ap (drop 1) (bare.worked .1), ((refl, refl, refl), ((refl, refl, refl), ((refl, refl, refl), ((refl, refl, refl), tt)))))))

@@ -5,7 +5,7 @@ use borrow.Author.Needs.{needs}
 use Rattle.drawing.specs.declared.stated.Making.the-variants.{Placing, Moving, Removing}
 use Rattle.drawing.specs.Pins.{holding}
 use Rattle.rows.specs.Calls.{closing, making, undoing, redoing}
-use Rattle.script.proofs.Rooms.{write-room}
+use Rattle.script.proofs.Rooms.{write-room, moving-room}
 use Rattle.text.proofs.Printing.{held}
 use Rattle.printed.specs.Answers.{mostLineBytes, notACallLine}
 use Rattle.answer.specs.Answered.{followed, printed}
@@ -126,6 +126,15 @@ drops-requires c κs = search needs
 enum-known-said-13 : tie.Need-enum-known-said-13
 enum-known-said-13 c = search needs
 
+move-map-requires : tie.Need-move-map-requires
+move-map-requires c κs =
+    let o = c .before .before in
+    let r = o .before .before in
+    omega (arith, moving-room (begun r .args .line .now) (r .read-line .ensures) (o .said13 .given .1))
+
+enum-known-said-14 : tie.Need-enum-known-said-14
+enum-known-said-14 c = search needs
+
 show-pins-requires : tie.Need-show-pins-requires
 show-pins-requires c κs = search needs
 
@@ -172,7 +181,7 @@ returns-5 c =
     let s = begun r in
     let g = o .said3 .given .0 in
     answers (s .args .desk) (s .args .number) (s .args .line .now) (s .args .out .now) (r .read-line .ensures) (o .said3 .given .1)
-    (called (s .args .desk) (s .args .out .now) (making (g .0) (Placing (g .1 .0) (holding (g .1 .1 .0)))) (c .before .before .place .ensures) (c .told2 .ensures))
+    (called (s .args .desk) (s .args .out .now) (making (g .0) (Placing (g .1 .0) (holding (g .1 .1 .0) (g .1 .1 .1 .0) (g .1 .1 .1 .1 .0)))) (c .before .before .place .ensures) (c .told2 .ensures))
 
 returns-6 : tie.Need-returns-6
 unfolding followed printed
@@ -264,6 +273,15 @@ returns-15 c =
     let r = o .before .before in
     let s = begun r in
     answers (s .args .desk) (s .args .number) (s .args .line .now) (s .args .out .now) (r .read-line .ensures) (o .said13 .given .1)
+    (refl, c .move-map .ensures)
+
+returns-16 : tie.Need-returns-16
+unfolding followed printed
+returns-16 c =
+    let o = c .before .before .before in
+    let r = o .before .before in
+    let s = begun r in
+    answers (s .args .desk) (s .args .number) (s .args .line .now) (s .args .out .now) (r .read-line .ensures) (o .said14 .given .1)
     (refl, c .show-pins .ensures)
 
 pub answer-line-spec : {M : Type 1} → statement M
@@ -305,6 +323,8 @@ answer-line-spec =
     enum-known-said-12
     drops-requires
     enum-known-said-13
+    move-map-requires
+    enum-known-said-14
     show-pins-requires
     returns
     returns-2
@@ -320,4 +340,5 @@ answer-line-spec =
     returns-12
     returns-13
     returns-14
-    returns-15)
+    returns-15
+    returns-16)

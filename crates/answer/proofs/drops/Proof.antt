@@ -25,7 +25,7 @@ returns c =
     let w = c .before .before .before in
     let g = w .before in
     let s = g .before .before .before .args in
-    asked (λ (w : Dropped). lostLine (w .lost)) (droppedOf (s .desk) (s .seat) (loadsGiven (s .line .now)) (sheetGiven (s .line .now))) (s .out .now)
+    asked (λ (w : Dropped). lostLine (w .lost)) (droppedOf (s .desk) (s .seat) (s .net) (loadsGiven (s .line .now)) (sheetGiven (s .line .now))) (s .out .now)
     (rw (g .before .given-loads .ensures, g .given-sheet .ensures) at (w .drops .ensures)) (c .print-drops .ensures)
 
 pub drops-spec : {M : Type 1} → statement M

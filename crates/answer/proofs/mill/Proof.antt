@@ -22,7 +22,7 @@ returns c =
     let w = c .before .before .before in
     let g = w .before in
     let s = g .before .before .args in
-    asked (λ (w : Milled). cutText (w .cut)) (milledOf (s .desk) (s .seat) (s .room) (favourGiven 3 (s .line .now))) (s .out .now)
+    asked (λ (w : Milled). cutText (w .cut)) (milledOf (s .desk) (s .seat) (s .net) (s .room) (favourGiven (s .line .now))) (s .out .now)
     (rw (g .given-favour .ensures) at (w .mill .ensures)) (c .print-cut .ensures)
 
 pub mill-spec : {M : Type 1} → statement M

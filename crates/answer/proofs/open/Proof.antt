@@ -15,13 +15,13 @@ array-share-prefix-map : tie.Need-array-share-prefix-map
 array-share-prefix-map c =
     let g = c .given-map .ensures in
     let s = c .before .before .before .args in
-    stored-within mostPairs 0 (mapGiven (s .line .now)) (g .1) (g .0 .1)
+    stored-within mostPairs 0 (mapGiven 4 (s .line .now)) (g .1) (g .0 .1)
 
 slice-aggregate-open : tie.Need-slice-aggregate-open
 slice-aggregate-open c =
     let g = c .before .given-map .ensures in
     let s = c .before .before .before .before .args in
-    stored-count mostPairs 0 (mapGiven (s .line .now)) (g .1) (g .0 .1)
+    stored-count mostPairs 0 (mapGiven 4 (s .line .now)) (g .1) (g .0 .1)
 
 open-requires : tie.Need-open-requires
 open-requires c κs = search needs
@@ -33,8 +33,8 @@ returns : tie.Need-returns
 returns c =
     let g = c .before .before .before .before .given-map .ensures in
     let s = c .before .before .before .before .before .before .before .args in
-    let map = stored-first mostPairs 0 (mapGiven (s .line .now)) (g .1) (g .0 .1) (g .0 .0) in
-    called (s .desk) (s .out .now) (opening (s .seat) (s .job) (mapGiven (s .line .now))) (rw map at (c .before .before .open .ensures)) (c .told .ensures)
+    let map = stored-first mostPairs 0 (mapGiven 4 (s .line .now)) (g .1) (g .0 .1) (g .0 .0) in
+    called (s .desk) (s .out .now) (opening (s .seat) (s .job) (s .form) (mapGiven 4 (s .line .now))) (rw map at (c .before .before .open .ensures)) (c .told .ensures)
 
 pub open-spec : {M : Type 1} → statement M
 open-spec =

@@ -22,7 +22,7 @@ returns c =
     let w = c .before .before .before in
     let g = w .before in
     let s = g .before .before .args in
-    asked (λ (w : Wired). laidText (w .laid)) (wiredOf (s .desk) (s .seat) (s .room) (favourGiven 3 (s .line .now))) (s .out .now)
+    asked (λ (w : Wired). laidText (w .laid)) (wiredOf (s .desk) (s .seat) (s .net) (s .room) (favourGiven (s .line .now))) (s .out .now)
     (rw (g .given-favour .ensures) at (w .wire .ensures)) (c .print-laid .ensures)
 
 pub wire-spec : {M : Type 1} → statement M

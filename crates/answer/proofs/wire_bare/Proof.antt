@@ -53,7 +53,7 @@ returns c =
     let s = c .before .before .before .before .before .before .before .before .before .before .before .args in
     let xs = stored-first mostNumbers (pos 0) (xsGiven (s .line .now)) (g .1) (g .0 .1) (g .0 .0) in
     let ys = stored-first mostNumbers (pos 0) (ysGiven (s .line .now)) (h .1) (h .0 .1) (h .0 .0) in
-    asked laidText (bareOf (xsGiven (s .line .now)) (ysGiven (s .line .now)) (s .room) (favourGiven 4 (s .line .now))) (s .out .now)
+    asked laidText (bareOf (xsGiven (s .line .now)) (ysGiven (s .line .now)) (s .room) (favourGiven (s .line .now))) (s .out .now)
     (rw favour at (rw ys at (rw xs at (c .before .before .wire-bare .ensures)))) (c .print-laid .ensures)
 
 pub wire-bare-spec : {M : Type 1} → statement M

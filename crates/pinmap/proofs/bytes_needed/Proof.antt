@@ -5,18 +5,19 @@ use native.Mathlib.Omega.{arith}
 use lib.ListN.{length, getD}
 use Rattle.board.specs.Spots.{mostPins}
 use Rattle.drawing.specs.Pins.{absent}
+use Rattle.pinmap.proofs.Sizes.{size-range}
 use Rattle.pinmap.proofs.Written.{Counted, counted-start, counted-next, counted-end, pin-length}
 use Rattle.pinmap.proofs.bytes_needed.Statement.{statement}
 use Rattle.pinmap.proofs.bytes_needed.Tie as tie
 
 abbrev Inv-loop : tie.InvT-loop
-Inv-loop pins bytes₀ i₀ bytes i = Counted pins bytes i
+Inv-loop form pins bytes₀ i₀ bytes i = Counted form pins bytes i
 
 abbrev μ-loop : tie.MeasureT-loop
-μ-loop pins bytes₀ i₀ bytes i = mostPins - i
+μ-loop form pins bytes₀ i₀ bytes i = mostPins - i
 
 loop-holds : tie.Need-loop-holds Inv-loop μ-loop
-loop-holds c = counted-start _
+loop-holds c = counted-start _ _
 
 mul-q : tie.Need-mul-q Inv-loop μ-loop
 mul-q c = omega arith
@@ -30,7 +31,8 @@ bytes-of-requires c κs = tt
 add-bytes : tie.Need-add-bytes Inv-loop μ-loop
 add-bytes c =
     let l = c .before .before .before in
-    omega (arith, pin-length 0 0 (getD (l .before .args .t1) (l .loop .i) absent), c .bytes-of .ensures 0 0)
+    let A = l .before .args .form in
+    omega (arith, pin-length A 0 0 (getD (l .before .args .t2) (l .loop .i) absent), size-range A, c .bytes-of .ensures 0 0)
 
 add-i : tie.Need-add-i Inv-loop μ-loop
 add-i c = omega arith
@@ -41,13 +43,13 @@ loop-less c = omega arith
 loop-again : tie.Need-loop-again Inv-loop μ-loop
 loop-again c =
     let l = c .before .before .before in
-    let h : l .loop .i < length (l .before .args .t1) = omega arith in
-    counted-next _ _ _ (l .loop .inv) h (omega arith) (c .bytes-of .ensures)
+    let h : l .loop .i < length (l .before .args .t2) = omega arith in
+    counted-next _ _ _ _ (l .loop .inv) h (omega arith) (c .bytes-of .ensures)
 
 returns : tie.Need-returns Inv-loop μ-loop
 returns c =
-    let h : length (c .before .before .args .t1) ≤ c .before .loop .i = omega arith in
-    counted-end _ _ _ (c .before .loop .inv) h
+    let h : length (c .before .before .args .t2) ≤ c .before .loop .i = omega arith in
+    counted-end _ _ _ _ (c .before .loop .inv) h
 
 pub bytes-needed-spec : {M : Type 1} → statement M
 bytes-needed-spec =

@@ -1,10 +1,10 @@
 -- `pinmap::is_faulty` meets its contract. Assumes nothing.
 use mathlib.Core.Path.{ap, sym, _∙_}
 use mathlib.Core.Bool.{not}
-use borrow.Author.Needs.{needs}
-use borrow.Author.Tests.{le-leb, lt-leb, lt-ltb, le-ltb, eq-eqb, ne-eqb}
+use borrow.Author.Tests.{le-leb, lt-leb, lt-ltb, le-ltb}
 use Rattle.basics.proofs.Tests.{either-left, either-right}
 use Rattle.pinmap.specs.Record.{faulty}
+use borrow.Author.Needs.{needs}
 use Rattle.pinmap.proofs.is_faulty.Statement.{statement}
 use Rattle.pinmap.proofs.is_faulty.Tie as tie
 
@@ -18,12 +18,19 @@ returns-2 c =
     let p = c .before .before in
     sym (either-right _ (lt-leb _ _ (p .if1 .left)) ∙ either-left _ (lt-ltb _ _ (c .if2 .taken)))
 
+is-wrong-byte-requires : tie.Need-is-wrong-byte-requires
+is-wrong-byte-requires c κs = search needs
+
 returns-3 : tie.Need-returns-3
 unfolding faulty
 returns-3 c =
     let n = c .before .before in
     let p = n .before .before in
-    sym (either-right _ (lt-leb _ _ (p .if1 .left)) ∙ either-right _ (le-ltb _ _ (n .if2 .left)) ∙ either-left _ (ap not (ne-eqb _ _ (c .if3 .taken))))
+    sym (
+    either-right _ (lt-leb _ _ (p .if1 .left))
+    ∙ either-right _ (le-ltb _ _ (n .if2 .left))
+    ∙ either-left _ (sym (c .before .is-wrong-byte .ensures) ∙ c .if3 .taken)
+    )
 
 is-inside-requires : tie.Need-is-inside-requires
 is-inside-requires c κs = search needs
@@ -37,7 +44,7 @@ returns-4 c =
     sym (
     either-right _ (lt-leb _ _ (p .if1 .left))
     ∙ either-right _ (le-ltb _ _ (n .if2 .left))
-    ∙ either-right _ (ap not (eq-eqb _ _ (z .if3 .left)))
+    ∙ either-right _ (sym (z .before .is-wrong-byte .ensures) ∙ z .if3 .left)
     ∙ either-left _ (ap not (sym (c .before .is-inside .ensures)) ∙ c .if4 .taken)
     )
 
@@ -55,7 +62,7 @@ returns-5 c =
     ∙ sym (
     either-right _ (lt-leb _ _ (p .if1 .left))
     ∙ either-right _ (le-ltb _ _ (n .if2 .left))
-    ∙ either-right _ (ap not (eq-eqb _ _ (z .if3 .left)))
+    ∙ either-right _ (sym (z .before .is-wrong-byte .ensures) ∙ z .if3 .left)
     ∙ either-right _ (ap not (sym (i .before .is-inside .ensures)) ∙ i .if4 .left)
     )
 
@@ -65,6 +72,7 @@ is-faulty-spec =
     (tie.spec
     returns
     returns-2
+    is-wrong-byte-requires
     returns-3
     is-inside-requires
     returns-4

@@ -1,25 +1,46 @@
 -- `pinmap::read_map` meets its contract: the two tests of the length, then the records. Assumes nothing.
-use borrow.Author.Needs.{needs}
 use mathlib.Core.Path.{_∙_}
+use native.Mathlib.Omega.{arith}
+use Rattle.pinmap.proofs.Sizes.{size-range}
 use Rattle.pinmap.proofs.Judging.{refused-as}
 use Rattle.pinmap.proofs.Lengths.{too-long, not-whole, right-length, turned-away}
+use borrow.Author.Needs.{needs}
 use Rattle.pinmap.proofs.read_map.Statement.{statement}
 use Rattle.pinmap.proofs.read_map.Tie as tie
+
+most-bytes-requires : tie.Need-most-bytes-requires
+most-bytes-requires c κs = search needs
 
 refuse-requires : tie.Need-refuse-requires
 refuse-requires c κs = search needs
 
 returns : tie.Need-returns
-returns c = refused-as (c .refuse .ensures) ∙ turned-away _ _ (too-long _ (c .before .if1 .taken))
+returns c =
+    let i = c .before in
+    refused-as (c .refuse .ensures) ∙ turned-away _ _ _ (too-long _ _ (rw (i .before .most-bytes .ensures) at (i .if1 .taken)))
+
+record-bytes-requires : tie.Need-record-bytes-requires
+record-bytes-requires c κs = search needs
+
+rem-if2 : tie.Need-rem-if2
+rem-if2 c = omega (arith, c .record-bytes .ensures, size-range (c .before .before .before .before .args .form))
 
 refuse-requires-2 : tie.Need-refuse-requires-2
 refuse-requires-2 c κs = search needs
 
 returns-2 : tie.Need-returns-2
-returns-2 c = refused-as (c .refuse2 .ensures) ∙ turned-away _ _ (not-whole _ (c .before .before .if1 .left) (c .before .if2 .taken))
+returns-2 c =
+    let k = c .before in
+    let b = k .before in
+    let i = b .before in
+    refused-as (c .refuse2 .ensures)
+    ∙ turned-away _ _ _ (not-whole _ _ (rw (i .before .most-bytes .ensures) at (i .if1 .left)) (rw (b .record-bytes .ensures) at (k .if2 .taken)))
 
 read-records-requires : tie.Need-read-records-requires
-read-records-requires c κs = right-length _ (c .before .if1 .left) (c .if2 .left)
+read-records-requires c κs =
+    let b = c .before in
+    let i = b .before in
+    right-length _ _ (rw (i .before .most-bytes .ensures) at (i .if1 .left)) (rw (b .record-bytes .ensures) at (c .if2 .left))
 
 returns-3 : tie.Need-returns-3
 returns-3 c = search needs
@@ -27,4 +48,13 @@ returns-3 c = search needs
 pub read-map-spec : {M : Type 1} → statement M
 read-map-spec =
     tie.close
-    (tie.spec refuse-requires returns refuse-requires-2 returns-2 read-records-requires returns-3)
+    (tie.spec
+    most-bytes-requires
+    refuse-requires
+    returns
+    record-bytes-requires
+    rem-if2
+    refuse-requires-2
+    returns-2
+    read-records-requires
+    returns-3)

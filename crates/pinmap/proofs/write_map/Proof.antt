@@ -13,12 +13,13 @@ returns : tie.Need-returns
 returns c =
     let A = c .before .before .before .args in
     let e = c .before .bytes-needed .ensures (A .job) in
-    (answer-small (A .pins) (A .job) (A .buffer .now) e (c .if1 .taken), buffer-small (A .pins) (A .job) (A .buffer .now) e (c .if1 .taken))
+    (answer-small (A .form) (A .pins) (A .job) (A .buffer .now) e (c .if1 .taken), buffer-small (A .form) (A .pins) (A .job) (A .buffer .now) e (c .if1 .taken))
 
 write-records-requires : tie.Need-write-records-requires
 write-records-requires c κs =
-    let e = c .before .before .bytes-needed .ensures (c .before .before .before .before .args .job) in
-    omega arith
+    let s = c .before .before .before .before in
+    let e = c .before .before .bytes-needed .ensures (s .args .job) in
+    (omega arith, s .pre)
 
 same-length : tie.Need-same-length
 same-length c = search needs
@@ -30,8 +31,8 @@ returns-2 c =
     let A = b .before .before .before .args in
     let e = b .before .bytes-needed .ensures (A .job) in
     let h = b .if1 .left in (
-      answer-written (A .pins) (A .job) (A .buffer .now) e h,
-      w .write-records .ensures ∙ buffer-written (A .pins) (A .job) (A .buffer .now) e h,
+      answer-written (A .form) (A .pins) (A .job) (A .buffer .now) e h,
+      w .write-records .ensures ∙ buffer-written (A .form) (A .pins) (A .job) (A .buffer .now) e h,
     )
 
 pub write-map-spec : {M : Type 1} → statement M

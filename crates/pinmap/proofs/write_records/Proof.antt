@@ -4,18 +4,18 @@ use Prim.Native.Nat.{_-_, _<_, _≤_}
 use native.Mathlib.Omega.{arith}
 use lib.ListN.{length}
 use Rattle.board.specs.Spots.{mostPins}
-use Rattle.pinmap.proofs.Written.{Storing, storing-start, storing-room, storing-next, storing-end}
+use Rattle.pinmap.proofs.Written.{Storing, storing-start, storing-room, storing-next, storing-end, net-at}
 use Rattle.pinmap.proofs.write_records.Statement.{statement}
 use Rattle.pinmap.proofs.write_records.Tie as tie
 
 abbrev Inv-loop : tie.InvT-loop
-Inv-loop job buffer₀ pins at₀ i₀ buffer at i = Storing job pins buffer₀ buffer at i
+Inv-loop form job buffer₀ pins at₀ i₀ buffer at i = Storing form job pins buffer₀ buffer at i
 
 abbrev μ-loop : tie.MeasureT-loop
-μ-loop job buffer₀ pins at₀ i₀ buffer at i = mostPins - i
+μ-loop form job buffer₀ pins at₀ i₀ buffer at i = mostPins - i
 
 loop-holds : tie.Need-loop-holds Inv-loop μ-loop
-loop-holds c = storing-start _ _ _ (c .before .pre)
+loop-holds c = storing-start _ _ _ _ (c .before .pre .0)
 
 mul-q : tie.Need-mul-q Inv-loop μ-loop
 mul-q c = omega arith
@@ -25,10 +25,11 @@ array-copy-out-q c = omega arith
 
 write-pin-requires : tie.Need-write-pin-requires Inv-loop μ-loop
 write-pin-requires c κs =
-    let A = c .before .before .before .before .before .args in
+    let s = c .before .before .before .before .before in
+    let A = s .args in
     let L = c .before .before .before .loop in
-    let h : L .i < length (A .t1) = omega arith in
-    (storing-room (A .job) (A .t1) (A .buffer .now) (L .buffer) (L .at) (L .i) (L .inv) h, omega arith)
+    let h : L .i < length (A .t2) = omega arith in
+    (storing-room (A .form) (A .job) (A .t2) (A .buffer .now) (L .buffer) (L .at) (L .i) (L .inv) h, omega arith, net-at (A .t2) (L .i) (s .pre .1))
 
 add-i : tie.Need-add-i Inv-loop μ-loop
 add-i c = omega arith
@@ -42,9 +43,9 @@ loop-again c =
     let l = w .before .before .before .before in
     let A = l .before .before .args in
     let L = l .loop in
-    let h : L .i < length (A .t1) = omega arith in
+    let h : L .i < length (A .t2) = omega arith in
     let e = w .write-pin .ensures in
-    storing-next (A .job) (A .t1) (A .buffer .now) (L .buffer) (L .at) (L .i) (L .inv) h (omega arith) (e .0) (e .1)
+    storing-next (A .form) (A .job) (A .t2) (A .buffer .now) (L .buffer) (L .at) (L .i) (L .inv) h (omega arith) (e .0) (e .1)
 
 same-length : tie.Need-same-length Inv-loop μ-loop
 same-length c = c .before .loop .inv .same
@@ -53,8 +54,8 @@ returns : tie.Need-returns Inv-loop μ-loop
 returns c =
     let A = c .before .before .before .args in
     let L = c .before .loop in
-    let h : length (A .t1) ≤ L .i = omega arith in
-    storing-end (A .job) (A .t1) (A .buffer .now) (L .buffer) (L .at) (L .i) (L .inv) h (c .before .before .before .pre)
+    let h : length (A .t2) ≤ L .i = omega arith in
+    storing-end (A .form) (A .job) (A .t2) (A .buffer .now) (L .buffer) (L .at) (L .i) (L .inv) h (c .before .before .before .pre .0)
 
 pub write-records-spec : {M : Type 1} → statement M
 write-records-spec =

@@ -1,6 +1,6 @@
 -- `printed::print_pin` meets its contract. Assumes nothing.
 use native.Mathlib.Omega.{arith}
-use Rattle.text.proofs.Printing.{put-all3}
+use Rattle.text.proofs.Printing.{put-all5}
 use Rattle.text.specs.Text.{text}
 use Rattle.text.specs.Digits.{field, placeText}
 use Rattle.printed.specs.Answers.{pinLine}
@@ -20,6 +20,18 @@ slice-aggregate-put-place c = search needs
 put-place-requires : tie.Need-put-place-requires
 put-place-requires c κs = search needs
 
+slice-aggregate-put-field-2 : tie.Need-slice-aggregate-put-field-2
+slice-aggregate-put-field-2 c = search needs
+
+put-field-requires-2 : tie.Need-put-field-requires-2
+put-field-requires-2 c κs = search needs
+
+slice-aggregate-put-field-3 : tie.Need-slice-aggregate-put-field-3
+slice-aggregate-put-field-3 c = search needs
+
+put-field-requires-3 : tie.Need-put-field-requires-3
+put-field-requires-3 c κs = search needs
+
 slice-aggregate-put : tie.Need-slice-aggregate-put
 slice-aggregate-put c = search needs
 
@@ -29,19 +41,20 @@ put-requires c κs = search needs
 returns : tie.Need-returns
 unfolding pinLine
 returns c =
-    let s = c .before .before .before .before .before .before .before .before .before .args in
-    let a = c .before .before .before .before .before .before .put-field .ensures in
-    let b = c .before .before .before .put-place .ensures in
-    let d = c .put .ensures in
+    let s = c .before .before .before .before .before .before .before .before .before .before .before .before .before .before .before .args in
+    let a = c .before .before .before .before .before .before .before .before .before .before .before .before .put-field .ensures in
+    let b = c .before .before .before .before .before .before .before .before .before .put-place .ensures in
+    let d = c .before .before .before .before .before .before .put-field2 .ensures in
+    let e = c .before .before .before .put-field3 .ensures in
+    let f = c .put .ensures in
     let h =
-    put-all3 (s .out .now) (s .at)
+    put-all5 (s .out .now) (s .at)
     (field "pin " (s .pin))
     (placeText (text " ") (s .place))
-    (text "\n")
-    (a .0 .0, a .1)
-    (b .0 .0, b .1)
-    d in
-    ((h .0, omega (arith, a .0 .1, b .0 .1, d .0)), h .1)
+    (field " " (s .net))
+    (field " " (s .part))
+    (text "\n") (a .0 .0, a .1) (b .0 .0, b .1) (d .0 .0, d .1) (e .0 .0, e .1) f in
+    ((h .0, omega (arith, a .0 .1, b .0 .1, d .0 .1, e .0 .1, f .0)), h .1)
 
 pub print-pin-spec : {M : Type 1} → statement M
 print-pin-spec =
@@ -51,6 +64,10 @@ print-pin-spec =
     put-field-requires
     slice-aggregate-put-place
     put-place-requires
+    slice-aggregate-put-field-2
+    put-field-requires-2
+    slice-aggregate-put-field-3
+    put-field-requires-3
     slice-aggregate-put
     put-requires
     returns)

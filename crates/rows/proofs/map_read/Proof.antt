@@ -38,7 +38,7 @@ returns c =
     let t = d .before .before in
     let a = t .before .before .args in
     let y = sym (d .before .is-accepted .ensures) ∙ d .if1 .taken in
-    c .read-map .ensures ∙ read-on (taking (t .before .before)) (mapRows (a .map .now) (a .job)) (apart (t .before .before)) (t .turned-taking .ensures) (a .map .now) y
+    c .read-map .ensures ∙ read-on (taking (t .before .before)) (mapRows (a .form) (a .map .now) (a .job)) (apart (t .before .before)) (t .turned-taking .ensures) (a .form) (a .map .now) y
 
 returns-2 : tie.Need-returns-2
 returns-2 c =
@@ -46,7 +46,7 @@ returns-2 c =
     let t = d .before .before in
     let a = t .before .before .args in
     let n = sym (d .before .is-accepted .ensures) ∙ d .if1 .left in
-    rw (c .no-pins .ensures) (read-away (taking (t .before .before)) (mapRows (a .map .now) (a .job)) (apart (t .before .before)) (t .turned-taking .ensures) (a .map .now) n)
+    rw (c .no-pins .ensures) (read-away (taking (t .before .before)) (mapRows (a .form) (a .map .now) (a .job)) (apart (t .before .before)) (t .turned-taking .ensures) (a .form) (a .map .now) n)
 
 pub map-read-spec : {M : Type 1} → statement M
 map-read-spec =

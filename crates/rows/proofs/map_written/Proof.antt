@@ -6,19 +6,21 @@ use Prim.Native.Nat.{ℕ}
 use lib.ListN.{length}
 use Rattle.refusal.specs.Rows.{Row}
 use Rattle.refusal.proofs.Rows.{Apart}
+use Rattle.drawing.proofs.Rules.{lawful-parts}
+use Rattle.pinmap.specs.declared.Form.the-variants.{New}
 use Rattle.pinmap.specs.Map.{mapOf, roomRows, writeMap, bufferAfter}
 use Rattle.rows.specs.Found.{namingFound}
-use Rattle.rows.proofs.Rows.{naming-apart, write-away, write-on}
+use Rattle.rows.proofs.Rows.{naming-apart, naming-passed, write-away, write-on}
 use Rattle.rows.proofs.map_written.Statement.{statement}
 use Rattle.rows.proofs.map_written.Tie as tie
 
 -- The map that is written,
 abbrev whole : tie.Start → List ℕ
-whole s = mapOf (s .args .found .state .job) (s .args .found .state .pins)
+whole s = mapOf New (s .args .found .state .job) (s .args .found .state .pins)
 
 -- and whether there is room for it.
 abbrev room : tie.Start → List Row
-room s = roomRows (s .args .found .state .job) (s .args .found .state .pins) (length (s .args .buffer .now))
+room s = roomRows New (s .args .found .state .job) (s .args .found .state .pins) (length (s .args .buffer .now))
 
 -- 28, 1 and 2 are apart.
 apart : (s : tie.Start) → Apart (namingFound (s .args .found))
@@ -31,7 +33,12 @@ is-accepted-requires : tie.Need-is-accepted-requires
 is-accepted-requires c κs = search needs
 
 write-map-requires : tie.Need-write-map-requires
-write-map-requires c κs = search needs
+write-map-requires c κs =
+    let d = c .before .before .before in
+    let t = d .before .before in
+    let b = t .before .before in
+    let n = naming-passed (b .args .found) (t .turned-naming .ensures) (sym (d .before .is-accepted .ensures) ∙ d .if1 .taken) in
+    lawful-parts _ (b .pre (n .unbroken) (n .shown)) .nets
 
 same-length : tie.Need-same-length
 same-length c = search needs

@@ -29,8 +29,8 @@ unfolding sheetGiven
 returns c =
     let b = c .before .before in
     let t = b .before .before .without-return .ensures in
-    let volts = b .float .ensures ∙ ap floatOf (b .before .word .ensures ∙ ap (λ (l : List ℕ). word 2 (wordsOf l)) t) in
-    let ohms = c .float2 .ensures ∙ ap floatOf (c .before .word2 .ensures ∙ ap (λ (l : List ℕ). word 3 (wordsOf l)) t) in
+    let volts = b .float .ensures ∙ ap floatOf (b .before .word .ensures ∙ ap (λ (l : List ℕ). word 3 (wordsOf l)) t) in
+    let ohms = c .float2 .ensures ∙ ap floatOf (c .before .word2 .ensures ∙ ap (λ (l : List ℕ). word 4 (wordsOf l)) t) in
     λ i. record { volts = volts i; ohms = ohms i }
 
 pub given-sheet-spec : {M : Type 1} → statement M

@@ -14,7 +14,7 @@ returns : tie.Need-returns
 returns c =
     let f = c .before in
     let a = f .before .args in
-    drops-told (a .self) (a .seat) (f .find .ensures) (a .loads) (a .sheet) (c .feed-dropped .ensures)
+    drops-told (a .self) (a .seat) (f .find .ensures) (a .net) (a .loads) (a .sheet) (c .feed-dropped .ensures)
 
 pub drops-spec : {M : Type 1} → statement M
 drops-spec = tie.close (tie.spec find-requires feed-dropped-requires returns)

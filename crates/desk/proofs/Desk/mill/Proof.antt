@@ -14,7 +14,7 @@ returns : tie.Need-returns
 returns c =
     let f = c .before in
     let a = f .before .args in
-    mill-cut (a .self) (a .seat) (f .find .ensures) (a .room) (a .favour) (c .feed-milled .ensures)
+    mill-cut (a .self) (a .seat) (f .find .ensures) (a .net) (a .room) (a .favour) (c .feed-milled .ensures)
 
 pub mill-spec : {M : Type 1} → statement M
 mill-spec = tie.close (tie.spec find-requires feed-milled-requires returns)

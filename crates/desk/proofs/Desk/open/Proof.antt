@@ -17,7 +17,7 @@ use Rattle.desk.proofs.Desk.open.Tie as tie
 
 -- What the reading says.
 told : (c : tie.After-map-read) → let s = c .before .before .before .before in
-    c .map-read .result .verdict ≡ firstOf (rowsOf (lookFound (s .args .t1) (c .before .before .find .result)) (opening (s .args .seat) (s .args .job) (s .args .map .now)))
+    c .map-read .result .verdict ≡ firstOf (rowsOf (lookFound (s .args .t1) (c .before .before .find .result)) (opening (s .args .seat) (s .args .job) (s .args .form) (s .args .map .now)))
 told c = ap (λ (r : Reading). r .verdict) (c .map-read .ensures)
 
 find-requires : tie.Need-find-requires
@@ -39,8 +39,8 @@ returns c =
     let f = r .before .before in
     let a = f .before .before .args in
     c .refused .ensures
-    ∙ step-refused (a .t1) (opening (a .seat) (a .job) (a .map .now))
-    (found-answer (a .t1) (opening (a .seat) (a .job) (a .map .now)) (f .find .ensures) (told r))
+    ∙ step-refused (a .t1) (opening (a .seat) (a .job) (a .form) (a .map .now))
+    (found-answer (a .t1) (opening (a .seat) (a .job) (a .form) (a .map .now)) (f .find .ensures) (told r))
     (refused _ (b .before .is-accepted .ensures) (b .if1 .taken))
 
 open-seat-requires : tie.Need-open-seat-requires
@@ -53,10 +53,10 @@ low c =
     let r = b .before .before in
     let f = r .before .before in
     let a = f .before .before .args in
-    found-low (a .t1) (opening (a .seat) (a .job) (a .map .now)) (f .find .ensures) (told r) (went _ (b .before .is-accepted .ensures) (b .if1 .left))
+    found-low (a .t1) (opening (a .seat) (a .job) (a .form) (a .map .now)) (f .find .ensures) (told r) (went _ (b .before .is-accepted .ensures) (b .if1 .left))
 
-mul-t16 : tie.Need-mul-t16
-mul-t16 c = omega (arith, low c)
+mul-t17 : tie.Need-mul-t17
+mul-t17 c = omega (arith, low c)
 
 element-set-from-self : tie.Need-element-set-from-self
 element-set-from-self c = low c
@@ -69,9 +69,9 @@ returns-2 c =
     let f = r .before .before in
     let a = f .before .before .args in
     let y = went _ (b .before .is-accepted .ensures) (b .if1 .left) in
-    step-accepted (a .t1) (opening (a .seat) (a .job) (a .map .now))
-    (found-answer (a .t1) (opening (a .seat) (a .job) (a .map .now)) (f .find .ensures) (told r)) y
-    (rw (c .open-seat .ensures, open-read (a .t1) (a .seat) (a .job) (a .map .now) (f .find .ensures) (r .map-read .ensures) y))
+    step-accepted (a .t1) (opening (a .seat) (a .job) (a .form) (a .map .now))
+    (found-answer (a .t1) (opening (a .seat) (a .job) (a .form) (a .map .now)) (f .find .ensures) (told r)) y
+    (rw (c .open-seat .ensures, open-read (a .t1) (a .seat) (a .job) (a .form) (a .map .now) (f .find .ensures) (r .map-read .ensures) y))
 
 pub open-spec : {M : Type 1} → statement M
 open-spec =
@@ -83,6 +83,6 @@ open-spec =
     refused-requires
     returns
     open-seat-requires
-    mul-t16
+    mul-t17
     element-set-from-self
     returns-2)

@@ -17,7 +17,7 @@ returns : tie.Need-returns
 returns c =
     let f = c .before in
     let a = f .before .args in
-    c .make .ensures ∙ found-making (a .self) (a .seat) (f .find .ensures) (Placing (a .pin) (holding (a .at)))
+    c .make .ensures ∙ found-making (a .self) (a .seat) (f .find .ensures) (Placing (a .pin) (holding (a .at) (a .net) (a .part)))
 
 pub place-spec : {M : Type 1} → statement M
 place-spec = tie.close (tie.spec find-requires make-requires returns)

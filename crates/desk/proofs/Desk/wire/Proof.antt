@@ -14,7 +14,7 @@ returns : tie.Need-returns
 returns c =
     let f = c .before in
     let a = f .before .args in
-    wire-laid (a .self) (a .seat) (f .find .ensures) (a .room) (a .favour) (c .feed-wired .ensures)
+    wire-laid (a .self) (a .seat) (f .find .ensures) (a .net) (a .room) (a .favour) (c .feed-wired .ensures)
 
 pub wire-spec : {M : Type 1} → statement M
 wire-spec = tie.close (tie.spec find-requires feed-wired-requires returns)

@@ -1,6 +1,6 @@
 -- `desk::Desk::write` meets its contract, by what is found. Assumes nothing.
 use borrow.Author.Needs.{needs}
-use Rattle.desk.proofs.Writing.{write-done, write-left}
+use Rattle.desk.proofs.Writing.{found-lawful, write-done, write-left}
 use Rattle.desk.proofs.Desk.write.Statement.{statement}
 use Rattle.desk.proofs.Desk.write.Tie as tie
 
@@ -8,7 +8,10 @@ find-requires : tie.Need-find-requires
 find-requires c κs = search needs
 
 map-written-requires : tie.Need-map-written-requires
-map-written-requires c κs = search needs
+map-written-requires c κs =
+    let f = c .before in
+    let a = f .before .before .args in
+    found-lawful (a .self) (a .seat) (f .find .ensures)
 
 same-length : tie.Need-same-length
 same-length c = search needs

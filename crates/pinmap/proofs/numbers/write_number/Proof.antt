@@ -1,75 +1,28 @@
--- `pinmap::write_number` meets its contract: four stores. Assumes nothing.
-use borrow.Author.Needs.{needs}
-use native.Mathlib.Omega.{arith}
-use mathlib.Core.Path.{_≡_, _∙_, ap}
-use lib.ListN.{length-set}
+-- `pinmap::write_number` meets its contract: the bits of the number. Assumes nothing.
+use mathlib.Core.Path.{_≡_, ap, _∙_}
 use mir.Syntax.{w32}
 use mir.Val.{ofZ}
 use mir.Facts.{toZ-ofZ}
-use Rattle.pinmap.specs.Number.{putAt, firstByte, secondByte, thirdByte, fourthByte}
+use borrow.Author.Needs.{needs}
 use Rattle.pinmap.proofs.numbers.write_number.Statement.{statement}
 use Rattle.pinmap.proofs.numbers.write_number.Tie as tie
 
 to-bits-requires : tie.Need-to-bits-requires
 to-bits-requires c κs = search needs
 
-cast-bytes : tie.Need-cast-bytes
-cast-bytes c = search needs
-
-slice-write-bytes : tie.Need-slice-write-bytes
-slice-write-bytes c = search needs
-
-cast-bytes-2 : tie.Need-cast-bytes-2
-cast-bytes-2 c = search needs
-
-add-bytes : tie.Need-add-bytes
-add-bytes c = search needs
-
-slice-write-bytes-2 : tie.Need-slice-write-bytes-2
-slice-write-bytes-2 c = simp length-set (omega arith)
-
-cast-bytes-3 : tie.Need-cast-bytes-3
-cast-bytes-3 c = search needs
-
-add-bytes-2 : tie.Need-add-bytes-2
-add-bytes-2 c = search needs
-
-slice-write-bytes-3 : tie.Need-slice-write-bytes-3
-slice-write-bytes-3 c = simp length-set (omega arith)
-
-cast-bytes-4 : tie.Need-cast-bytes-4
-cast-bytes-4 c = search needs
-
-add-bytes-3 : tie.Need-add-bytes-3
-add-bytes-3 c = search needs
-
-slice-write-bytes-4 : tie.Need-slice-write-bytes-4
-slice-write-bytes-4 c = simp length-set (omega arith)
+write-bits-requires : tie.Need-write-bits-requires
+write-bits-requires c κs = search needs
 
 same-length : tie.Need-same-length
 same-length c = search needs
 
 returns : tie.Need-returns
-unfolding putAt firstByte secondByte thirdByte fourthByte
 returns c =
-    let e : c .to-bits .result ≡ ofZ w32 (c .before .before .args .z) = c .to-bits .ensures ∙ ap (ofZ w32) (toZ-ofZ (c .before .before .fits .z)) in
-    rw e
+    let w = c .before .before in
+    let t = w .before in
+    let A = t .before .before .before in
+    let e : t .to-bits .result ≡ ofZ w32 (A .args .z) = t .to-bits .ensures ∙ ap (ofZ w32) (toZ-ofZ (A .fits .z)) in
+    w .write-bits .ensures ∙ rw e
 
 pub write-number-spec : {M : Type 1} → statement M
-write-number-spec =
-    tie.close
-    (tie.spec
-    to-bits-requires
-    cast-bytes
-    slice-write-bytes
-    cast-bytes-2
-    add-bytes
-    slice-write-bytes-2
-    cast-bytes-3
-    add-bytes-2
-    slice-write-bytes-3
-    cast-bytes-4
-    add-bytes-3
-    slice-write-bytes-4
-    same-length
-    returns)
+write-number-spec = tie.close (tie.spec to-bits-requires write-bits-requires same-length returns)

@@ -10,7 +10,7 @@ count-words-requires : tie.Need-count-words-requires
 count-words-requires c κs = search needs
 
 returns : tie.Need-returns
-returns c = placing-few _ (c .before .count-words .ensures) (c .if1 .taken)
+returns c = placing-few _ _ (c .before .count-words .ensures) (c .if1 .taken)
 
 word-requires : tie.Need-word-requires
 word-requires c κs = search needs
@@ -25,7 +25,7 @@ enum-told : tie.Need-enum-told
 enum-told c = search needs
 
 returns-2 : tie.Need-returns-2
-returns-2 c = placing-seat _ (c .before .before .before .before .before .count-words .ensures) (c .before .before .before .before .if1 .left) (c .before .before .before .word .ensures) (sym (c .enum-told .given .1) ∙ c .before .before .number .ensures)
+returns-2 c = placing-seat _ _ (c .before .before .before .before .before .count-words .ensures) (c .before .before .before .before .if1 .left) (c .before .before .before .word .ensures) (sym (c .enum-told .given .1) ∙ c .before .before .number .ensures)
 
 word-requires-2 : tie.Need-word-requires-2
 word-requires-2 c κs = search needs
@@ -42,7 +42,7 @@ enum-told-2 c = search needs
 returns-3 : tie.Need-returns-3
 returns-3 c =
     let seat = sym (c .before .before .before .before .before .seat .given .1) ∙ c .before .before .before .before .before .before .before .number .ensures in
-    placing-pin _ (c .before .before .before .before .before .before .before .before .before .before .count-words .ensures) (c .before .before .before .before .before .before .before .before .before .if1 .left) (c .before .before .before .before .before .before .before .before .word .ensures) seat (c .before .before .before .word2 .ensures) (sym (c .enum-told2 .given .1) ∙ c .before .before .number2 .ensures)
+    placing-pin _ _ (c .before .before .before .before .before .before .before .before .before .before .count-words .ensures) (c .before .before .before .before .before .before .before .before .before .if1 .left) (c .before .before .before .before .before .before .before .before .word .ensures) seat (c .before .before .before .word2 .ensures) (sym (c .enum-told2 .given .1) ∙ c .before .before .number2 .ensures)
 
 word-requires-3 : tie.Need-word-requires-3
 word-requires-3 c κs = search needs
@@ -60,7 +60,7 @@ returns-4 : tie.Need-returns-4
 returns-4 c =
     let seat = sym (c .before .before .before .before .before .before .before .before .before .before .seat .given .1) ∙ c .before .before .before .before .before .before .before .before .before .before .before .before .number .ensures in
     let pin = sym (c .before .before .before .before .before .pin .given .1) ∙ c .before .before .before .before .before .before .before .number2 .ensures in
-    placing-x _ (c .before .before .before .before .before .before .before .before .before .before .before .before .before .before .before .count-words .ensures) (c .before .before .before .before .before .before .before .before .before .before .before .before .before .before .if1 .left) (c .before .before .before .before .before .before .before .before .before .before .before .before .before .word .ensures) seat (c .before .before .before .before .before .before .before .before .word2 .ensures) pin (c .before .before .before .word3 .ensures) (sym (c .enum-told3 .given .1) ∙ c .before .before .coordinate .ensures)
+    placing-x _ _ (c .before .before .before .before .before .before .before .before .before .before .before .before .before .before .before .count-words .ensures) (c .before .before .before .before .before .before .before .before .before .before .before .before .before .before .if1 .left) (c .before .before .before .before .before .before .before .before .before .before .before .before .before .word .ensures) seat (c .before .before .before .before .before .before .before .before .word2 .ensures) pin (c .before .before .before .word3 .ensures) (sym (c .enum-told3 .given .1) ∙ c .before .before .coordinate .ensures)
 
 word-requires-4 : tie.Need-word-requires-4
 word-requires-4 c κs = search needs
@@ -79,7 +79,7 @@ returns-5 c =
     let seat = sym (c .before .before .before .before .before .before .before .before .before .before .before .before .before .before .before .seat .given .1) ∙ c .before .before .before .before .before .before .before .before .before .before .before .before .before .before .before .before .before .number .ensures in
     let pin = sym (c .before .before .before .before .before .before .before .before .before .before .pin .given .1) ∙ c .before .before .before .before .before .before .before .before .before .before .before .before .number2 .ensures in
     let x = sym (c .before .before .before .before .before .x .given .1) ∙ c .before .before .before .before .before .before .before .coordinate .ensures in
-    placing-y _ (c .before .before .before .before .before .before .before .before .before .before .before .before .before .before .before .before .before .before .before .before .count-words .ensures) (c .before .before .before .before .before .before .before .before .before .before .before .before .before .before .before .before .before .before .before .if1 .left) (c .before .before .before .before .before .before .before .before .before .before .before .before .before .before .before .before .before .before .word .ensures) seat (c .before .before .before .before .before .before .before .before .before .before .before .before .before .word2 .ensures) pin (c .before .before .before .before .before .before .before .before .word3 .ensures) x (c .before .before .before .word4 .ensures)
+    placing-y _ _ (c .before .before .before .before .before .before .before .before .before .before .before .before .before .before .before .before .before .before .before .before .count-words .ensures) (c .before .before .before .before .before .before .before .before .before .before .before .before .before .before .before .before .before .before .before .if1 .left) (c .before .before .before .before .before .before .before .before .before .before .before .before .before .before .before .before .before .before .word .ensures) seat (c .before .before .before .before .before .before .before .before .before .before .before .before .before .word2 .ensures) pin (c .before .before .before .before .before .before .before .before .word3 .ensures) x (c .before .before .before .word4 .ensures)
     (sym (c .enum-told4 .given .1) ∙ c .before .before .coordinate2 .ensures)
 
 returns-6 : tie.Need-returns-6
@@ -88,7 +88,7 @@ returns-6 c =
     let pin = sym (c .before .before .before .before .before .before .before .before .before .before .before .pin .given .1) ∙ c .before .before .before .before .before .before .before .before .before .before .before .before .before .number2 .ensures in
     let x = sym (c .before .before .before .before .before .before .x .given .1) ∙ c .before .before .before .before .before .before .before .before .coordinate .ensures in
     let y = sym (c .before .y .given .1) ∙ c .before .before .before .coordinate2 .ensures in
-    placing-all _ (c .before .before .before .before .before .before .before .before .before .before .before .before .before .before .before .before .before .before .before .before .before .count-words .ensures) (c .before .before .before .before .before .before .before .before .before .before .before .before .before .before .before .before .before .before .before .before .if1 .left) (c .before .before .before .before .before .before .before .before .before .before .before .before .before .before .before .before .before .before .before .word .ensures) seat (c .before .before .before .before .before .before .before .before .before .before .before .before .before .before .word2 .ensures) pin (c .before .before .before .before .before .before .before .before .before .word3 .ensures) x (c .before .before .before .before .word4 .ensures) y
+    placing-all _ _ (c .before .before .before .before .before .before .before .before .before .before .before .before .before .before .before .before .before .before .before .before .before .count-words .ensures) (c .before .before .before .before .before .before .before .before .before .before .before .before .before .before .before .before .before .before .before .before .if1 .left) (c .before .before .before .before .before .before .before .before .before .before .before .before .before .before .before .before .before .before .before .word .ensures) seat (c .before .before .before .before .before .before .before .before .before .before .before .before .before .before .word2 .ensures) pin (c .before .before .before .before .before .before .before .before .before .word3 .ensures) x (c .before .before .before .before .word4 .ensures) y
     (held (c .before .before .before .before .before .before .x .given .0 .0) (c .before .before .before .before .before .known-told3 .given .0 .1)) (held (c .before .y .given .0 .0) (c .known-told4 .given .0 .1))
 
 pub placing-spec : {M : Type 1} → statement M

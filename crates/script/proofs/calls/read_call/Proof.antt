@@ -45,6 +45,12 @@ at11 c = at10 (c .before .before .before)
 abbrev at12 : tie.Else12 → tie.After-word
 at12 c = at11 (c .before .before .before)
 
+abbrev at13 : tie.Else13 → tie.After-word
+at13 c = at12 (c .before .before .before)
+
+abbrev at14 : tie.Else14 → tie.After-word
+at14 c = at13 (c .before .before .before)
+
 word-requires : tie.Need-word-requires
 word-requires c κs = search needs
 
@@ -234,18 +240,50 @@ slice-aggregate-same-13 c = search needs
 same-requires-13 : tie.Need-same-requires-13
 same-requires-13 c κs = search needs
 
-read-pins-requires : tie.Need-read-pins-requires
-read-pins-requires c κs = search needs
+read-over-requires : tie.Need-read-over-requires
+read-over-requires c κs = search needs
 
 returns-13 : tie.Need-returns-13
 unfolding saidAs same both choose
 returns-13 c =
-    c .read-pins .ensures
-    ∙ named "pins" _ (at12 (c .before .before .before .before) .word .ensures) (sym (c .before .before .same13 .ensures) ∙ c .before .if13 .taken)
+    c .read-over .ensures
+    ∙ named "over" _ (at12 (c .before .before .before .before) .word .ensures) (sym (c .before .before .same13 .ensures) ∙ c .before .if13 .taken)
+
+slice-aggregate-same-14 : tie.Need-slice-aggregate-same-14
+slice-aggregate-same-14 c = search needs
+
+same-requires-14 : tie.Need-same-requires-14
+same-requires-14 c κs = search needs
+
+read-back-requires : tie.Need-read-back-requires
+read-back-requires c κs = search needs
 
 returns-14 : tie.Need-returns-14
+unfolding saidAs same both choose
 returns-14 c =
-    let e12 = c .before .before .before in
+    c .read-back .ensures
+    ∙ named "back" _ (at13 (c .before .before .before .before) .word .ensures) (sym (c .before .before .same14 .ensures) ∙ c .before .if14 .taken)
+
+slice-aggregate-same-15 : tie.Need-slice-aggregate-same-15
+slice-aggregate-same-15 c = search needs
+
+same-requires-15 : tie.Need-same-requires-15
+same-requires-15 c κs = search needs
+
+read-pins-requires : tie.Need-read-pins-requires
+read-pins-requires c κs = search needs
+
+returns-15 : tie.Need-returns-15
+unfolding saidAs same both choose
+returns-15 c =
+    c .read-pins .ensures
+    ∙ named "pins" _ (at14 (c .before .before .before .before) .word .ensures) (sym (c .before .before .same15 .ensures) ∙ c .before .if15 .taken)
+
+returns-16 : tie.Need-returns-16
+returns-16 c =
+    let e14 = c .before .before .before in
+    let e13 = e14 .before .before .before in
+    let e12 = e13 .before .before .before in
     let e11 = e12 .before .before .before in
     let e10 = e11 .before .before .before in
     let e9 = e10 .before .before .before in
@@ -270,7 +308,9 @@ returns-14 c =
     (sym (e10 .before .same10 .ensures) ∙ e10 .if10 .left)
     (sym (e11 .before .same11 .ensures) ∙ e11 .if11 .left)
     (sym (e12 .before .same12 .ensures) ∙ e12 .if12 .left)
-    (sym (c .before .same13 .ensures) ∙ c .if13 .left)
+    (sym (e13 .before .same13 .ensures) ∙ e13 .if13 .left)
+    (sym (e14 .before .same14 .ensures) ∙ e14 .if14 .left)
+    (sym (c .before .same15 .ensures) ∙ c .if15 .left)
 
 pub read-call-spec : {M : Type 1} → statement M
 read-call-spec =
@@ -327,6 +367,14 @@ read-call-spec =
     returns-12
     slice-aggregate-same-13
     same-requires-13
-    read-pins-requires
+    read-over-requires
     returns-13
-    returns-14)
+    slice-aggregate-same-14
+    same-requires-14
+    read-back-requires
+    returns-14
+    slice-aggregate-same-15
+    same-requires-15
+    read-pins-requires
+    returns-15
+    returns-16)

@@ -1,7 +1,6 @@
 -- `script::read_move` meets its contract. Assumes nothing.
 use mathlib.Core.Path.{sym, _∙_}
-use Rattle.script.proofs.Asking.{placing-no, placing-yes}
-use Rattle.script.specs.declared.Said.{Said}
+use Rattle.script.proofs.Asking.{move-few, move-yes}
 use borrow.Author.Needs.{needs}
 use Rattle.script.proofs.calls.read_move.Statement.{statement}
 use Rattle.script.proofs.calls.read_move.Tie as tie
@@ -16,10 +15,10 @@ enum-told : tie.Need-enum-told
 enum-told c = search needs
 
 returns : tie.Need-returns
-returns c = placing-no _ Said.Move (sym (c .enum-told .given .1) ∙ c .before .before .placing .ensures)
+returns c = move-few _ (sym (c .enum-told .given .1) ∙ c .before .before .placing .ensures)
 
 returns-2 : tie.Need-returns-2
-returns-2 c = placing-yes _ Said.Move (sym (c .before .seat .given .1) ∙ c .before .before .before .placing .ensures)
+returns-2 c = move-yes _ (sym (c .before .seat .given .1) ∙ c .before .before .before .placing .ensures)
 
 pub read-move-spec : {M : Type 1} → statement M
 read-move-spec = tie.close (tie.spec placing-requires enum-known-seat enum-told returns returns-2)

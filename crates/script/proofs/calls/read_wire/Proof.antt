@@ -1,8 +1,7 @@
 -- `script::read_wire` meets its contract. Assumes nothing.
 use mathlib.Core.Path.{sym, _∙_}
-use Rattle.script.specs.Said.{isLending, lendingCall}
 use Rattle.script.specs.declared.Said.{Said}
-use Rattle.script.proofs.Asking.{pair-no, pair-yes}
+use Rattle.script.proofs.Asking.{lending-no, lending-yes}
 use borrow.Author.Needs.{needs}
 use Rattle.script.proofs.calls.read_wire.Statement.{statement}
 use Rattle.script.proofs.calls.read_wire.Tie as tie
@@ -17,12 +16,10 @@ enum-told : tie.Need-enum-told
 enum-told c = search needs
 
 returns : tie.Need-returns
-unfolding lendingCall
-returns c = pair-no isLending Said.Wire _ (sym (c .enum-told .given .1) ∙ c .before .before .lending .ensures)
+returns c = lending-no _ Said.Wire (sym (c .enum-told .given .1) ∙ c .before .before .lending .ensures)
 
 returns-2 : tie.Need-returns-2
-unfolding lendingCall
-returns-2 c = pair-yes isLending Said.Wire _ (sym (c .before .seat .given .1) ∙ c .before .before .before .lending .ensures)
+returns-2 c = lending-yes _ Said.Wire (sym (c .before .seat .given .1) ∙ c .before .before .before .lending .ensures)
 
 pub read-wire-spec : {M : Type 1} → statement M
 read-wire-spec = tie.close (tie.spec lending-requires enum-known-seat enum-told returns returns-2)
