@@ -351,21 +351,6 @@ static int grow(const Pin *pins, Run *run) {
     }
 }
 
-static bool ranges_meet(int32_t a, int32_t b, int32_t c, int32_t d) {
-    return (a < b ? a : b) <= (c < d ? d : c) && (c < d ? c : d) <= (a < b ? b : a);
-}
-
-static bool boxes_meet(const Pin *pins, const Run *run, int n) {
-    for (int i = 0; i < n; i++)
-        for (int j = 0; j < i; j++) {
-            Run r = run[i], s = run[j];
-            if (r.near == s.near || r.near == s.far || r.far == s.near || r.far == s.far) continue;
-            Place a = pins[r.near].at, b = pins[r.far].at, c = pins[s.near].at, d = pins[s.far].at;
-            if (ranges_meet(a.x, b.x, c.x, d.x) && ranges_meet(a.y, b.y, c.y, d.y)) return true;
-        }
-    return false;
-}
-
 static Place corner(Place a, Place b, Shape shape) {
     bool at_b = shape == LOWER ? b.y < a.y : b.y > a.y;
     return at_b ? (Place){a.x, b.y} : (Place){b.x, a.y};
@@ -521,14 +506,14 @@ static int64_t choices_weighed(const Pin *pins, const Run *run, int n) {
     return sum;
 }
 
-// Joins the pins by runs: 17, 18.
+// Joins the pins by runs: 17.
 static Verdict join_pins(const Pin *pins, Run *run, int *runs) {
     if (pins_there(pins) == 0) return refused(17);
     *runs = grow(pins, run);
-    return boxes_meet(pins, run, *runs) ? refused(18) : accepted;
+    return accepted;
 }
 
-// Joins the pins by runs, chooses their shapes and lays their legs: 17, 18. The length is that of the sum over pins.
+// Joins the pins by runs, chooses their shapes and lays their legs: 17. The length is that of the sum over pins.
 static Verdict shape_pins(const Pin *pins, Shape favoured, Wiring *w) {
     Verdict v = join_pins(pins, w->run, &w->runs);
     if (v.number) return v;
@@ -544,7 +529,7 @@ static void expect_length(const Wiring *w, int64_t length) {
     if (w->length != length) fprintf(stderr, "the sum over pins is not the length\n"), exit(1);
 }
 
-// Wires the pins: 17, 18, 19.
+// Wires the pins: 17, 19.
 static Verdict wire_pins(const Pin *pins, unsigned room, Shape favoured, Wiring *w) {
     Verdict v = shape_pins(pins, favoured, w);
     if (v.number) return v;
@@ -584,7 +569,7 @@ static Verdict wire_bare(const int32_t *xs, unsigned x_count, const int32_t *ys,
 
 // ---- A clean copper list for the mill ----
 
-// The copper of a net's pins as stretches, which are in the order of the list and none of which can be joined to another: 28, 1, 2, 21, 17, 18, 19.
+// The copper of a net's pins as stretches, which are in the order of the list and none of which can be joined to another: 28, 1, 2, 21, 17, 19.
 static Verdict mill_net(const Desk *desk, uint32_t seat, uint32_t net, unsigned room, Shape favoured, Stretch *s, int *segments) {
     Pin pins[PINS];
     Wiring w;
@@ -641,7 +626,7 @@ static void find_drops(const Pin *pins, const Run *run, int n, const float *curr
     }
 }
 
-// The drops of a net's pins, into 32 that are 0: 28, 1, 2, 21, 17, 18, 20.
+// The drops of a net's pins, into 32 that are 0: 28, 1, 2, 21, 17, 20.
 static Verdict drops_of_net(const Desk *desk, uint32_t seat, uint32_t net, Sheet sheet, const Load *loads, float *drop) {
     Pin pins[PINS];
     Run run[PINS - 1];

@@ -1,9 +1,9 @@
--- Bare wiring gives each refusal exactly under its condition and after those before it: 16, 17, 8, 9, 18, 19; and 18 never. Assumes nothing.
+-- Bare wiring gives each refusal exactly under its condition and after those before it: 16, 17, 8, 9, 19; and the boxes of the runs
+-- of lists that pass all but the last never meet. Assumes nothing.
 use mathlib.Core.Path.{_≡_, refl, sym, ap, _∙_}
-use mathlib.Core.Bool.{Bool, true, false, true≢false}
+use mathlib.Core.Bool.{Bool, true, false}
 use mathlib.Core.List.{List, [], _∷_, _++_}
 use Prim.Native.Nat.{ℕ}
-use native.Mathlib.Omega.{arith}
 use borrow.Author.Tests.{not-false}
 use lib.IntN.{ℤ}
 use lib.Dec.{eqb}
@@ -11,11 +11,11 @@ use lib.ListN.{length, drop}
 use Rattle.basics.specs.Tests.{both, choose}
 use Rattle.basics.specs.Lists.{valuesFrom}
 use Rattle.refusal.specs.Refusals.{accepted}
-use Rattle.refusal.specs.Rows.{Row, firstOf, refusalAt, Given, NoneHolds, Exactly}
-use Rattle.refusal.specs.declared.Verdict.the-variants.{BoxesMeet}
+use Rattle.refusal.specs.Rows.{Row, firstOf, NoneHolds, Exactly}
 use Rattle.refusal.proofs.Rows.{distinct, unlike, Apart, apart-by, joined, miss, none-holds, exactly}
 use Rattle.board.specs.Spots.{spotsFrom}
-use Rattle.tree.specs.Growth.{keptIf, pinsFrom, pinsOf}
+use Rattle.tree.specs.Growth.{keptIf, pinsFrom, pinsOf, runsOf}
+use Rattle.tree.specs.Boxes.{boxesApart}
 use Rattle.tree.specs.Trees.{none}
 use Rattle.spanning.proofs.Apart.{never-meet}
 use Rattle.wiring.specs.Answer.{wiringOf, feedRows}
@@ -57,9 +57,7 @@ module _ (xs ys : List ℤ) (room : ℕ) (favour : Favour) where
   pub bare-exactly : Exactly (bareRows xs ys room favour) (bareOf xs ys room favour .wiring .verdict)
   bare-exactly = rw answer-is (exactly (bareRows xs ys room favour) bare-apart)
 
-  -- 18 NEVER COMES: where the rows before it pass, the pins are on the board, so that no boxes meet.
-  pub bare-never-18 : bareOf xs ys room favour .wiring .verdict ≡ BoxesMeet → ⊥
-  unfolding refusalAt Given
-  bare-never-18 e =
-      let g = bare-exactly .refused 4 (omega arith) .0 e in
-      true≢false (sym (g .1 .1 .1 .1) ∙ never-meet (feedOfLists xs ys) (feed-many xs ys) (not-false _ (g .1 .1 .0)))
+-- THE BOXES OF TWO RUNS WITHOUT A COMMON PIN NEVER SHARE A POINT, for any lists to which none of 16, 17, 8 and 9 applies.
+pub bare-boxes-apart : (xs ys : List ℤ) → NoneHolds (listRows xs ys) → boxesApart (feedOfLists xs ys) (runsOf (feedOfLists xs ys)) ≡ true
+unfolding NoneHolds
+bare-boxes-apart xs ys n = never-meet (feedOfLists xs ys) (feed-many xs ys) (not-false _ (n .1 .1 .0))

@@ -16,7 +16,6 @@ use Rattle.tree.specs.Weight.{weightOf, pairOf, byPart, byNumber, comesBefore}
 use Rattle.board.specs.Place.{distanceOf}
 use Rattle.board.specs.Spots.{spotsFrom, within, spotsTooNear}
 use Rattle.tree.specs.Growth.{pairAt, sooner, keptIf, pinsFrom, without, runsFrom, runsBetween, earliest, earliestOf, nextRun, grown, runsAmong, pinsOf, runsOf}
-use Rattle.tree.specs.Boxes.{belowBoth, under, overlap, boxesShare, isEnd, common, clash}
 use Rattle.tree.specs.Bends.{bent}
 use Rattle.basics.specs.Sums.{howMany}
 use Rattle.tree.specs.Trees.{mostRuns}
@@ -69,8 +68,8 @@ pub worked : (map (wiringOfBoard Favour.Lower) boards ≡ answers)
     × (map (λ favour. wiringOfBoard favour W2) (Favour.Upper ∷ Favour.Unsaid ∷ []) ≡ upperAnswer ∷ upperAnswer ∷ [])
 unfolding bareOf wrongLengths feedOfLists spotsFrom valuesFrom within noTwo anyOf spotsTooNear wiringOf wiringFavouring wiringWith answerWith
     turnedAway legEntries runEntries shapedRuns weighedOf sum weighedAt howMany bent bestChoice shortestOf shortest lengthOfChoice legsOfChoice choicesOf withShapes
-    withShape shapesOf bentShapes lengthOf different stepsOfAll stepsOf smaller stepsUp stepsAcross sameStep legsOf lowerCorner upperCorner isStraight clash
-    common isEnd boxesShare overlap under belowBoth runsOf pinsOf runsAmong grown nextRun earliestOf earliest runsBetween runsFrom without pinsFrom keptIf
+    withShape shapesOf bentShapes lengthOf different stepsOfAll stepsOf smaller stepsUp stepsAcross sameStep legsOf lowerCorner upperCorner isStraight
+    runsOf pinsOf runsAmong grown nextRun earliestOf earliest runsBetween runsFrom without pinsFrom keptIf
     sooner pairAt eachOf comesBefore byPart byNumber pairOf weightOf distanceOf difference larger sameNumber onBoard inside closer tooNear accepted firstOf both
     either choose
 worked = (refl, refl)

@@ -32,7 +32,7 @@ listRows xs ys =
     ∷ given (not (allApart (feedOfLists xs ys))) PinTooNear
     ∷ []
 
--- Bare wiring: 16, 17, 8, 9, then what wiring the feed says after its 17: 18, 19.
+-- Bare wiring: 16, 17, 8, 9, then what wiring the feed says after its 17: 19.
 abbrev pub bareRows : List ℤ → List ℤ → ℕ → Favour → List Row
 bareRows xs ys room favour = listRows xs ys ++ drop 1 (feedRows (feedOfLists xs ys) room favour)
 

@@ -25,7 +25,7 @@ fn wrong_lengths(xs: &[i32], ys: &[i32]) -> bool
     PINS < xs.len()
 }
 
-// Wires lists whose lengths are right and that are not empty, or says why not: 8, 9, 18, 19. Pins are numbered by position.
+// Wires lists whose lengths are right and that are not empty, or says why not: 8, 9, 19. Pins are numbered by position.
 fn wire_listed(xs: &[i32], ys: &[i32], room: usize, favour: Favour) -> Laid
     requires { ⌜ (wrongLengths (now xs) (now ys) ≡ false) × (length (now xs) ≡ 0 → ⊥) ⌝ }
     ensures { λ r. ⌜ r ≡ bareOf (now (xs .entry)) (now (ys .entry)) room favour ⌝ }
@@ -51,7 +51,7 @@ fn wire_listed(xs: &[i32], ys: &[i32], room: usize, favour: Favour) -> Laid
     wiring::wire_feed(&across, &up, &there, room, favour)
 }
 
-// Wires lists of x and y with room for so many legs, as is said of the shape to favour; or says why not: 16, 17, 8, 9, 18, 19.
+// Wires lists of x and y with room for so many legs, as is said of the shape to favour; or says why not: 16, 17, 8, 9, 19.
 pub fn wire_bare(xs: &[i32], ys: &[i32], room: usize, favour: Favour) -> Laid
     ensures { λ r. ⌜ r ≡ bareOf (now (xs .entry)) (now (ys .entry)) room favour ⌝ }
 {

@@ -61,7 +61,7 @@ module _ (feed : List Spot) (loads : List Loaded) (sheet : Sheet) (t : Tree) (et
   abbrev fit : Bool
   fit = both (sheetFits sheet) (loadsFit loads (pinsOf feed))
 
-  -- The tree carries 17, 18 or nothing.
+  -- The tree carries 17 or nothing.
   verdict-is : t .verdict ≡ firstOf (treeRows feed)
   verdict-is = ap (λ (z : Tree). z .verdict) et ∙ tree-verdict feed
 

@@ -4,7 +4,7 @@ use mathlib.Core.Bool.{true, false}
 use mathlib.Core.List.{List, [], _∷_, map}
 use lib.IntN.{pos, negsuc}
 use lib.Ieee.{Float, nan, inf, fin, add, mul, div, ofInt, le}
-use Rattle.basics.specs.Tests.{both, either, choose, anyOf, eachOf, noTwo}
+use Rattle.basics.specs.Tests.{both, choose, eachOf}
 use Rattle.basics.specs.Lists.{padded}
 use Rattle.refusal.specs.Refusals.{accepted}
 use Rattle.refusal.specs.Rows.{firstOf}
@@ -17,7 +17,6 @@ use Rattle.board.specs.Place.{difference, larger, distanceOf}
 use Rattle.board.specs.Spots.{mostPins}
 use Rattle.tree.specs.Weight.{weightOf, pairOf, byPart, byNumber, comesBefore}
 use Rattle.tree.specs.Growth.{pairAt, sooner, keptIf, pinsFrom, without, runsFrom, runsBetween, earliest, earliestOf, nextRun, grown, runsAmong, pinsOf, runsOf}
-use Rattle.tree.specs.Boxes.{belowBoth, under, overlap, boxesShare, isEnd, common, clash}
 use Rattle.drops.specs.declared.Sheet.{Sheet}
 use Rattle.drops.specs.declared.Load.{Load}
 use Rattle.drops.specs.declared.Load.the-variants.{Amps, Watts, Spare}
@@ -58,14 +57,13 @@ lost drops = record { verdict = Accepted; drops = padded mostPins nought drops }
 -- 4 amps over 120 steps, then 2 amps over 80 steps more.
 worked : (lostOf (feed W2) (loads (Spare ∷ Amps two ∷ Amps nan ∷ [])) sheet ≡ lost (nought ∷ fin false 13421773 (negsuc 25) ∷ []))
     × (lostOf (feed W3) (loads (Spare ∷ Amps two ∷ lamp ∷ [])) sheet ≡ lost (nought ∷ fin false 1006633 (negsuc 20) ∷ fin false 10737419 (negsuc 23) ∷ []))
-unfolding lostOf dropsOf dropsAfter currentsOf plusLeadingOn ampsOf loadFits sheetFits add mul div ofInt le accepted firstOf noTwo anyOf eachOf clash common isEnd boxesShare overlap
-    under belowBoth runsOf pinsOf runsAmong grown nextRun earliestOf earliest runsBetween runsFrom without pinsFrom keptIf sooner pairAt comesBefore byPart byNumber
-    pairOf weightOf distanceOf difference larger both either choose
+unfolding lostOf dropsOf dropsAfter currentsOf plusLeadingOn ampsOf loadFits sheetFits add mul div ofInt le accepted firstOf eachOf runsOf pinsOf runsAmong grown nextRun earliestOf earliest runsBetween runsFrom without pinsFrom keptIf sooner pairAt comesBefore byPart byNumber
+    pairOf weightOf distanceOf difference larger both choose
 worked = (refl, refl)
 
 -- 20, where the load of the feed's own pin is a NaN: all drops are 0.
 out-of-range : lostOf (feed W2) (loads (Watts nan ∷ Amps two ∷ [])) sheet ≡ noneLost OutOfRange
-unfolding lostOf noneLost dropsOf loadFits sheetFits le accepted firstOf noTwo anyOf eachOf runsOf pinsOf runsAmong grown pinsFrom keptIf both choose
+unfolding lostOf noneLost dropsOf loadFits sheetFits le accepted firstOf eachOf runsOf pinsOf runsAmong grown pinsFrom keptIf both choose
 out-of-range = refl
 
 -- The f32 next above 0.01.

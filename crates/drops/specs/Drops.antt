@@ -63,7 +63,7 @@ unfoldable pub dropsOf : List Spot → List Loaded → Sheet → List Float
 dropsOf feed loads sheet =
     dropsAfter feed (sheet .ohms) noDrops (runsOf feed) (currentsOf (λ (pin : ℕ). ampsOf sheet (loadAt loads pin)) (runsOf feed))
 
--- 17 and 18 as for wiring, then 20: the sheet, or a load of a pin that is there, is out of its range.
+-- 17 as for wiring, then 20: the sheet, or a load of a pin that is there, is out of its range.
 abbrev pub dropRows : List Spot → List Loaded → Sheet → List Row
 dropRows feed loads sheet = treeRows feed ++ (given (not (both (sheetFits sheet) (loadsFit loads (pinsOf feed)))) OutOfRange ∷ [])
 

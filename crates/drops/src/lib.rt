@@ -241,7 +241,7 @@ pub fn refused(verdict: Verdict) -> Lost
     }
 }
 
-// The volts lost to pins that stand on the board: 17 or 18 as for wiring, 20 where the sheet or a load of a pin that is there is out of its range.
+// The volts lost to pins that stand on the board: 17 as for wiring, 20 where the sheet or a load of a pin that is there is out of its range.
 pub fn drops_of(
     xs: &[i32; PINS],
     ys: &[i32; PINS],

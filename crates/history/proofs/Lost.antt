@@ -56,7 +56,7 @@ module _ (d : Desk) (s net : ℕ) (loads : List Loaded) (sheet : Sheet) where
   unfolding droppedOf
   dropped-is e = choose-yes _ _ e
 
-  -- and it has passed 28, 1, 2, 21, 17, 18 and 20.
+  -- and it has passed 28, 1, 2, 21, 17 and 20.
   dropped-passes : accepted (droppedOf d s net loads sheet .lost .verdict) ≡ true → Passes (lookAt d s) (asking s (dropping net loads sheet))
   unfolding droppedOf
   dropped-passes e = passes (lookAt d s) (asking s (dropping net loads sheet)) e
@@ -72,7 +72,7 @@ module _ (d : Desk) (s net : ℕ) (loads : List Loaded) (sheet : Sheet) where
   volts-lost e =
       let o = dropped-open e in
       let l = pins-lawful d (not-false _ (o .unbroken)) s (o .low) (o .shown) in
-      let r = not-false _ (dropped-passes e .1 .1 .1 .1 .0) in
+      let r = not-false _ (dropped-passes e .1 .1 .1 .0) in
       subst (VoltsLost (feedOf (seatOf d s .pins) net) loads sheet) (sym (dropped-is e))
       (drops-demanded (feedOf (seatOf d s .pins) net) loads sheet (feed-long _ net l) (feed-within _ net l) (both-left _ _ r) (both-right _ _ r))
 

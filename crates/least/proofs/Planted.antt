@@ -1,26 +1,24 @@
--- The runs of a feed, its pins numbered by when they are reached, are laid as the length asks. From pins that stand on the board at places of
--- their own, and from a search that found no boxes that meet.
-use mathlib.Core.Path.{_≡_, sym, _∙_, subst}
-use mathlib.Core.Bool.{true, false}
+-- The runs of a feed, its pins numbered by when they are reached, are laid as the length asks: the boxes of two without a common pin share no point.
+-- From pins that stand on the board at places of their own.
+use mathlib.Core.Path.{_≡_, _∙_}
+use mathlib.Core.Bool.{true}
 use mathlib.Core.List.{List, [], _∷_, reverseAux}
-use mathlib.Core.Logic.{_⊎_, inl, inr}
+use mathlib.Core.Logic.{inl}
 use Prim.Native.Nat.{ℕ, suc, _≤_, _<_}
 use native.Mathlib.Omega.{arith}
 use lib.IntN.{ℤ}
 use lib.ListN.{length}
-use borrow.Author.Tests.{eq-eqb, ne-eqb}
-use Rattle.basics.specs.Tests.{either}
-use Rattle.basics.proofs.Tests.{both-of, opposite}
+use borrow.Author.Tests.{eq-eqb}
+use Rattle.basics.proofs.Tests.{both-of}
 use Rattle.board.specs.declared.Place.{Place}
 use Rattle.board.specs.declared.Spot.{Spot}
 use Rattle.board.specs.Place.{sameNumber, samePlace}
 use Rattle.board.proofs.Signed.{off, I32}
-use Rattle.board.proofs.Flat.{order, Site, span, site, PlaceI32}
+use Rattle.board.proofs.Flat.{Site, span, site, PlaceI32}
 use Rattle.tree.specs.declared.Run.{Run}
 use Rattle.board.specs.Spots.{mostPins, allWithin, placeAt}
 use Rattle.tree.specs.Growth.{pinsOf, runsOf}
-use Rattle.tree.specs.Reached.{runAt, reachedPin, reachedNear, reachedPlace}
-use Rattle.tree.specs.Boxes.{isEnd, common, boxesMeet}
+use Rattle.tree.specs.Reached.{reachedPin, reachedNear, reachedPlace}
 use Rattle.tree.proofs.Membership.{Among}
 use Rattle.tree.proofs.Numbering.{siteAt, keyAt, stands, fits, keyed}
 use Rattle.tree.proofs.Branches.{HasRun, here, further}
@@ -29,7 +27,7 @@ use Rattle.spanning.proofs.Positions.{near-before, near-pin, pin-there, reached
 use Rattle.spanning.proofs.Spanning.{in-turned, has-run, entry-in}
 use Rattle.spanning.proofs.Neighbours.{Joined, onward, backward, beyond, neighbours}
 use Rattle.spanning.proofs.FourPins.{InBox, key-span}
-use Rattle.spanning.proofs.Boxes.{point-shared, clash-apart, no-clash}
+use Rattle.spanning.proofs.Apart.{separate}
 use Rattle.copper.proofs.Numbers.{low-held, same-off}
 use Rattle.least.proofs.Sharing.{Same}
 use Rattle.least.proofs.Laid.{Joins, out, back, Spaced}
@@ -43,11 +41,6 @@ run-onward (further h) = beyond (run-onward h)
 run-backward : {s t : ℕ} {rs : List Run} → HasRun s t rs → Joined t s rs
 run-backward (here e f) = backward f e
 run-backward (further h) = beyond (run-backward h)
-
--- Two runs none of whose ends agree have no common pin.
-no-common : (r s : Run) → (r .near ≡ s .near → ⊥) → (r .near ≡ s .far → ⊥) → (r .far ≡ s .near → ⊥) → (r .far ≡ s .far → ⊥) → common r s ≡ false
-unfolding common isEnd either
-no-common r s a b c d = rw (ne-eqb (r .near) (s .near) a, ne-eqb (r .near) (s .far) b, ne-eqb (r .far) (s .near) c, ne-eqb (r .far) (s .far) d)
 
 module _ (feed : List Spot) (full : length feed ≡ mostPins) (ok : allWithin feed ≡ true) (f : ℕ) (left : List ℕ) (e : pinsOf feed ≡ f ∷ left) where
   abbrev runs : List Run
@@ -73,9 +66,8 @@ module _ (feed : List Spot) (full : length feed ≡ mostPins) (ok : allWithin fe
   pub places-held : (i : ℕ) → PlaceI32 (at i)
   places-held i = stands feed ok (pin i) .held
 
-  -- Pins at places of their own; no boxes that meet.
-  module _ (distinct : (a b : ℕ) → Among a (f ∷ left) → Among b (f ∷ left) → samePlace (placeAt feed a) (placeAt feed b) ≡ true → a ≡ b)
-      (clear : boxesMeet feed (runsOf feed) ≡ false) where
+  -- Pins at places of their own.
+  module _ (distinct : (a b : ℕ) → Among a (f ∷ left) → Among b (f ∷ left) → samePlace (placeAt feed a) (placeAt feed b) ≡ true → a ≡ b) where
     -- The near pin of a run is one of those that are reached.
     near-low : (r : ℕ) → r < n → near r < suc n
     near-low r l = omega (arith, near-before f left runs root r l)
@@ -125,31 +117,14 @@ module _ (feed : List Spot) (full : length feed ≡ mostPins) (ok : allWithin fe
           key-span (siteAt feed (pin i)) (pin i) (siteAt feed (pin k)) (pin k) (siteAt feed (pin j)) (pin j) (siteAt feed (pin k)) (pin k) fj fk (w .1),
         )
 
-    -- The box of a run, by its pins.
-    box : (i : ℕ) (p : Site) → pin (near i) ≡ runAt runs i .near → InBox (site (at (near i))) (site (at (suc i))) p
-        → InBox (siteAt feed (runAt runs i .near)) (siteAt feed (runAt runs i .far)) p
-    unfolding reachedPin
-    box i p g v = subst (λ (z : ℕ). InBox (siteAt feed z) (siteAt feed (runAt runs i .far)) p) g v
-
-    -- Two runs without a common pin, the first of them earlier.
-    apart-by : (r q : ℕ) → r < q → q < n → (near r ≡ near q → ⊥) → (near r ≡ suc q → ⊥) → (suc r ≡ near q → ⊥)
+    -- Two runs without a common pin have boxes apart.
+    apart-by : (r q : ℕ) → r < n → q < n → (r ≡ q → ⊥) → (near r ≡ near q → ⊥) → (near r ≡ suc q → ⊥) → (suc r ≡ near q → ⊥)
         → (p : Site) → InBox (site (at (near r))) (site (at (suc r))) p → InBox (site (at (near q))) (site (at (suc q))) p → ⊥
-    unfolding reachedPin
-    apart-by r q l m a b c p h k =
-        let lr : r < n = omega arith in
-        let er = near-pin f left runs root r lr in
-        let eq = near-pin f left runs root q m in
-        let free : common (runAt runs r) (runAt runs q) ≡ false =
-        no-common (runAt runs r) (runAt runs q) (λ z. differ (near r) (near q) (near-low r lr) (near-low q m) a (er ∙ z ∙ sym eq))
-        (λ z. differ (near r) (suc q) (near-low r lr) (omega arith) b (er ∙ z)) (λ z. differ (suc r) (near q) (omega arith) (near-low q m) c (z ∙ sym eq))
-        (λ z. differ (suc r) (suc q) (omega arith) (omega arith) (λ w. omega arith) z) in
-        let none = clash-apart feed (runAt runs r) (runAt runs q) (no-clash feed runs clear r q l m) free in
-        let shared = point-shared (placeAt feed (runAt runs r .near)) (placeAt feed (runAt runs r .far))
-        (placeAt feed (runAt runs q .near)) (placeAt feed (runAt runs q .far))
-        (stands feed ok (runAt runs r .near) .held) (stands feed ok (runAt runs r .far) .held)
-        (stands feed ok (runAt runs q .near) .held) (stands feed ok (runAt runs q .far) .held)
-        (record { point = p; in-first = box r p er h; in-second = box q p eq k }) in
-        opposite shared none
+    apart-by r q l m ne a b c p h k =
+        separate feed full ok f left e (runs-grown feed full ok f left e) (pin (near r)) (pin (suc r)) (pin (near q)) (pin (suc q)) (in-list r l) (in-list q m)
+        (differ (near r) (near q) (near-low r l) (near-low q m) a) (differ (near r) (suc q) (near-low r l) (omega arith) b)
+        (differ (suc r) (near q) (omega arith) (near-low q m) c) (differ (suc r) (suc q) (omega arith) (omega arith) (λ z. ne (omega arith)))
+        (record { point = p; in-first = h; in-second = k })
 
     -- The runs are laid as the length asks.
     pub planted : Spaced (λ i. site (at i)) near n
@@ -157,13 +132,7 @@ module _ (feed : List Spot) (full : length feed ≡ mostPins) (ok : allWithin fe
         record {
           grown = near-before f left runs root;
           full = λ r l z. let q = same-pin (near r) (suc r) (omega arith) (near-low r l) (omega arith) z in omega (arith, near-before f left runs root r l);
-          separate = λ r q l k ne a b c p h m. go r q l k ne a b c p h m (order r q);
+          separate = apart-by;
           distant = λ r q i j k l h jr jq ne.
               spans i j k (omega arith) (ends-in r i j l jr .0) (ends-in r i j l jr .1) (ends-in q i k h jq .1) (joined r i j l jr) (joined q i k h jq) ne;
         }
-      where
-        go : (r q : ℕ) → r < n → q < n → (r ≡ q → ⊥) → (near r ≡ near q → ⊥) → (near r ≡ suc q → ⊥) → (suc r ≡ near q → ⊥)
-            → (p : Site) → InBox (site (at (near r))) (site (at (suc r))) p → InBox (site (at (near q))) (site (at (suc q))) p
-            → (r ≤ q) ⊎ (q < r) → ⊥
-        go r q l k ne a b c p h m (inl o) = apart-by r q (omega (arith, ne)) k a b c p h m
-        go r q l k ne a b c p h m (inr o) = apart-by q r o l (λ z. a (sym z)) (λ z. c (sym z)) (λ z. b (sym z)) p m h

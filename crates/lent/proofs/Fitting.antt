@@ -34,7 +34,7 @@ module _ (feed : List Spot) (shapes : List Shape) (room : ℕ) where
   unfolding NoneHolds
   room-kept e =
       let n = none-holds (wiringRows feed shapes room) (wiring-apart feed shapes room) e in
-      ltb-false room (length (legsOfChoice feed runs shapes)) (n .1 .1 .0)
+      ltb-false room (length (legsOfChoice feed runs shapes)) (n .1 .0)
 
 -- The entries of a strip are at most 62, and at most the room: so `fill` asks.
 abbrev pub StripFits : ℕ → Strip → Type 0

@@ -35,9 +35,9 @@ feed-else : (feed : List Spot) (favour : Favour) → length feed ≡ mostPins �
 unfolding refusalAt Given
 feed-else feed favour h e =
     let shapes = bestChoice (favoursUpper favour) feed (runsOf feed) in
-    let g : Given (feedRows feed mostLegs favour) 2 =
-    exactly (feedRows feed mostLegs favour) (wiring-apart feed shapes mostLegs) .refused 2 (omega arith) .0 (sym (wiring-verdict feed mostLegs favour) ∙ e) in
-    omega (arith, ltb-true mostLegs (length (legsOfChoice feed (runsOf feed) shapes)) (g .1 .1), needed-few feed shapes h)
+    let g : Given (feedRows feed mostLegs favour) 1 =
+    exactly (feedRows feed mostLegs favour) (wiring-apart feed shapes mostLegs) .refused 1 (omega arith) .0 (sym (wiring-verdict feed mostLegs favour) ∙ e) in
+    omega (arith, ltb-true mostLegs (length (legsOfChoice feed (runsOf feed) shapes)) (g .1), needed-few feed shapes h)
 
 -- No net of any seat of any desk is.
 seat-else : (d : Desk) (s net : ℕ) (favour : Favour) → wiredOf d s net mostLegs favour .laid .wiring .verdict ≡ RoomTooSmall → ⊥

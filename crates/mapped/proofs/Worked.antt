@@ -14,7 +14,6 @@ use Rattle.board.specs.Place.{distanceOf}
 use Rattle.board.specs.Spots.{spotsTooNear, crowded, within, tooNearOther}
 use Rattle.drawing.specs.Pins.{isThere, lawful, hasNet, isNet, isOf, feedSpot, feedOf, spotOf, spotsOf}
 use Rattle.tree.specs.Growth.{pairAt, sooner, keptIf, pinsFrom, without, runsFrom, runsBetween, earliest, earliestOf, nextRun, grown, runsAmong, pinsOf, runsOf}
-use Rattle.tree.specs.Boxes.{belowBoth, under, overlap, boxesShare, isEnd, common, clash}
 use Rattle.tree.specs.Bends.{bent}
 use Rattle.basics.specs.Sums.{howMany}
 use Rattle.copper.specs.Shapes.{lowerCorner, upperCorner, legsOf}
@@ -54,7 +53,7 @@ unfolding jobOfMap openedWith wiredWith mapAnswer mapText jobText textForEach en
     withPinOf own filled inTurn isThere spotsTooNear tooNearOther crowded within spotOf spotsOf lawful hasNet isNet isOf feedSpot feedOf wiringOf wiringFavouring wiringWith
     answerWith turnedAway legEntries runEntries shapedRuns weighedOf sum weighedAt howMany bent bestChoice shortestOf shortest lengthOfChoice legsOfChoice choicesOf
     withShapes withShape shapesOf bentShapes lengthOf different stepsOfAll stepsOf smaller stepsUp stepsAcross sameStep legsOf lowerCorner upperCorner
-    isStraight clash common isEnd boxesShare overlap under belowBoth runsOf pinsOf runsAmong grown nextRun earliestOf earliest runsBetween runsFrom without
+    isStraight runsOf pinsOf runsAmong grown nextRun earliestOf earliest runsBetween runsFrom without
     pinsFrom keptIf sooner pairAt comesBefore byPart byNumber pairOf weightOf distanceOf difference larger sameNumber samePlace onBoard inside closer tooNear
     accepted firstOf both either choose anyOf noTwo eachOf
 W3-holds = refl

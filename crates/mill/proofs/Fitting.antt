@@ -45,7 +45,7 @@ module _ (rows : List Row) (feed : List Spot) (room : ℕ) (favour : Favour) (ap
       let n = none-holds (rows ++ millRows feed room favour) apart e in
       let passed = none-after rows (millRows feed room favour) n in (
         copper-few feed favour (full (ap accepted (none-accepted rows (none-before rows (millRows feed room favour) n)))),
-        ltb-false room (length (copperOf feed favour)) (passed .1 .1 .0),
+        ltb-false room (length (copperOf feed favour)) (passed .1 .0),
       )
 
   -- THE SEGMENTS OF AN ANSWER ARE AT MOST 62, AND AT MOST THE ROOM.

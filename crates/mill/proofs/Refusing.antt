@@ -9,7 +9,7 @@ use Rattle.board.specs.declared.Spot.{Spot}
 use Rattle.copper.specs.declared.Favour.{Favour}
 use Rattle.mill.specs.Answer.{millRows}
 
--- 17, 18 and 19 differ.
+-- 17 and 19 differ.
 pub mill-apart : (feed : List Spot) (room : ℕ) (favour : Favour) → Apart (millRows feed room favour)
 unfolding distinct unlike both accepted
 mill-apart feed room favour = apart-by (millRows feed room favour) refl

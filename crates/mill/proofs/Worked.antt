@@ -3,7 +3,7 @@ use mathlib.Core.Path.{_≡_, refl}
 use mathlib.Core.List.{List, [], _∷_, map}
 use Prim.Native.Nat.{_-_}
 use lib.IntN.{ℤ, pos}
-use Rattle.basics.specs.Tests.{both, either, choose, anyOf, noTwo}
+use Rattle.basics.specs.Tests.{both, either, choose, anyOf}
 use Rattle.basics.specs.Lists.{padded}
 use Rattle.basics.specs.Sums.{sum, different}
 use Rattle.refusal.specs.Refusals.{accepted}
@@ -17,7 +17,6 @@ use Rattle.board.specs.Boards.{below, W3}
 use Rattle.board.specs.Spots.{mostPins}
 use Rattle.tree.specs.Weight.{weightOf, pairOf, byPart, byNumber, comesBefore}
 use Rattle.tree.specs.Growth.{pairAt, sooner, keptIf, pinsFrom, without, runsFrom, runsBetween, earliest, earliestOf, nextRun, grown, runsAmong, pinsOf, runsOf}
-use Rattle.tree.specs.Boxes.{belowBoth, under, overlap, boxesShare, isEnd, common, clash}
 use Rattle.tree.specs.Bends.{bent}
 use Rattle.copper.specs.declared.Favour.{Favour}
 use Rattle.copper.specs.declared.Leg.{Leg}
@@ -81,9 +80,9 @@ feed board = padded mostPins Absent (map At board)
 -- W3 with lower favoured: room for two segments is enough, room for one is not.
 w3 : (cutOf (feed W3) 2 Favour.Lower ≡ cutWith Accepted (leg (pos 0) (pos 0) (pos 80) (pos 0) ∷ leg (pos 80) (below 40) (pos 80) (pos 40) ∷ []))
     × (cutOf (feed W3) 1 Favour.Lower ≡ cutWith RoomTooSmall [])
-unfolding both either choose anyOf noTwo different accepted firstOf difference sameNumber isStraight larger smaller distanceOf
+unfolding both either choose anyOf different accepted firstOf difference sameNumber isStraight larger smaller distanceOf
     weightOf pairOf byPart byNumber comesBefore pairAt sooner keptIf pinsFrom without runsFrom runsBetween earliest earliestOf nextRun
-    grown runsAmong pinsOf runsOf belowBoth under overlap boxesShare isEnd common clash bent
+    grown runsAmong pinsOf runsOf bent
     lowerCorner upperCorner legsOf sameStep stepsAcross stepsUp stepsOf stepsOfAll lengthOf
     bentShapes shapesOf withShape withShapes choicesOf legsOfChoice lengthOfChoice shortest shortestOf bestChoice
     left behind carried times insert add addAll counted uncounted rowNumber columnNumber spanOf placeOf segmentsOf copperOf cutOf

@@ -24,7 +24,7 @@ use Rattle.mill.specs.Numbered.{segmentsOf}
 unfoldable pub copperOf : List Spot → Favour → List Leg
 copperOf feed favour = segmentsOf (legsOfChoice feed (runsOf feed) (bestChoice (favoursUpper favour) feed (runsOf feed)))
 
--- 17 and 18 as for wiring, then 19 as before, counted in segments.
+-- 17 as for wiring, then 19 as before, counted in segments.
 abbrev pub millRows : List Spot → ℕ → Favour → List Row
 millRows feed room favour = treeRows feed ++ (given (ltb room (length (copperOf feed favour))) RoomTooSmall ∷ [])
 

@@ -32,6 +32,6 @@ namingFound f = namingRows (f .broken) (f .seat) (f .state .opened)
 abbrev pub namingNet : Found → ℕ → List Row
 namingNet f net = namingNetRows (f .broken) (f .seat) (f .state .opened) net
 
--- Wiring a feed, with room for so many legs, where these rows come first: they turn it away, or it is wired, which 17, 18 or 19 may turn away.
+-- Wiring a feed, with room for so many legs, where these rows come first: they turn it away, or it is wired, which 17 or 19 may turn away.
 abbrev pub wiredBy : List Row → List Spot → ℕ → Favour → Laid
 wiredBy rows feed room favour = choose (accepted (firstOf rows)) (wiringOf feed room favour) (turnedAway (firstOf rows))

@@ -90,7 +90,7 @@ undoingRow standing = given (eqb standing 0) NothingStands ∷ []
 abbrev pub redoingRow : ℕ → List Row
 redoingRow takenBack = given (eqb takenBack 0) NothingTakenBack ∷ []
 
--- Writing, in the new form: 19. Wiring a net: 21, 17, 18, 19. Milling one: 21, 17, 18, 19, counted in segments. Volts lost to one: 21, 17, 18, 20.
+-- Writing, in the new form: 19. Wiring a net: 21, 17, 19. Milling one: 21, 17, 19, counted in segments. Volts lost to one: 21, 17, 20.
 abbrev pub askingRows : ℕ → List Pin → Asking → List Row
 askingRows job l (writing room) = roomRows New job l room
 askingRows job l (wiring net room favour) = netRow net ∷ feedRows (feedOf l net) room favour

@@ -295,7 +295,7 @@ fn turned_asking(found: Found, net: u32) -> Verdict
     }
 }
 
-// Wiring a net of a seat, with room for so many legs and what is said of the shape to favour: 28, 1, 2, 21, then what wiring the net's feed answers, 17, 18 or 19 among it.
+// Wiring a net of a seat, with room for so many legs and what is said of the shape to favour: 28, 1, 2, 21, then what wiring the net's feed answers, 17 or 19 among it.
 pub fn feed_wired(found: Found, net: u32, room: usize, favour: Favour) -> Laid
     requires { ⌜ (found .broken ≡ false → found .state .opened ≡ true → lawful (found .state .pins) ≡ true) ⌝ }
     ensures { λ r. ⌜ r ≡ wiredBy (namingNet found net) (feedOf (found .state .pins) net) room favour ⌝ }
@@ -314,7 +314,7 @@ pub fn feed_wired(found: Found, net: u32, room: usize, favour: Favour) -> Laid
     }
 }
 
-// The copper of a net of a seat as segments, with room for so many and what is said of the shape to favour: 28, 1, 2, 21, then what is answered for the net's feed, 17, 18 or 19 among it.
+// The copper of a net of a seat as segments, with room for so many and what is said of the shape to favour: 28, 1, 2, 21, then what is answered for the net's feed, 17 or 19 among it.
 pub fn feed_milled(found: Found, net: u32, room: usize, favour: Favour) -> Cut
     requires { ⌜ (found .broken ≡ false → found .state .opened ≡ true → lawful (found .state .pins) ≡ true) ⌝ }
     ensures { λ r. ⌜ r ≡ cutBy (namingNet found net ++ millRows (feedOf (found .state .pins) net) room favour) (copperOf (feedOf (found .state .pins) net) favour) ⌝ }
@@ -333,7 +333,7 @@ pub fn feed_milled(found: Found, net: u32, room: usize, favour: Favour) -> Cut
     }
 }
 
-// The volts lost to the pins of a net of a seat: 28, 1, 2, 21, then what is answered for the net's feed, 17, 18 or 20 among it.
+// The volts lost to the pins of a net of a seat: 28, 1, 2, 21, then what is answered for the net's feed, 17 or 20 among it.
 pub fn feed_dropped(found: Found, net: u32, loads: [Loaded; PINS], sheet: Sheet) -> Lost
     requires { ⌜ (found .broken ≡ false → found .state .opened ≡ true → lawful (found .state .pins) ≡ true) ⌝ }
     ensures { λ r. ⌜ r ≡ lostBy (namingNet found net ++ dropRows (feedOf (found .state .pins) net) loads sheet) (dropsOf (feedOf (found .state .pins) net) loads sheet) ⌝ }

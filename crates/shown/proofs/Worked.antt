@@ -2,7 +2,7 @@
 use mathlib.Core.Path.{_≡_, refl}
 use mathlib.Core.List.{List, [], _∷_, _++_}
 use lib.IntN.{pos, negsuc}
-use Rattle.basics.specs.Tests.{both, either, choose, anyOf, noTwo}
+use Rattle.basics.specs.Tests.{both, either, choose, anyOf}
 use Rattle.basics.specs.Sums.{sum, different}
 use Rattle.refusal.specs.Refusals.{accepted}
 use Rattle.refusal.specs.Rows.{firstOf}
@@ -14,7 +14,6 @@ use Rattle.board.specs.Place.{difference, larger, sameNumber, isStraight}
 use Rattle.tree.specs.Weight.{weightOf, pairOf, byPart, byNumber, comesBefore}
 use Rattle.board.specs.Place.{distanceOf}
 use Rattle.tree.specs.Growth.{pairAt, sooner, keptIf, pinsFrom, without, runsFrom, runsBetween, earliest, earliestOf, nextRun, grown, runsAmong, pinsOf, runsOf}
-use Rattle.tree.specs.Boxes.{belowBoth, under, overlap, boxesShare, isEnd, common, clash}
 use Rattle.tree.specs.Bends.{bent}
 use Rattle.basics.specs.Sums.{howMany}
 use Rattle.copper.specs.declared.Favour.{Favour}
@@ -37,8 +36,8 @@ w3 = wiringOf (At (record { x = pos 0; y = pos 0 }) ∷ At (record { x = pos 80;
 pub map-of-w3 : mapText 7 (w3 .wiring) ≡ text "job 7 length 160 runs 2 weighed 5\n0 1 lower\n1 2 straight\n"
 unfolding wiringOf wiringFavouring wiringWith answerWith turnedAway legEntries runEntries shapedRuns weighedOf sum weighedAt
     howMany bent bestChoice shortestOf shortest lengthOfChoice legsOfChoice choicesOf withShapes withShape shapesOf bentShapes lengthOf different
-    anyOf stepsOfAll stepsOf smaller stepsUp stepsAcross sameStep legsOf lowerCorner upperCorner isStraight noTwo clash common isEnd
-    boxesShare overlap under belowBoth runsOf pinsOf runsAmong grown nextRun earliestOf earliest runsBetween runsFrom without pinsFrom keptIf sooner
+    anyOf stepsOfAll stepsOf smaller stepsUp stepsAcross sameStep legsOf lowerCorner upperCorner isStraight
+    runsOf pinsOf runsAmong grown nextRun earliestOf earliest runsBetween runsFrom without pinsFrom keptIf sooner
     pairAt comesBefore byPart byNumber pairOf weightOf distanceOf difference larger sameNumber accepted firstOf both either choose digits jobLine runLine
     entryLine textForEach jobText mapText
 map-of-w3 = refl
@@ -47,8 +46,8 @@ map-of-w3 = refl
 pub laid-w3 : laidText w3 ≡ text "0 length 160 runs 2 legs 3 weighed 5\n0 1 lower\n1 2 straight\nleg 0 0 80 0\nleg 80 0 80 40\nleg 80 40 80 -40\n"
 unfolding wiringOf wiringFavouring wiringWith answerWith turnedAway legEntries runEntries shapedRuns weighedOf sum weighedAt
     howMany bent bestChoice shortestOf shortest lengthOfChoice legsOfChoice choicesOf withShapes withShape shapesOf bentShapes lengthOf different
-    anyOf stepsOfAll stepsOf smaller stepsUp stepsAcross sameStep legsOf lowerCorner upperCorner isStraight noTwo clash common isEnd
-    boxesShare overlap under belowBoth runsOf pinsOf runsAmong grown nextRun earliestOf earliest runsBetween runsFrom without pinsFrom keptIf sooner
+    anyOf stepsOfAll stepsOf smaller stepsUp stepsAcross sameStep legsOf lowerCorner upperCorner isStraight
+    runsOf pinsOf runsAmong grown nextRun earliestOf earliest runsBetween runsFrom without pinsFrom keptIf sooner
     pairAt comesBefore byPart byNumber pairOf weightOf distanceOf difference larger sameNumber accepted firstOf both either choose digits integer
     placeText wiredLine runLine legLine entryLine textForEach legText wiredText laidText
 laid-w3 = refl

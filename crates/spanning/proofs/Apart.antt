@@ -1,4 +1,4 @@
--- THE BOXES OF TWO RUNS WITHOUT A COMMON PIN SHARE NO POINT, so 18 is never given. Each of the two runs comes before a pair that crosses over to the other
+-- THE BOXES OF TWO RUNS WITHOUT A COMMON PIN SHARE NO POINT, so that a length is a sum over pins. Each of the two runs comes before a pair that crosses over to the other
 -- run, on its own side of it; four such pins are apart. From pins that stand on the board.
 use mathlib.Core.Path.{_≡_, refl, sym, ap, _∙_}
 use mathlib.Core.Bool.{true, false, not}
@@ -11,17 +11,14 @@ use lib.Dec.{eqb}
 use lib.ListN.{length}
 use borrow.Author.Tests.{eqb-false}
 use Rattle.basics.specs.Tests.{both, either, anyOf, noTwo}
-use Rattle.refusal.specs.declared.Verdict.the-variants.{Accepted}
 use Rattle.basics.proofs.Tests.{decide, either-false, fails-if, both-no, both-yes, either-no, both-of}
 use Rattle.board.specs.declared.Spot.{Spot}
 use Rattle.board.proofs.Flat.{Site}
 use Rattle.tree.specs.declared.Run.{Run}
 use Rattle.board.specs.Spots.{mostPins, placeAt, allWithin}
 use Rattle.tree.specs.Growth.{pinsOf, runsOf}
-use Rattle.tree.specs.Boxes.{boxesShare, isEnd, common, clash, boxesMeet}
-use Rattle.tree.specs.Trees.{treeWith, none, treeOf}
+use Rattle.tree.specs.Boxes.{boxesShare, isEnd, common, clash, boxesApart}
 use Rattle.tree.proofs.Membership.{Among, first, later}
-use Rattle.tree.proofs.Answer.{runs-told}
 use Rattle.tree.proofs.Numbering.{siteAt, keyAt, keyed, stands, fits}
 use Rattle.tree.proofs.Branches.{
   IsReached,
@@ -143,7 +140,7 @@ module _ (feed : List Spot) (full : length feed ≡ mostPins) (ok : allWithin fe
       (m .point) (m .in-first) (m .in-second)
 
   -- So, whether one hangs from the other or not, the boxes of two such runs share no point.
-  separate : (s t s' t' : ℕ) → HasRun s t rs → HasRun s' t' rs → (s ≡ s' → ⊥) → (s ≡ t' → ⊥) → (t ≡ s' → ⊥) → (t ≡ t' → ⊥)
+  pub separate : (s t s' t' : ℕ) → HasRun s t rs → HasRun s' t' rs → (s ≡ s' → ⊥) → (s ≡ t' → ⊥) → (t ≡ s' → ⊥) → (t ≡ t' → ⊥)
       → Shared (siteAt feed s) (siteAt feed t) (siteAt feed s') (siteAt feed t') → ⊥
   separate s t s' t' h h' n1 n2 n3 n4 m = go (decide (hangs rs t t')) (decide (hangs rs t' t))
     where
@@ -213,16 +210,12 @@ module _ (feed : List Spot) (full : length feed ≡ mostPins) (ok : allWithin fe
   any-none r hr [] h = refl
   any-none r hr (s ∷ l) h = either-no (clash-none r s hr (h s (first refl))) (any-none r hr l (λ q m. h q (later m)))
 
-  -- and the search for boxes that meet finds none.
+  -- and no two of them do.
   none-meet : (l : List Run) → ((s : Run) → Among s l → Among s (runsOf feed)) → noTwo (clash feed) l ≡ true
   unfolding noTwo
   none-meet [] h = refl
   none-meet (s ∷ l) h = both-of (ap not (any-none s (h s (first refl)) l (λ q m. h q (later m)))) (none-meet l (λ q m. h q (later m)))
 
-  -- 18 IS NEVER GIVEN: no boxes of the runs meet.
-  pub never-meet : boxesMeet feed (runsOf feed) ≡ false
-  never-meet = ap not (none-meet (runsOf feed) (λ s m. m))
-
-  -- So where there are pins, the answer is their runs.
-  pub always-runs : (f : ℕ) (left : List ℕ) → pinsOf feed ≡ f ∷ left → treeOf feed ≡ treeWith Accepted (runsOf feed)
-  always-runs f left e = runs-told feed (ap none e) never-meet
+  -- THE BOXES OF THE RUNS NEVER MEET: no two of them, without a common pin, have boxes that share a point.
+  pub never-meet : boxesApart feed (runsOf feed) ≡ true
+  never-meet = none-meet (runsOf feed) (λ s m. m)

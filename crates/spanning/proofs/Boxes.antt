@@ -1,31 +1,21 @@
--- Two boxes share a point just where the test says so; and what a passed search for 18 says of the runs, by their positions.
--- From places whose numbers an i32 holds.
-use mathlib.Core.Path.{_≡_, sym, _∙_, ap}
+-- Two boxes share a point just where the test says so. From places whose numbers an i32 holds.
+use mathlib.Core.Path.{_≡_, sym, _∙_}
 use mathlib.Core.Bool.{Bool, true, false, not}
-use mathlib.Core.List.{List}
 use mathlib.Core.Logic.{_⊎_, inl, inr}
 use Prim.Native.Nat.{ℕ, _<_, _≤_, min, max}
 use native.Mathlib.Omega.{arith}
 use native.Mathlib.Nat.{max-le}
 use lib.IntN.{ℤ}
 use lib.Signed.{ltZ}
-use lib.ListN.{length}
 use borrow.Author.Tests.{ltb-true, ltb-false, not-false, not-true}
 use Rattle.basics.specs.Tests.{both}
 use Rattle.basics.proofs.Tests.{decide, both-false, both-left, both-right, both-of}
-use Rattle.basics.proofs.Anyone.{two-at}
 use Rattle.board.specs.declared.Place.{Place}
-use Rattle.board.specs.declared.Spot.{Spot}
 use Rattle.board.proofs.Signed.{off, I32, ltZ-off}
 use Rattle.board.proofs.Flat.{Site, site, PlaceI32}
-use Rattle.tree.specs.Reached.{runAt}
-use Rattle.tree.specs.declared.Run.{Run}
-use Rattle.board.specs.Spots.{placeAt}
-use Rattle.tree.specs.Growth.{run}
-use Rattle.tree.specs.Boxes.{belowBoth, under, overlap, boxesShare, common, clash, boxesMeet}
+use Rattle.tree.specs.Boxes.{belowBoth, under, overlap, boxesShare}
 use Rattle.spanning.proofs.FourPins.{InBox}
 
--- ---- boxes share a point just where the test says so
 -- Both of two numbers are less than both of two others: in ℕ.
 under-yes : (a b c d : ℤ) → I32 a → I32 b → I32 c → I32 d → under a b c d ≡ true → max (off a) (off b) < min (off c) (off d)
 unfolding under belowBoth
@@ -140,15 +130,3 @@ module _ (a b c d : Place) (ha : PlaceI32 a) (hb : PlaceI32 b) (hc : PlaceI32 c)
       upward =
           overlap-no (a .y) (b .y) (c .y) (d .y) (ha .y) (hb .y) (hc .y) (hd .y) (s .point .y)
           (record { low = s .in-first .bottom; high = s .in-first .top; low' = s .in-second .bottom; high' = s .in-second .top })
-
--- ---- what an accepted tree says of its boxes
--- Two runs that do not clash and have no common pin have boxes apart.
-pub clash-apart : (feed : List Spot) (r s : Run) → clash feed r s ≡ false → common r s ≡ false
-    → boxesShare (placeAt feed (r .near)) (placeAt feed (r .far)) (placeAt feed (s .near)) (placeAt feed (s .far)) ≡ false
-unfolding clash both
-clash-apart feed r s e f = rw (ap not f) at e
-
--- NO TWO RUNS CLASH where the boxes do not meet, by their positions.
-pub no-clash : (feed : List Spot) (l : List Run) → boxesMeet feed l ≡ false → (i j : ℕ) → i < j → j < length l
-    → clash feed (runAt l i) (runAt l j) ≡ false
-no-clash feed l e i j h k = two-at (clash feed) (run 0 0) l i j (not-false _ e) h (λ past. absurd (omega arith))

@@ -19,7 +19,7 @@ use Rattle.board.specs.Place.{distanceOf}
 use Rattle.tree.specs.declared.Run.{Run}
 use Rattle.board.specs.Spots.{mostPins, within, allWithin}
 use Rattle.tree.specs.Growth.{run, pairAt, sooner, keptIf, pinsFrom, without, runsFrom, runsBetween, earliest, earliestOf, nextRun, grown, runsAmong, pinsOf, runsOf}
-use Rattle.tree.specs.Boxes.{belowBoth, under, overlap, boxesShare, isEnd, common, clash}
+use Rattle.tree.specs.Boxes.{belowBoth, under, overlap, boxesShare, isEnd, common, clash, boxesApart}
 use Rattle.tree.specs.Trees.{entries, treeWith, treeOf}
 
 -- A feed of 32 spots that begins with the pins of a board.
@@ -41,9 +41,8 @@ runs =
 
 -- THE RUNS ARE THOSE WORKED BY HAND.
 pub worked : map (λ board. treeOf (feed board)) boards ≡ map (treeWith Accepted) runs
-unfolding treeOf treeWith accepted firstOf entries noTwo anyOf clash common isEnd boxesShare overlap under belowBoth
-    runsOf pinsOf runsAmong grown nextRun earliestOf earliest runsBetween runsFrom without pinsFrom keptIf sooner
-    pairAt comesBefore byPart byNumber pairOf weightOf distanceOf difference larger both either choose
+unfolding treeOf treeWith accepted firstOf entries runsOf pinsOf runsAmong grown nextRun earliestOf earliest runsBetween runsFrom without pinsFrom keptIf sooner
+    pairAt comesBefore byPart byNumber pairOf weightOf distanceOf difference larger both choose
 worked = refl
 
 -- A feed with no pins: 17.
@@ -70,3 +69,12 @@ sides = refl
 pub a-step-apart : boxesShare (place (below 1) (pos 0)) (place (pos 1) (pos 1)) (place (pos 5) (below 2)) (place (pos 2) (pos 7)) ≡ false
 unfolding boxesShare overlap under belowBoth both choose
 a-step-apart = refl
+
+-- Four pins, whose boxes, of the first two and of the last two, touch at a corner.
+abbrev corner : List Spot
+corner = feed (place (pos 0) (pos 0) ∷ place (pos 20) (pos 20) ∷ place (pos 40) (pos 20) ∷ place (pos 20) (pos 40) ∷ [])
+
+-- Two runs between these pins would not be apart; two with a common pin are, wherever their boxes lie.
+pub would-meet : (boxesApart corner (run 0 1 ∷ run 2 3 ∷ []) ≡ false) × (boxesApart corner (run 0 1 ∷ run 1 3 ∷ []) ≡ true)
+unfolding noTwo anyOf clash common isEnd boxesShare overlap under belowBoth both either choose
+would-meet = (refl, refl)

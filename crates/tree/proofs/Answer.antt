@@ -1,26 +1,23 @@
--- The three answers of `treeOf`, each under its condition; and how many runs there are at most. Assumes nothing.
+-- The two answers of `treeOf`, each under its condition; and how many runs there are at most. Assumes nothing.
 use mathlib.Core.Path.{_≡_, refl, ap}
 use mathlib.Core.Bool.{true, false}
 use mathlib.Core.List.{List, [], _∷_}
-use mathlib.Core.Logic.{_⊎_, inl, inr}
 use Prim.Native.Nat.{ℕ, zero, suc, _≤_}
 use native.Mathlib.Omega.{arith}
 use lib.ListN.{length}
 use Rattle.basics.specs.Tests.{both, choose}
 use Rattle.refusal.specs.Refusals.{accepted}
 use Rattle.refusal.specs.Rows.{firstOf}
-use Rattle.refusal.specs.declared.Verdict.the-variants.{Accepted, NoPins, BoxesMeet}
+use Rattle.refusal.specs.declared.Verdict.the-variants.{Accepted, NoPins}
 use Rattle.refusal.proofs.Rows.{unlike, distinct, Apart, apart-by}
-use Rattle.basics.proofs.Tests.{decide}
 use Rattle.board.specs.declared.Spot.{Spot}
 use Rattle.board.specs.Spots.{mostPins}
 use Rattle.tree.specs.Growth.{pinsOf, runsAmong, runsOf, grown}
-use Rattle.tree.specs.Boxes.{boxesMeet}
 use Rattle.tree.specs.Trees.{mostRuns, treeWith, none, treeRows, treeOf}
 use Rattle.tree.proofs.Membership.{pins-few}
 
 module _ (feed : List Spot) where
-  -- 17 and 18 differ.
+  -- No two rows give the same: there is but 17.
   pub tree-apart : Apart (treeRows feed)
   unfolding distinct unlike both accepted
   tree-apart = apart-by (treeRows feed) refl
@@ -30,31 +27,23 @@ module _ (feed : List Spot) where
   unfolding treeOf firstOf accepted choose
   seventeen e = rw e
 
-  -- 18, where there are, and boxes meet.
-  pub eighteen : none (pinsOf feed) ≡ false → boxesMeet feed (runsOf feed) ≡ true → treeOf feed ≡ treeWith BoxesMeet []
-  unfolding treeOf firstOf accepted choose
-  eighteen e b = rw (e, b)
-
   -- Else the runs.
-  pub runs-told : none (pinsOf feed) ≡ false → boxesMeet feed (runsOf feed) ≡ false → treeOf feed ≡ treeWith Accepted (runsOf feed)
+  pub runs-told : none (pinsOf feed) ≡ false → treeOf feed ≡ treeWith Accepted (runsOf feed)
   unfolding treeOf firstOf accepted choose
-  runs-told e b = rw (e, b)
+  runs-told e = rw e
 
--- 17, 18 or the runs.
+-- 17 or the runs.
 pub data Answer (feed : List Spot) : Type 0 where
   no-pins : pinsOf feed ≡ [] → treeOf feed ≡ treeWith NoPins [] → Answer feed
-  boxes-meet : (f : ℕ) (left : List ℕ) → pinsOf feed ≡ f ∷ left → boxesMeet feed (runsOf feed) ≡ true → treeOf feed ≡ treeWith BoxesMeet [] → Answer feed
-  the-runs : (f : ℕ) (left : List ℕ) → pinsOf feed ≡ f ∷ left → boxesMeet feed (runsOf feed) ≡ false → treeOf feed ≡ treeWith Accepted (runsOf feed)
-      → Answer feed
+  the-runs : (f : ℕ) (left : List ℕ) → pinsOf feed ≡ f ∷ left → treeOf feed ≡ treeWith Accepted (runsOf feed) → Answer feed
 
--- Every feed has one of the three.
+-- Every feed has one of the two.
 pub answer : (feed : List Spot) → Answer feed
-answer feed = go (pinsOf feed) refl (decide (boxesMeet feed (runsOf feed)))
+answer feed = go (pinsOf feed) refl
   where
-    go : (l : List ℕ) → pinsOf feed ≡ l → (boxesMeet feed (runsOf feed) ≡ true) ⊎ (boxesMeet feed (runsOf feed) ≡ false) → Answer feed
-    go [] e b = no-pins e (seventeen feed (ap none e))
-    go (f ∷ left) e (inl b) = boxes-meet f left e b (eighteen feed (ap none e) b)
-    go (f ∷ left) e (inr b) = the-runs f left e b (runs-told feed (ap none e) b)
+    go : (l : List ℕ) → pinsOf feed ≡ l → Answer feed
+    go [] e = no-pins e (seventeen feed (ap none e))
+    go (f ∷ left) e = the-runs f left e (runs-told feed (ap none e))
 
 -- Growing takes as many runs as it is told.
 grown-many : (feed : List Spot) (n : ℕ) (reached left : List ℕ) → length (grown feed n reached left) ≡ n

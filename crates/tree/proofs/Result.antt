@@ -1,31 +1,30 @@
--- What the parts of `tree_of` come to: no pins, boxes that meet, or the runs. From pins that stand on the board.
-use mathlib.Core.Path.{_≡_, refl, sym, ap, ap₂, _∙_}
-use mathlib.Core.Bool.{Bool, true, false, not}
+-- What the parts of `tree_of` come to: no pins, or the runs. From pins that stand on the board.
+use mathlib.Core.Path.{_≡_, refl, sym, ap, _∙_}
+use mathlib.Core.Bool.{Bool, true, false}
 use mathlib.Core.List.{List, [], _∷_}
 use mathlib.Core.Logic.{_⊎_, inl, inr}
 use Prim.Native.Nat.{ℕ, suc, _+_, _<_, _≤_}
 use native.Mathlib.Omega.{arith}
 use lib.IntN.{ℤ}
 use lib.ListN.{length, getD, set, replicate, take}
-use Rattle.basics.specs.Tests.{both, either, choose, anyOf, noTwo}
-use Rattle.refusal.specs.declared.Verdict.the-variants.{Accepted, NoPins, BoxesMeet}
+use Rattle.basics.specs.Tests.{choose}
+use Rattle.refusal.specs.declared.Verdict.the-variants.{Accepted, NoPins}
 use Rattle.basics.proofs.Tests.{decide, choose-yes, choose-no}
 use Rattle.basics.proofs.Lists.{padded-first, padded-at}
 use Rattle.board.specs.declared.Spot.{Spot}
 use Rattle.tree.specs.declared.Run.{Run}
 use Rattle.tree.specs.declared.Tree.{Tree}
-use Rattle.board.specs.Spots.{mostPins, present, spotAt, placeAt, spotsFrom, allWithin, placeIn}
+use Rattle.board.specs.Spots.{mostPins, present, spotAt, spotsFrom, allWithin, placeIn}
 use Rattle.board.proofs.Lent.{spots-many}
 use Rattle.tree.specs.Growth.{run, pinsFrom, runsAmong, pinsOf, runsOf}
-use Rattle.tree.specs.Boxes.{clash, boxesMeet}
 use Rattle.tree.specs.Trees.{mostRuns, entries, treeWith, none, treeOf}
-use Rattle.tree.specs.Offers.{firstFrom, firstPin, LowEnds, clashAt}
+use Rattle.tree.specs.Offers.{firstFrom, firstPin, LowEnds}
 use Rattle.tree.specs.Reached.{runAt}
 use Rattle.tree.proofs.Lent.{there-at, place-there}
 use Rattle.tree.proofs.Membership.{Among, later, kept-yes, kept-no, pin-in}
 use Rattle.tree.proofs.Listing.{runs-rooted}
 use Rattle.tree.proofs.Going.{Going, going-start}
-use Rattle.tree.proofs.Answer.{seventeen, eighteen, runs-told, runs-few}
+use Rattle.tree.proofs.Answer.{seventeen, runs-told, runs-few}
 
 -- ---- the first pin
 -- A number heads the pins that are there; where there is none, it is the number after the last.
@@ -119,39 +118,10 @@ ends-there feed full ok r h = go (pinsOf feed) refl
     go [] e = absurd (omega (arith, no-run feed e))
     go (f ∷ left) e = let o = runs-rooted feed full ok f left e in (rw e (o .near-there r h), rw e (later {l = left} (o .far-there r h)))
 
--- Tests that say the same of each of some runs say the same of any,
-any-same : (f g : Run → Bool) (l : List Run) → ((j : ℕ) → j < length l → f (runAt l j) ≡ g (runAt l j)) → anyOf f l ≡ anyOf g l
-unfolding anyOf
-any-same f g [] h = refl
-any-same f g (a ∷ l) h = ap₂ either (h 0 (omega arith)) (any-same f g l (λ j k. h (suc j) (omega arith)))
-
--- and of any two.
-two-same : (f g : Run → Run → Bool) (l : List Run) → ((i j : ℕ) → i < length l → j < length l → f (runAt l i) (runAt l j) ≡ g (runAt l i) (runAt l j))
-    → noTwo f l ≡ noTwo g l
-unfolding noTwo
-two-same f g [] h = refl
-two-same f g (a ∷ l) h =
-    ap₂ both (ap not (any-same (f a) (g a) l (λ j k. h 0 (suc j) (omega arith) (omega arith))))
-    (two-same f g l (λ i j p q. h (suc i) (suc j) (omega arith) (omega arith)))
-
 module _ (xs ys : List ℤ) (ts : List Bool) (ok : allWithin (spotsFrom xs ys ts) ≡ true) where
-  -- A pin of the feed has a number below 32,
+  -- A pin of the feed has a number below 32.
   pin-low : (a : ℕ) → Among a (pinsOf (spotsFrom xs ys ts)) → a < mostPins
   pin-low a m = omega (arith, pin-in (spotsFrom xs ys ts) m .0, spots-many xs ys ts)
-
-  -- and stands where its x and its y say,
-  pin-stands : (a : ℕ) → Among a (pinsOf (spotsFrom xs ys ts)) → placeIn xs ys a ≡ placeAt (spotsFrom xs ys ts) a
-  pin-stands a m = place-there xs ys ts a (pin-low a m) (pin-in (spotsFrom xs ys ts) m .1)
-
-  -- so two runs of the feed clash by where their pins stand in the lists.
-  clash-same : (i j : ℕ) → i < length (runsOf (spotsFrom xs ys ts)) → j < length (runsOf (spotsFrom xs ys ts))
-      → clashAt (placeIn xs ys) (runAt (runsOf (spotsFrom xs ys ts)) i) (runAt (runsOf (spotsFrom xs ys ts)) j)
-      ≡ clash (spotsFrom xs ys ts) (runAt (runsOf (spotsFrom xs ys ts)) i) (runAt (runsOf (spotsFrom xs ys ts)) j)
-  unfolding clashAt clash
-  clash-same i j p q =
-      let m = ends-there (spotsFrom xs ys ts) (spots-many xs ys ts) ok i p in
-      let n = ends-there (spotsFrom xs ys ts) (spots-many xs ys ts) ok j q in
-      rw (pin-stands _ (m .0), pin-stands _ (m .1), pin-stands _ (n .0), pin-stands _ (n .1))
 
   module _ (t : Tree) (e : t ≡ treeWith Accepted (runsOf (spotsFrom xs ys ts))) where
     -- There are 31 at most,
@@ -159,7 +129,7 @@ module _ (xs ys : List ℤ) (ts : List Bool) (ok : allWithin (spotsFrom xs ys ts
     unfolding treeWith
     count-few = rw e (runs-few (spotsFrom xs ys ts) (spots-many xs ys ts))
 
-    -- their ends are pin numbers,
+    -- their ends are pin numbers;
     pub low-ends : (i : ℕ) → i < t .count → LowEnds (runAt (t .runs) i)
     unfolding treeWith entries
     low-ends i h =
@@ -167,19 +137,6 @@ module _ (xs ys : List ℤ) (ts : List Bool) (ok : allWithin (spotsFrom xs ys ts
         let m = ends-there (spotsFrom xs ys ts) (spots-many xs ys ts) ok i k in
         rw (e, padded-at mostRuns (run 0 0) (runsOf (spotsFrom xs ys ts)) i) (record { near = pin-low _ (m .0); far = pin-low _ (m .1) })
 
-    -- and their boxes meet where those of the feed's runs do.
-    meet-is : not (noTwo (clashAt (placeIn xs ys)) (take (t .count) (t .runs))) ≡ boxesMeet (spotsFrom xs ys ts) (runsOf (spotsFrom xs ys ts))
-    unfolding treeWith
-    meet-is =
-        ap not
-        (ap (noTwo (clashAt (placeIn xs ys))) (rw e (take-entries (runsOf (spotsFrom xs ys ts))))
-        ∙ two-same (clashAt (placeIn xs ys)) (clash (spotsFrom xs ys ts)) (runsOf (spotsFrom xs ys ts)) clash-same)
-
-    module _ (some : firstPin ts ≡ mostPins → ⊥) where
-      -- 18, where they do;
-      pub boxes-meet : not (noTwo (clashAt (placeIn xs ys)) (take (t .count) (t .runs))) ≡ true → treeWith BoxesMeet [] ≡ treeOf (spotsFrom xs ys ts)
-      boxes-meet h = sym (eighteen (spotsFrom xs ys ts) (pins-some xs ys ts some) (sym meet-is ∙ h))
-
-      -- else the runs.
-      pub the-runs : not (noTwo (clashAt (placeIn xs ys)) (take (t .count) (t .runs))) ≡ false → t ≡ treeOf (spotsFrom xs ys ts)
-      the-runs h = e ∙ sym (runs-told (spotsFrom xs ys ts) (pins-some xs ys ts some) (sym meet-is ∙ h))
+    -- and where some pin is there, they are the answer.
+    pub the-runs : (firstPin ts ≡ mostPins → ⊥) → t ≡ treeOf (spotsFrom xs ys ts)
+    the-runs some = e ∙ sym (runs-told (spotsFrom xs ys ts) (pins-some xs ys ts some))

@@ -1,4 +1,4 @@
--- When the boxes of two runs share a point.
+-- When the boxes of two runs share a point. No code asks for it: demand 2's reader is told that they never do.
 use mathlib.Core.Bool.{Bool, not}
 use mathlib.Core.List.{List}
 use Prim.Native.Nat.{ℕ}
@@ -41,6 +41,6 @@ clash feed r s =
     both (not (common r s))
     (boxesShare (placeAt feed (r .near)) (placeAt feed (r .far)) (placeAt feed (s .near)) (placeAt feed (s .far)))
 
--- The boxes of two of the runs, without a common pin, share a point.
-abbrev pub boxesMeet : List Spot → List Run → Bool
-boxesMeet feed runs = not (noTwo (clash feed) runs)
+-- No two of the runs, without a common pin, have boxes that share a point.
+abbrev pub boxesApart : List Spot → List Run → Bool
+boxesApart feed runs = noTwo (clash feed) runs

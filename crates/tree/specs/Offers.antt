@@ -1,17 +1,16 @@
 -- How the runs are found: each pin that waits keeps one reached pin, the near pin of its earliest pair so far. No entry point's promise rests on these.
 use mathlib.Core.Path.{_≡_}
-use mathlib.Core.Bool.{Bool, true, false, not}
+use mathlib.Core.Bool.{Bool, true, false}
 use mathlib.Core.List.{List}
 use Prim.Native.Nat.{ℕ, zero, suc, _<_}
 use lib.IntN.{pos}
 use lib.ListN.{length, getD}
-use Rattle.basics.specs.Tests.{both, choose}
+use Rattle.basics.specs.Tests.{choose}
 use Rattle.basics.specs.Lists.{valuesFrom}
 use Rattle.board.specs.declared.Place.{Place}
 use Rattle.board.specs.Place.{inside}
 use Rattle.board.specs.Spots.{mostPins}
 use Rattle.tree.specs.Weight.{pairOf, comesBefore}
-use Rattle.tree.specs.Boxes.{common, boxesShare}
 use Rattle.tree.specs.declared.Run.{Run}
 use Rattle.tree.specs.declared.Offer.{Offer}
 
@@ -74,7 +73,3 @@ pub record Ready (at : ℕ → Place) (waits : List Bool) (near : List ℕ) (lat
 pub record LowEnds (r : Run) : Type 0 where
   pub near : r .near < mostPins
   pub far : r .far < mostPins
-
--- Two runs without a common pin have boxes that share a point, where pins stand as `at` says.
-unfoldable pub clashAt : (ℕ → Place) → Run → Run → Bool
-clashAt at r s = both (not (common r s)) (boxesShare (at (r .near)) (at (r .far)) (at (s .near)) (at (s .far)))

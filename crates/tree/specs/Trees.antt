@@ -1,4 +1,4 @@
--- The runs of a feed, or 17 or 18.
+-- The runs of a feed, or 17.
 use mathlib.Core.Bool.{Bool, true, false}
 use mathlib.Core.List.{List, [], _∷_}
 use Prim.Native.Nat.{ℕ, _-_}
@@ -8,13 +8,12 @@ use Rattle.basics.specs.Lists.{padded}
 use Rattle.refusal.specs.Refusals.{accepted}
 use Rattle.refusal.specs.Rows.{Row, given, firstOf}
 use Rattle.refusal.specs.declared.Verdict.{Verdict}
-use Rattle.refusal.specs.declared.Verdict.the-variants.{Accepted, NoPins, BoxesMeet}
+use Rattle.refusal.specs.declared.Verdict.the-variants.{Accepted, NoPins}
 use Rattle.board.specs.declared.Spot.{Spot}
 use Rattle.board.specs.Spots.{mostPins}
 use Rattle.tree.specs.declared.Run.{Run}
 use Rattle.tree.specs.declared.Tree.{Tree}
 use Rattle.tree.specs.Growth.{run, pinsOf, runsOf}
-use Rattle.tree.specs.Boxes.{boxesMeet}
 
 -- The answer holds 31 run entries: one fewer than there can be pins.
 abbrev pub mostRuns : ℕ
@@ -33,9 +32,9 @@ abbrev pub none : List ℕ → Bool
 none [] = true
 none (n ∷ pins) = false
 
--- 17: no pins to wire. 18: boxes of two runs without a common pin share a point.
+-- 17: no pins to wire.
 abbrev pub treeRows : List Spot → List Row
-treeRows feed = given (none (pinsOf feed)) NoPins ∷ given (boxesMeet feed (runsOf feed)) BoxesMeet ∷ []
+treeRows feed = given (none (pinsOf feed)) NoPins ∷ []
 
 -- The runs of a feed, where it is not turned away.
 unfoldable pub treeOf : List Spot → Tree

@@ -6,18 +6,14 @@ use board::Place;
 use board::spots::place_in;
 use refusal::Verdict;
 ghost use mathlib.Core.Path.{_≡_};
-ghost use mathlib.Core.Bool.{true, not};
+ghost use mathlib.Core.Bool.{true};
 ghost use mathlib.Core.List.{[]};
-ghost use Prim.Native.Nat.{ℕ, _<_, _≤_};
-ghost use lib.ListN.{take, drop};
-ghost use Rattle.basics.specs.Tests.{anyOf, noTwo};
+ghost use Prim.Native.Nat.{_<_};
 ghost use Rattle.refusal.specs.declared.Verdict.the-variants.{Accepted};
 ghost use Rattle.board.specs.Spots.{mostPins, spotsFrom, allWithin, placeIn};
 ghost use Rattle.tree.specs.Growth.{runsOf};
-ghost use Rattle.tree.specs.Boxes.{under, overlap, boxesShare, common};
-ghost use Rattle.tree.specs.Trees.{mostRuns, treeWith, treeOf};
-ghost use Rattle.tree.specs.Offers.{firstPin, noOffer, offerOf, earlierOffer, nextOffer, nextNears, Standing, Ready, LowEnds, clashAt};
-ghost use Rattle.tree.specs.Reached.{runAt};
+ghost use Rattle.tree.specs.Trees.{treeWith, treeOf};
+ghost use Rattle.tree.specs.Offers.{firstPin, noOffer, offerOf, earlierOffer, nextOffer, nextNears, Standing, Ready};
 
 // The weight of a pair of pins: the distance, minus the difference in y, minus the larger x.
 pub struct Weight {
@@ -192,108 +188,6 @@ fn grow(xs: &[i32; PINS], ys: &[i32; PINS], there: &[bool; PINS], first: usize) 
     }
 }
 
-// Whether both of two numbers are less than both of two others.
-fn is_under(a: i32, b: i32, c: i32, d: i32) -> bool
-    ensures { λ r. ⌜ r ≡ under a b c d ⌝ }
-{
-    if a < c {
-        if a < d {
-            if b < c {
-                return b < d;
-            }
-        }
-    }
-    false
-}
-
-// Whether the stretch from a to b and the stretch from c to d share a number.
-fn do_overlap(a: i32, b: i32, c: i32, d: i32) -> bool
-    ensures { λ r. ⌜ r ≡ overlap a b c d ⌝ }
-{
-    let first = is_under(a, b, c, d);
-    let second = is_under(c, d, a, b);
-    if first { false } else { !second }
-}
-
-// Whether the box of a and b and the box of c and d share a point.
-fn boxes_share(a: Place, b: Place, c: Place, d: Place) -> bool
-    ensures { λ r. ⌜ r ≡ boxesShare a b c d ⌝ }
-{
-    let x = do_overlap(a.x, b.x, c.x, d.x);
-    let y = do_overlap(a.y, b.y, c.y, d.y);
-    if x { y } else { false }
-}
-
-// Whether two runs have a common pin.
-fn have_common(a: Run, b: Run) -> bool
-    ensures { λ r. ⌜ r ≡ common a b ⌝ }
-{
-    if a.near == b.near {
-        return true;
-    }
-    if a.near == b.far {
-        return true;
-    }
-    if a.far == b.near {
-        return true;
-    }
-    a.far == b.far
-}
-
-// Whether two runs without a common pin have boxes that share a point.
-fn do_clash(xs: &[i32; PINS], ys: &[i32; PINS], a: Run, b: Run) -> bool
-    requires { ⌜ LowEnds a × LowEnds b ⌝ }
-    ensures { λ r. ⌜ r ≡ clashAt (placeIn (now (xs .entry)) (now (ys .entry))) a b ⌝ }
-{
-    if have_common(a, b) {
-        return false;
-    }
-    let p = place_in(xs, ys, a.near);
-    let q = place_in(xs, ys, a.far);
-    let s = place_in(xs, ys, b.near);
-    let t = place_in(xs, ys, b.far);
-    boxes_share(p, q, s, t)
-}
-
-// Whether a run clashes with one of the runs from number `start` on.
-fn clashes_any(
-    xs: &[i32; PINS],
-    ys: &[i32; PINS],
-    runs: [Run; RUNS],
-    count: usize,
-    run: Run,
-    start: usize,
-) -> bool
-    requires { ⌜ (count ≤ mostRuns) × ((i : ℕ) → i < count → LowEnds (runAt runs i)) × LowEnds run ⌝ }
-    ensures { λ r. ⌜ r ≡ anyOf (clashAt (placeIn (now (xs .entry)) (now (ys .entry))) run) (drop start (take count runs)) ⌝ }
-{
-    let mut at = start;
-    while at < count {
-        let other = runs[at];
-        if do_clash(xs, ys, run, other) {
-            return true;
-        }
-        at += 1;
-    }
-    false
-}
-
-// Whether the boxes of two of the runs, without a common pin, share a point.
-fn do_boxes_meet(xs: &[i32; PINS], ys: &[i32; PINS], runs: [Run; RUNS], count: usize) -> bool
-    requires { ⌜ (count ≤ mostRuns) × ((i : ℕ) → i < count → LowEnds (runAt runs i)) ⌝ }
-    ensures { λ r. ⌜ r ≡ not (noTwo (clashAt (placeIn (now (xs .entry)) (now (ys .entry)))) (take count runs)) ⌝ }
-{
-    let mut at = 0;
-    while at < count {
-        let run = runs[at];
-        if clashes_any(xs, ys, runs, count, run, at + 1) {
-            return true;
-        }
-        at += 1;
-    }
-    false
-}
-
 // A refusal, with no runs.
 fn refused(verdict: Verdict) -> Tree
     ensures { λ r. ⌜ r ≡ treeWith verdict [] ⌝ }
@@ -306,7 +200,7 @@ fn refused(verdict: Verdict) -> Tree
     }
 }
 
-// The runs of these pins, or 17 or 18.
+// The runs of these pins, or 17.
 pub fn tree_of(xs: &[i32; PINS], ys: &[i32; PINS], there: &[bool; PINS]) -> Tree
     requires { ⌜ allWithin (spotsFrom (now xs) (now ys) (now there)) ≡ true ⌝ }
     ensures { λ r. ⌜ r ≡ treeOf (spotsFrom (now (xs .entry)) (now (ys .entry)) (now (there .entry))) ⌝ }
@@ -315,10 +209,5 @@ pub fn tree_of(xs: &[i32; PINS], ys: &[i32; PINS], there: &[bool; PINS]) -> Tree
     if first == PINS {
         return refused(Verdict::NoPins);
     }
-    let tree = grow(xs, ys, there, first);
-    let runs = tree.runs;
-    if do_boxes_meet(xs, ys, runs, tree.count) {
-        return refused(Verdict::BoxesMeet);
-    }
-    tree
+    grow(xs, ys, there, first)
 }

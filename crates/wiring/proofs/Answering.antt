@@ -23,11 +23,10 @@ use Rattle.tree.specs.declared.Run.{Run}
 use Rattle.tree.specs.declared.Tree.{Tree}
 use Rattle.board.specs.Spots.{mostPins, placeAt, placeIn, allWithin, allApart}
 use Rattle.tree.specs.Growth.{run, pinsOf, runsOf}
-use Rattle.tree.specs.Boxes.{boxesMeet}
 use Rattle.tree.specs.Trees.{mostRuns, entries, treeWith, none, treeOf}
 use Rattle.tree.specs.Reached.{runAt, reachedPin, reachedNear, reachedPlace}
 use Rattle.board.proofs.Rules.{inside-at}
-use Rattle.tree.proofs.Answer.{Answer, no-pins, boxes-meet, the-runs, answer, runs-few}
+use Rattle.tree.proofs.Answer.{Answer, no-pins, the-runs, answer, runs-few}
 use Rattle.copper.specs.declared.Shape.{Shape}
 use Rattle.copper.specs.declared.Leg.{Leg}
 use Rattle.copper.specs.Shapes.{shapeOf, legsOf}
@@ -53,8 +52,7 @@ tree-refuses favoured feed room t e n = go (answer feed)
   where
     go : Answer feed → turnedAway (t .verdict) ≡ wiringFavouring favoured feed room
     go (no-pins p q) = unfold wiringFavouring wiringWith treeWith firstOf accepted choose in rw (e, q, p)
-    go (boxes-meet f left p b q) = unfold wiringFavouring wiringWith treeWith firstOf accepted choose in rw (e, q, p, b)
-    go (the-runs f left p b q) = absurd (opposite {t = accepted (t .verdict)} (unfold treeWith accepted in rw (e, q)) n)
+    go (the-runs f left p q) = absurd (opposite {t = accepted (t .verdict)} (unfold treeWith accepted in rw (e, q)) n)
 
 -- ---- how it is accepted
 -- A feed whose tree is accepted: its first pin and the others, and what the tree holds.
@@ -62,19 +60,17 @@ pub record Wired (feed : List Spot) (t : Tree) : Type 0 where
   pub first : ℕ
   pub left : List ℕ
   pub pins : pinsOf feed ≡ first ∷ left
-  pub clear : boxesMeet feed (runsOf feed) ≡ false
   pub count : t .count ≡ length (runsOf feed)
   pub runs : t .runs ≡ entries (runsOf feed)
 
--- The tree accepts: there is a first pin, no boxes meet, and its runs are those of the feed.
+-- The tree accepts: there is a first pin, and its runs are those of the feed.
 pub tree-accepts : (feed : List Spot) (t : Tree) → t ≡ treeOf feed → accepted (t .verdict) ≡ true → Wired feed t
 tree-accepts feed t e y = go (answer feed)
   where
     go : Answer feed → Wired feed t
     go (no-pins p q) = absurd (opposite y (unfold treeWith accepted in rw (e, q)))
-    go (boxes-meet f left p b q) = absurd (opposite y (unfold treeWith accepted in rw (e, q)))
-    go (the-runs f left p b q) =
-        record { first = f; left = left; pins = p; clear = b; count = unfold treeWith in rw (e, q); runs = unfold treeWith in rw (e, q) }
+    go (the-runs f left p q) =
+        record { first = f; left = left; pins = p; count = unfold treeWith in rw (e, q); runs = unfold treeWith in rw (e, q) }
 
 -- ---- entries after the last are blank
 -- The runs of the tree by number are those of its entries ..
@@ -246,13 +242,13 @@ module _ (feed : List Spot) (full : length feed ≡ mostPins) (ok : allWithin fe
 
     -- its length that of the best choice,
     length-is : f .cost / base ≡ lengthOfChoice feed runs choice
-    length-is = ap (λ (c : ℕ). c / base) cost-is ∙ length-found feed full ok (w .first) (w .left) (w .pins) free (w .clear) few favoured
+    length-is = ap (λ (c : ℕ). c / base) cost-is ∙ length-found feed full ok (w .first) (w .left) (w .pins) free few favoured
 
     -- its shapes those of the best choice,
     shapes-is : shapesBy feed (upperIn favoured (f .cost % base)) runs ≡ choice
     shapes-is =
         ap (λ (c : ℕ). shapesBy feed (upperIn favoured (c % base)) runs) cost-is
-        ∙ shapes-found feed full ok (w .first) (w .left) (w .pins) free (w .clear) few favoured
+        ∙ shapes-found feed full ok (w .first) (w .left) (w .pins) free few favoured
 
     -- and the choices weighed those of the definition.
     weighed-is : f .weighed ≡ weighedOf feed runs (pinsOf feed)
@@ -291,7 +287,7 @@ module _ (feed : List Spot) (full : length feed ≡ mostPins) (ok : allWithin fe
       -- so that the room alone decides.
       verdict-is : (room : ℕ) → firstOf (wiringRows feed choice room) ≡ choose (ltb room (S .count)) RoomTooSmall Accepted
       unfolding firstOf choose
-      verdict-is room = rw (some, w .clear, many-is)
+      verdict-is room = rw (some, many-is)
 
       -- Too little room.
       pub room-refused : (room : ℕ) → room < S .count → turnedAway RoomTooSmall ≡ wiringFavouring favoured feed room

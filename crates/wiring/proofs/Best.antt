@@ -1,5 +1,5 @@
 -- THE SHAPES FOUND ARE THE FIRST OF THE SHORTEST: what is asked pin by pin tells, as a length and a mask, the choice that the definition finds by
--- looking through all of them. From pins that stand on the board, no two of them too near, and boxes that do not meet.
+-- looking through all of them. From pins that stand on the board, no two of them too near.
 use mathlib.Core.Path.{_≡_, refl, sym, ap, ap₂, _∙_}
 use mathlib.Core.Bool.{Bool, true, false, not}
 use mathlib.Core.List.{List, [], _∷_, _++_}
@@ -15,7 +15,6 @@ use Rattle.board.specs.Place.{isStraight}
 use Rattle.tree.specs.declared.Run.{Run}
 use Rattle.board.specs.Spots.{mostPins, allWithin, allApart}
 use Rattle.tree.specs.Growth.{pinsOf, runsOf}
-use Rattle.tree.specs.Boxes.{boxesMeet}
 use Rattle.tree.specs.Trees.{mostRuns}
 use Rattle.tree.specs.Reached.{runAt, reachedNear, reachedPlace}
 use Rattle.tree.proofs.Membership.{Among}
@@ -72,7 +71,7 @@ split-mask : (mask long : ℕ) → mask < base → (mask + long * base) % base �
 split-mask mask long l = add-mul-mod-self-right mask long base ∙ mod-eq-of-lt l
 
 module _ (feed : List Spot) (full : length feed ≡ mostPins) (ok : allWithin feed ≡ true) (f : ℕ) (left : List ℕ) (e : pinsOf feed ≡ f ∷ left)
-    (free : allApart feed ≡ true) (clear : boxesMeet feed (runsOf feed) ≡ false) (few : length (runsOf feed) ≤ mostRuns) (favoured : Bool) where
+    (free : allApart feed ≡ true) (few : length (runsOf feed) ≤ mostRuns) (favoured : Bool) where
   abbrev runs : List Run
   runs = runsOf feed
 
@@ -177,11 +176,11 @@ module _ (feed : List Spot) (full : length feed ≡ mostPins) (ok : allWithin fe
   -- The length of the best choice ..
   pub length-found : cost / base ≡ lengthOfChoice feed runs (bestChoice favoured feed runs)
   length-found =
-      let z = first-shortest at near n (λ i l. places-held feed full ok f left e i) (laid feed full ok f left e free clear) base (markOf favoured) small in
+      let z = first-shortest at near n (λ i l. places-held feed full ok f left e i) (laid feed full ok f left e free) base (markOf favoured) small in
       length-is (z .0) (z .1) (z .2) (z .3)
 
   -- .. and its shapes.
   pub shapes-found : shapesBy feed (upperIn favoured (cost % base)) runs ≡ bestChoice favoured feed runs
   shapes-found =
-      let z = first-shortest at near n (λ i l. places-held feed full ok f left e i) (laid feed full ok f left e free clear) base (markOf favoured) small in
+      let z = first-shortest at near n (λ i l. places-held feed full ok f left e i) (laid feed full ok f left e free) base (markOf favoured) small in
       shapes-is (z .0) (z .1) (z .2) (z .3)

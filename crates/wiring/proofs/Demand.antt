@@ -20,6 +20,7 @@ use Rattle.basics.specs.Lists.{Among, first, later}
 use Rattle.tree.specs.Trees.{mostRuns}
 use Rattle.spanning.proofs.Spanning.{none-among}
 use Rattle.spanning.proofs.TheTree.{runs-are-the-tree}
+use Rattle.spanning.proofs.Apart.{never-meet}
 use Rattle.copper.specs.declared.Shape.{Shape}
 use Rattle.copper.specs.declared.Leg.{Leg}
 use Rattle.copper.specs.Shapes.{shapeOf, legsOf}
@@ -148,6 +149,7 @@ module _ (favoured : Bool) (feed : List Spot) (full : length feed ≡ mostPins) 
       record {
         tree = rw r (runs-are-the-tree feed full ok f left e);
         taken = r;
+        boxes-apart = rw r (never-meet feed full ok);
         blank-after = after-are feed best;
         shapes = rw (r, s) (best-first feed (runsOf feed) favoured);
         legs = rw (r, s) (legs-are feed best);
@@ -188,6 +190,7 @@ best-in-list list e b =
     record {
       tree = b .tree;
       taken = b .taken;
+      boxes-apart = b .boxes-apart;
       blank-after = b .blank-after;
       shapes = b .shapes;
       legs = rw e (b .legs);

@@ -117,7 +117,7 @@ module _ (feed : List Spot) (favoured other : Bool) where
   abbrev two : List Shape
   two = bestChoice other feed runs
 
-  -- The rows of wiring say the same: 17 and 18 look at no shape, and 19 at the number of legs.
+  -- The rows of wiring say the same: 17 looks at no shape, and 19 at the number of legs.
   verdict-either : (room : ℕ) → firstOf (wiringRows feed one room) ≡ firstOf (wiringRows feed two room)
   verdict-either room = ap (λ (n : ℕ). firstOf (treeRows feed ++ (given (ltb room n) RoomTooSmall ∷ []))) (legs-either feed runs favoured other)
 

@@ -37,7 +37,7 @@ choice-few feed (r ∷ runs) (s ∷ shapes) =
 pub needed-few : (feed : List Spot) (shapes : List Shape) → length feed ≡ mostPins → length (legsOfChoice feed (runsOf feed) shapes) ≤ mostLegs
 needed-few feed shapes full = omega (arith, choice-few feed (runsOf feed) shapes, runs-few feed full)
 
--- Wiring with room for 62 legs is refused with 17 or 18 alone.
+-- Wiring with room for 62 legs is refused with 17 alone.
 pub most-room-verdict : (feed : List Spot) (favour : Favour) → length feed ≡ mostPins → wiringOf feed mostLegs favour .wiring .verdict ≡ firstOf (treeRows feed)
 unfolding firstOf choose
 most-room-verdict feed favour full =

@@ -1,5 +1,4 @@
--- The runs of a feed, by when their pins are reached, are laid as the length asks. From pins that stand on the board, no two of them too near,
--- and a search that found no boxes that meet.
+-- The runs of a feed, by when their pins are reached, are laid as the length asks. From pins that stand on the board, no two of them too near.
 use mathlib.Core.Path.{_≡_, refl, sym, ap, _∙_}
 use mathlib.Core.Bool.{Bool, true, false}
 use mathlib.Core.List.{List, _∷_}
@@ -22,7 +21,6 @@ use Rattle.tree.specs.declared.Run.{Run}
 use Rattle.board.specs.Spots.{mostPins, present, placeOf, spotAt, placeAt, spotsTooNear, allWithin, allApart}
 use Rattle.board.proofs.Rules.{apart-pair}
 use Rattle.tree.specs.Growth.{pinsOf, runsOf}
-use Rattle.tree.specs.Boxes.{boxesMeet}
 use Rattle.tree.specs.Reached.{runAt, reachedPin, reachedNear, reachedPlace}
 use Rattle.tree.proofs.Membership.{Among, pins-there}
 use Rattle.tree.proofs.Listing.{Rooted, pins-low, runs-rooted}
@@ -164,7 +162,6 @@ module _ (feed : List Spot) (full : length feed ≡ mostPins) (ok : allWithin fe
             (apart b a p (pins-low feed full ok f left e a m) o m
             (place-turned (placeAt feed a) (placeAt feed b) (stands feed ok a .held) (stands feed ok b .held) h))
 
-    module _ (clear : boxesMeet feed runs ≡ false) where
-      -- The runs are laid as the length asks.
-      pub laid : Spaced sites near n
-      laid = planted feed full ok f left e distinct clear
+    -- The runs are laid as the length asks.
+    pub laid : Spaced sites near n
+    laid = planted feed full ok f left e distinct

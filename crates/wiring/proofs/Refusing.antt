@@ -1,4 +1,4 @@
--- The verdict that the answer of a wiring carries: 17, 18, 19, or accepted. From the law of rows; assumes nothing.
+-- The verdict that the answer of a wiring carries: 17, 19, or accepted. From the law of rows; assumes nothing.
 use mathlib.Core.Path.{_≡_, refl}
 use mathlib.Core.Bool.{false}
 use mathlib.Core.List.{List, [], _∷_, _++_}

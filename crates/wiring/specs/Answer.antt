@@ -72,7 +72,7 @@ answerWith feed shapes =
     let runs : List Run = runsOf feed in
     laidWith Accepted (lengthOfChoice feed runs shapes) (shapedRuns runs shapes) (weighedOf feed runs (pinsOf feed)) (legsOfChoice feed runs shapes)
 
--- Wiring: 17 and 18, which are the tree's, then 19: lent room smaller than needed.
+-- Wiring: 17, which is the tree's, then 19: lent room smaller than needed.
 abbrev pub wiringRows : List Spot → List Shape → ℕ → List Row
 wiringRows feed shapes room = treeRows feed ++ (given (ltb room (length (legsOfChoice feed (runsOf feed) shapes))) RoomTooSmall ∷ [])
 

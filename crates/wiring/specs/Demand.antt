@@ -1,7 +1,7 @@
 -- What demand 2 and document 01 say of an accepted wiring of a feed: its runs are the tree, its shapes the first of the shortest, its length is counted
 -- by steps, its choices by the sum over pins, and no copper lies diagonal; and of a refused one.
 use mathlib.Core.Path.{_≡_}
-use mathlib.Core.Bool.{Bool, false}
+use mathlib.Core.Bool.{Bool, true, false}
 use mathlib.Core.List.{List, _∷_, _++_, map}
 use mathlib.Core.Logic.{_⊎_}
 use Prim.Native.Nat.{ℕ, _*_, _-_, _≤_, _<_}
@@ -13,6 +13,7 @@ use Rattle.board.specs.Place.{distanceOf}
 use Rattle.board.specs.Spots.{placeAt}
 use Rattle.tree.specs.declared.Run.{Run}
 use Rattle.tree.specs.Growth.{run, pinsOf, runsOf}
+use Rattle.tree.specs.Boxes.{boxesApart}
 use Rattle.tree.specs.Spanning.{IsTree}
 use Rattle.tree.specs.Trees.{mostRuns}
 use Rattle.copper.specs.declared.Shape.{Shape}
@@ -72,6 +73,8 @@ pub record BestWiring (favoured : Bool) (feed : List Spot) (laid : Laid) : Type 
   pub tree : IsTree feed (runsIn (laid .wiring))
   -- listed as they are taken when growing from the lowest-numbered pin;
   pub taken : runsIn (laid .wiring) ≡ runsOf feed
+  -- the boxes of two runs without a common pin never share a point (document 02, [8]);
+  pub boxes-apart : boxesApart feed (runsIn (laid .wiring)) ≡ true
   -- run entries after the last are 0, 0, straight;
   pub blank-after : drop (laid .wiring .runs) (laid .wiring .entries) ≡ replicate (mostRuns - laid .wiring .runs) noRun
   -- its shapes are, of all choices of one shape for each run, the first of the shortest;
