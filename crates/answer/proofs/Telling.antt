@@ -9,13 +9,14 @@ use Rattle.basics.specs.Tests.{choose}
 use Rattle.refusal.specs.Refusals.{accepted}
 use Rattle.refusal.specs.declared.Verdict.{Verdict}
 use Rattle.pinmap.specs.declared.Form.{Form}
-use Rattle.pinmap.specs.declared.Writing.{Writing}
+use Rattle.writemap.specs.declared.Writing.{Writing}
 use Rattle.forms.specs.Moving.{movedOf, bufferMoved}
 use Rattle.desk.specs.declared.Desk.{Desk}
 use Rattle.desk.specs.declared.Answered.{Answered}
-use Rattle.desk.specs.declared.Written.{Written}
+use Rattle.asked.specs.declared.Written.{Written}
 use Rattle.rows.specs.Calls.{Call}
-use Rattle.desk.specs.Desk.{step, writtenOf, bufferOf}
+use Rattle.desk.specs.Desk.{step}
+use Rattle.asked.specs.Asked.{writtenOf, bufferOf}
 use Rattle.text.specs.Text.{mostRoom, answerBytes, Holds}
 use Rattle.text.proofs.Printing.{held}
 use Rattle.printed.specs.Answers.{mostLineBytes, verdictLine, writtenLine}

@@ -11,23 +11,27 @@ use Rattle.refusal.specs.Rows.{firstOf}
 use Rattle.pinmap.specs.Number.{bitsAt, numberAt, firstByte, secondByte, thirdByte, fourthByte, fourBytes}
 use Rattle.board.specs.Place.{onBoard, inside, difference, isStraight, closer, tooNear, sameNumber, samePlace}
 use Rattle.board.specs.Spots.{spotsTooNear, crowded, within, tooNearOther}
-use Rattle.drawing.specs.Pins.{isThere, isNet, isOf, feedSpot, feedOf, hasNet, sameHeld, samePin, samePins, lawful, spotOf, spotsOf}
-use Rattle.drawing.specs.Edits.{movedPin, pinMade, pinUnmade, made, unmade, standsAt, foundAs, allFound, proper, makeable, takeable, heldBy}
+use Rattle.drawing.specs.Pins.{isThere, isNet, isOf, feedSpot, feedOf, hasNet, sameHeld, samePin, samePins, lawful, spotOf, spotsOf, standsAt, heldBy}
+use Rattle.edits.specs.Edits.{movedPin, pinMade, pinUnmade, made, unmade, foundAs, allFound, proper, makeable, takeable}
 use Rattle.tree.specs.Growth.{pairAt, keptIf, pinsFrom, without, runsFrom, runsBetween, earliest, earliestOf, nextRun, grown, runsAmong, pinsOf, runsOf}
 use Rattle.tree.specs.Bends.{bent}
 use Rattle.copper.specs.Shapes.{legsOf}
 use Rattle.wiring.specs.Choices.{shapesOf, withShape, withShapes, choicesOf, legsOfChoice, lengthOfChoice, shortest, shortestOf, bestChoice}
-use Rattle.wiring.specs.Answer.{legEntries}
+use Rattle.laying.specs.Entries.{legEntries}
 use Rattle.spans.specs.Spans.{insert, add, addAll}
 use Rattle.mill.specs.Numbered.{counted, uncounted, rowNumber, spanOf, placeOf, segmentsOf}
 use Rattle.mill.specs.Answer.{copperOf, cutWith}
-use Rattle.pinmap.specs.Record.{recordOf, faulty, recordBytes, pinBytes}
-use Rattle.pinmap.specs.Map.{plain, recordsIn, withPinOf, withPinsOf, rowsFrom, wrongLength, readMap, mapFrom, mapOf, written}
+use Rattle.records.specs.Record.{recordOf, faulty}
+use Rattle.writemap.specs.Record.{recordBytes, pinBytes}
+use Rattle.pinmap.specs.Map.{plain}
+use Rattle.readmap.specs.Map.{recordsIn, withPinOf, withPinsOf, rowsFrom, wrongLength, readMap}
+use Rattle.writemap.specs.Map.{mapFrom, mapOf, written}
 use Rattle.forms.specs.Moving.{movedOf, bufferMoved}
 use Rattle.journal.specs.Journal.{own, kept, filled, inTurn}
 use Rattle.desk.specs.declared.Desk.{Desk}
 use Rattle.seats.specs.Seats.{sameJob}
-use Rattle.desk.specs.Desk.{jobOf, soundOpen, soundClosed, soundSeat, soundTo, sound, edited, effect, answerOf, step, emptyDesk, writtenOf, bufferOf, milledOf}
+use Rattle.desk.specs.Desk.{jobOf, soundOpen, soundClosed, soundSeat, soundTo, sound, edited, effect, answerOf, step, emptyDesk}
+use Rattle.asked.specs.Asked.{writtenOf, bufferOf, milledOf}
 use Rattle.text.specs.Text.{text, textForEach, same}
 use Rattle.text.specs.Words.{endOf, beforeFirst, pieces, nonEmpty, wordsOf}
 use Rattle.text.specs.Numbers.{between, valueFrom, isNumber, hasMinus, isCoordinate, signed, isHex, hexValue, allPairs, bytesOf, isSpelled, isMap, spelled}

@@ -9,7 +9,7 @@ use Rattle.refusal.specs.Refusals.{accepted, toldOf}
 use Rattle.refusal.specs.Rows.{firstOf}
 use Rattle.refusal.specs.declared.Verdict.{Verdict}
 use Rattle.refusal.specs.declared.Verdict.the-variants.{NotOpen}
-use Rattle.drawing.specs.declared.stated.Making.the-variants.{Placing, Moving, Removing}
+use Rattle.edits.specs.declared.stated.Making.the-variants.{Placing, Moving, Removing}
 use Rattle.drawing.specs.Pins.{holding}
 use Rattle.bare.specs.Bare.{bareOf}
 use Rattle.pinmap.specs.declared.Form.{Form}
@@ -17,7 +17,8 @@ use Rattle.forms.specs.Moving.{movedOf, bufferMoved}
 use Rattle.rows.specs.Calls.{Call, opening, closing, making, undoing, redoing}
 use Rattle.rows.specs.Refusals.{Look}
 use Rattle.desk.specs.declared.Desk.{Desk}
-use Rattle.desk.specs.Desk.{lookAt, namingAt, step, writtenOf, bufferOf, wiredOf, milledOf, droppedOf}
+use Rattle.desk.specs.Desk.{lookAt, namingAt, step}
+use Rattle.asked.specs.Asked.{writtenOf, bufferOf, wiredOf, milledOf, droppedOf}
 use Rattle.script.specs.declared.Said.{Said}
 use Rattle.script.specs.Said.{saidBy, mapGiven, xsGiven, ysGiven, favourGiven, sheetGiven, loadsGiven}
 use Rattle.printed.specs.Answers.{verdictLine, writtenLine, closedLine, lostLine, notACallLine}

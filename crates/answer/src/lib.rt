@@ -21,7 +21,8 @@ ghost use Prim.Native.Nat.{_≤_};
 ghost use lib.ListN.{length};
 ghost use Rattle.bare.specs.Bare.{bareOf};
 ghost use Rattle.rows.specs.Calls.{opening};
-ghost use Rattle.desk.specs.Desk.{step, wiredOf, milledOf, droppedOf};
+ghost use Rattle.desk.specs.Desk.{step};
+ghost use Rattle.asked.specs.Asked.{wiredOf, milledOf, droppedOf};
 ghost use Rattle.text.specs.Text.{over, mostRoom, answerBytes, Holds};
 ghost use Rattle.script.specs.Said.{mapGiven, xsGiven, ysGiven, favourGiven, sheetGiven, loadsGiven};
 ghost use Rattle.printed.specs.Answers.{verdictLine, lostLine};
@@ -76,7 +77,7 @@ fn print_lent(verdict: Verdict, bytes: usize, buffer: &[u8], out: &mut [u8; ANSW
 fn write_into(desk: Desk, seat: usize, buffer: &mut [u8], out: &mut [u8; ANSWER_BYTES]) -> usize
     ensures { λ r. ⌜ Holds answerBytes (writingText desk seat (now (buffer .entry))) (now (out .entry)) r (now (out .exit)) ⌝ }
 {
-    let written = desk.write(seat, buffer);
+    let written = asked::write(desk, seat, buffer);
     let verdict = written.verdict;
     print_lent(verdict, written.bytes, buffer, out)
 }
@@ -135,7 +136,7 @@ fn wire(
     ensures { λ r. ⌜ Holds answerBytes (laidText (wiredOf desk seat net room (favourGiven (now (line .entry))) .laid)) (now (out .entry)) r (now (out .exit)) ⌝ }
 {
     let favour = script::given_favour(line);
-    let wired = desk.wire(seat, net, room, favour);
+    let wired = asked::wire(desk, seat, net, room, favour);
     let laid = wired.laid;
     print_laid(laid, out)
 }
@@ -152,7 +153,7 @@ fn mill(
     ensures { λ r. ⌜ Holds answerBytes (cutText (milledOf desk seat net room (favourGiven (now (line .entry))) .cut)) (now (out .entry)) r (now (out .exit)) ⌝ }
 {
     let favour = script::given_favour(line);
-    let milled = desk.mill(seat, net, room, favour);
+    let milled = asked::mill(desk, seat, net, room, favour);
     let cut = milled.cut;
     print_cut(cut, out)
 }
@@ -176,7 +177,7 @@ fn drops(desk: Desk, seat: usize, net: u32, line: &[u8], out: &mut [u8; ANSWER_B
 {
     let loads = script::given_loads(line);
     let sheet = script::given_sheet(line);
-    let dropped = desk.drops(seat, net, loads, sheet);
+    let dropped = asked::drops(desk, seat, net, loads, sheet);
     let lost = dropped.lost;
     print_drops(lost, out)
 }

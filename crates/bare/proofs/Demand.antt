@@ -1,5 +1,5 @@
--- DEMAND 2 FOR BARE LISTS: every accepted wiring of lists of x and y is what demand 2 and document 01 say, of the feed whose pins are numbered by position.
--- Assumes nothing.
+-- DEMAND 2 FOR BARE LISTS: every accepted wiring of lists of x and y is what demand 2 and document 01 say, of the feed whose pins are numbered by position;
+-- and the boxes of two runs of such a feed that have no common pin never share a point, wired or not. Assumes nothing.
 use mathlib.Core.Path.{_≡_, sym, subst}
 use mathlib.Core.Bool.{true}
 use mathlib.Core.List.{List}
@@ -10,6 +10,9 @@ use borrow.Author.Tests.{not-false}
 use Rattle.refusal.specs.Refusals.{accepted}
 use Rattle.refusal.specs.Rows.{firstOf, NoneHolds}
 use Rattle.refusal.proofs.Rows.{none-holds}
+use Rattle.tree.specs.Growth.{runsOf}
+use Rattle.tree.specs.Boxes.{boxesApart}
+use Rattle.spanning.proofs.Apart.{never-meet}
 use Rattle.copper.specs.declared.Favour.{Favour}
 use Rattle.copper.specs.Shapes.{favoursUpper}
 use Rattle.copper.specs.declared.Leg.{Leg}
@@ -44,3 +47,8 @@ bare-lent-is-best xs ys lent favour z = filled-best (bare-is-best xs ys (length 
 pub bare-either : (xs ys : List ℤ) (room : ℕ) (f g : Favour) → SameButShapes (bareOf xs ys room f .wiring) (bareOf xs ys room g .wiring)
 unfolding bareOf
 bare-either xs ys room f g = turned-either (firstOf (listRows xs ys)) (feedOfLists xs ys) room f g
+
+-- THE BOXES OF TWO RUNS WITHOUT A COMMON PIN NEVER SHARE A POINT, for any lists to which none of 16, 17, 8 and 9 applies.
+pub bare-boxes-apart : (xs ys : List ℤ) → NoneHolds (listRows xs ys) → boxesApart (feedOfLists xs ys) (runsOf (feedOfLists xs ys)) ≡ true
+unfolding NoneHolds
+bare-boxes-apart xs ys n = never-meet (feedOfLists xs ys) (feed-many xs ys) (not-false _ (n .1 .1 .0))

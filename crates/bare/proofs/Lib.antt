@@ -4,5 +4,4 @@ pub mod Verdicts
 pub mod Fitting
 pub mod Untouched
 pub mod Rows
-pub mod Worked
 pub mod Demand

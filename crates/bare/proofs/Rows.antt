@@ -1,10 +1,8 @@
--- Bare wiring gives each refusal exactly under its condition and after those before it: 16, 17, 8, 9, 19; and the boxes of the runs
--- of lists that pass all but the last never meet. Assumes nothing.
+-- Bare wiring gives each refusal exactly under its condition and after those before it: 16, 17, 8, 9, 19. Assumes nothing.
 use mathlib.Core.Path.{_≡_, refl, sym, ap, _∙_}
 use mathlib.Core.Bool.{Bool, true, false}
 use mathlib.Core.List.{List, [], _∷_, _++_}
 use Prim.Native.Nat.{ℕ}
-use borrow.Author.Tests.{not-false}
 use lib.IntN.{ℤ}
 use lib.Dec.{eqb}
 use lib.ListN.{length, drop}
@@ -14,14 +12,11 @@ use Rattle.refusal.specs.Refusals.{accepted}
 use Rattle.refusal.specs.Rows.{Row, firstOf, NoneHolds, Exactly}
 use Rattle.refusal.proofs.Rows.{distinct, unlike, Apart, apart-by, joined, miss, none-holds, exactly}
 use Rattle.board.specs.Spots.{spotsFrom}
-use Rattle.tree.specs.Growth.{keptIf, pinsFrom, pinsOf, runsOf}
-use Rattle.tree.specs.Boxes.{boxesApart}
+use Rattle.tree.specs.Growth.{keptIf, pinsFrom, pinsOf}
 use Rattle.tree.specs.Trees.{none}
-use Rattle.spanning.proofs.Apart.{never-meet}
 use Rattle.wiring.specs.Answer.{wiringOf, feedRows}
 use Rattle.wiring.proofs.Refusing.{laid-behind, wiring-verdict}
 use Rattle.bare.specs.Bare.{feedOfLists, listRows, bareRows, bareOf}
-use Rattle.bare.proofs.Feeds.{feed-many}
 use Rattle.bare.proofs.Verdicts.{list-apart}
 use Rattle.copper.specs.declared.Favour.{Favour}
 
@@ -56,8 +51,3 @@ module _ (xs ys : List ℤ) (room : ℕ) (favour : Favour) where
   -- EACH REFUSAL OF BARE WIRING EXACTLY.
   pub bare-exactly : Exactly (bareRows xs ys room favour) (bareOf xs ys room favour .wiring .verdict)
   bare-exactly = rw answer-is (exactly (bareRows xs ys room favour) bare-apart)
-
--- THE BOXES OF TWO RUNS WITHOUT A COMMON PIN NEVER SHARE A POINT, for any lists to which none of 16, 17, 8 and 9 applies.
-pub bare-boxes-apart : (xs ys : List ℤ) → NoneHolds (listRows xs ys) → boxesApart (feedOfLists xs ys) (runsOf (feedOfLists xs ys)) ≡ true
-unfolding NoneHolds
-bare-boxes-apart xs ys n = never-meet (feedOfLists xs ys) (feed-many xs ys) (not-false _ (n .1 .1 .0))

@@ -6,11 +6,11 @@ use mathlib.Core.Logic.{_≢_}
 use Prim.Native.Nat.{ℕ, suc, _+_, _<_, _≤_}
 use native.Mathlib.Omega.{arith}
 use lib.Dec.{eqb}
-use borrow.Author.Tests.{eqb-true, eqb-false, eq-eqb, ne-eqb}
+use borrow.Author.Tests.{eqb-true, eq-eqb, ne-eqb}
 use Rattle.basics.specs.Tests.{choose, either, anyOf}
 use Rattle.basics.specs.Lists.{Among, first, later}
 use Rattle.basics.specs.Sums.{oneIf, sum, different}
-use Rattle.basics.proofs.Tests.{either-which, either-left, either-second, fails-if, same-test, opposite}
+use Rattle.basics.proofs.Tests.{either-left, either-second, fails-if, same-test, opposite}
 use Rattle.basics.proofs.Sums.{sumBelow, sum-same, sum-none, sum-but-one}
 
 -- ---- membership by a test

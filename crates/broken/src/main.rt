@@ -5,19 +5,19 @@ use board::Place;
 use copper::Favour;
 use desk::Answered;
 use desk::Desk;
-use drawing::Edit;
 use drawing::Held;
 use drawing::Pin;
 use drawing::Stand;
-use drops::Load;
-use drops::Loaded;
-use drops::Sheet;
+use edits::Edit;
 use journal::RECORDS;
 use journal::Record;
+use laying::LEGS;
+use loads::Load;
+use loads::Loaded;
+use loads::Sheet;
 use pinmap::Form;
 use pinmap::NEW_BYTES;
 use refusal::Verdict;
-use wiring::LEGS;
 
 // Seat 0 is open for job 7; pin 0 of net 1, placed at (20,20) with part number 5, stands; pin 1 of net 2, placed at (40,40), is taken back.
 fn whole() -> Desk {
@@ -260,7 +260,7 @@ fn try_drops(desk: Desk) {
         volts: 12.0,
         ohms: 0.001,
     };
-    let dropped = desk.drops(0, 1, [spare; PINS], sheet);
+    let dropped = asked::drops(desk, 0, 1, [spare; PINS], sheet);
     let lost = dropped.lost;
     let verdict = lost.verdict;
     tell(b" drops ", verdict);
@@ -268,7 +268,7 @@ fn try_drops(desk: Desk) {
 
 // Wires net 9 at seat 0, where 28 comes before 21.
 fn try_net_9(desk: Desk) {
-    let wired = desk.wire(0, 9, LEGS, Favour::Unsaid);
+    let wired = asked::wire(desk, 0, 9, LEGS, Favour::Unsaid);
     let laid = wired.laid;
     let wiring = laid.wiring;
     let verdict = wiring.verdict;
@@ -278,16 +278,16 @@ fn try_net_9(desk: Desk) {
 // Writes seat 0, wires and mills its net 1, asks for that net's volts lost, and undoes at seat 8, where 28 comes before 1.
 fn try_others(desk: Desk) {
     let mut buffer = [0u8; PINS * NEW_BYTES];
-    let written = desk.write(0, &mut buffer);
+    let written = asked::write(desk, 0, &mut buffer);
     let writing = written.verdict;
     tell(b" write ", writing);
-    let wired = desk.wire(0, 1, LEGS, Favour::Unsaid);
+    let wired = asked::wire(desk, 0, 1, LEGS, Favour::Unsaid);
     let laid = wired.laid;
     let wiring = laid.wiring;
     let verdict = wiring.verdict;
     tell(b" wire ", verdict);
     try_net_9(desk);
-    let milled = desk.mill(0, 1, LEGS, Favour::Unsaid);
+    let milled = asked::mill(desk, 0, 1, LEGS, Favour::Unsaid);
     let cut = milled.cut;
     let milling = cut.milling;
     let outcome = milling.verdict;

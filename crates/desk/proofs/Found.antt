@@ -12,15 +12,15 @@ use Rattle.basics.proofs.Tests.{choose-yes, choose-no}
 use Rattle.refusal.specs.Refusals.{accepted}
 use Rattle.refusal.specs.Rows.{firstOf}
 use Rattle.refusal.specs.declared.Verdict.{Verdict}
-use Rattle.drawing.specs.declared.stated.Making.{Making}
-use Rattle.drawing.specs.Changes.{pinOf}
-use Rattle.drawing.specs.Stated.{editOf}
-use Rattle.drawing.proofs.Changing.{proper-number}
-use Rattle.drawing.proofs.Making.{makeable-proper}
+use Rattle.edits.specs.declared.stated.Making.{Making}
+use Rattle.edits.specs.Changes.{pinOf}
+use Rattle.edits.specs.Stated.{editOf}
+use Rattle.edits.proofs.Changing.{proper-number}
+use Rattle.edits.proofs.Making.{makeable-proper}
 use Rattle.board.specs.Spots.{mostPins}
 use Rattle.pinmap.specs.declared.Form.{Form}
-use Rattle.pinmap.specs.declared.Reading.{Reading}
-use Rattle.pinmap.specs.Map.{readBy, readMap}
+use Rattle.readmap.specs.declared.Reading.{Reading}
+use Rattle.readmap.specs.Map.{readBy, readMap}
 use Rattle.journal.specs.Journal.{mostSeats, mostRecords, own, kept}
 use Rattle.journal.proofs.Own.{kept-length}
 use Rattle.seats.specs.Seats.{takenBackCount}

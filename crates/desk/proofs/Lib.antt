@@ -2,6 +2,3 @@
 pub mod Sound
 pub mod Found
 mod Steps
-mod Writing
-mod Lent
-mod Lending

@@ -1,41 +1,25 @@
 -- The desk: when it is broken, and what each call makes of it.
 use mathlib.Core.Bool.{Bool, not}
 use mathlib.Core.List.{List}
-use Prim.Native.Nat.{ℕ, _+_}
-use lib.ListN.{length, replicate, take, getD, set}
+use Prim.Native.Nat.{ℕ}
+use lib.ListN.{replicate, take, getD, set}
 use Rattle.basics.specs.Tests.{choose}
 use Rattle.refusal.specs.Refusals.{accepted}
 use Rattle.refusal.specs.Rows.{Row, firstOf}
 use Rattle.refusal.specs.declared.Verdict.{Verdict}
 use Rattle.board.specs.declared.Spot.{Spot}
-use Rattle.drawing.specs.declared.Edit.{Edit}
+use Rattle.edits.specs.declared.Edit.{Edit}
 use Rattle.drawing.specs.Pins.{feedOf}
-use Rattle.drawing.specs.Stated.{editOf}
-use Rattle.pinmap.specs.declared.Form.the-variants.{New}
-use Rattle.pinmap.specs.declared.Writing.{Writing}
-use Rattle.pinmap.specs.Map.{readMap, mapOf, writeBy, bufferBy}
-use Rattle.copper.specs.declared.Favour.{Favour}
-use Rattle.copper.specs.declared.Leg.{Leg}
-use Rattle.drops.specs.declared.Loaded.{Loaded}
-use Rattle.drops.specs.declared.Sheet.{Sheet}
-use Rattle.drops.specs.Drops.{dropsOf, lostBy}
-use Rattle.lent.specs.Lent.{stripOf, filledWith}
-use Rattle.mill.specs.Answer.{copperOf, cutBy, stripOfCut}
+use Rattle.edits.specs.Stated.{editOf}
+use Rattle.readmap.specs.Map.{readMap}
 use Rattle.journal.specs.declared.Record.{Record}
 use Rattle.journal.specs.Journal.{mostSeats, mostRecords, blank, own, kept, added, compacted}
 use Rattle.seats.specs.declared.Seat.{Seat}
 use Rattle.seats.specs.Seats.{editedSeat, undoneSeat, redoneSeat, takenBackCount}
-use Rattle.rows.specs.Calls.{Call, seatIn, opening, closing, making, undoing, redoing, asking, writing, milling, dropping}
+use Rattle.rows.specs.Calls.{Call, seatIn, opening, closing, making, undoing, redoing, asking}
 use Rattle.rows.specs.Refusals.{Look, namingRows, namingNetRows, rowsOf}
-use Rattle.rows.specs.Found.{wiredBy}
 use Rattle.desk.specs.declared.Desk.{Desk}
 use Rattle.desk.specs.declared.Answered.{Answered}
-use Rattle.desk.specs.declared.Written.{Written}
-use Rattle.desk.specs.declared.Wired.{Wired}
-use Rattle.desk.specs.declared.WiredSeat.{WiredSeat}
-use Rattle.desk.specs.declared.Milled.{Milled}
-use Rattle.desk.specs.declared.MilledSeat.{MilledSeat}
-use Rattle.desk.specs.declared.Dropped.{Dropped}
 pub use Rattle.seats.specs.Seats.{closedSeat, noSeat, openSeat, withPins, jobsIn, jobsApart}
 pub use Rattle.seats.specs.Sound.{standingAmong, takenBackAmong}
 unfoldable pub use Rattle.seats.specs.Seats.{jobOf}
@@ -132,20 +116,6 @@ answerOf d c = firstOf (rowsAt d c)
 unfoldable pub step : Desk → Call → Answered
 step d c = record { desk = choose (accepted (answerOf d c)) (effect d c) d; verdict = answerOf d c }
 
--- The map of the drawing at a seat, in the new form.
-abbrev pub mapAt : Desk → ℕ → List ℕ
-mapAt d s = mapOf New (seatOf d s .job) (seatOf d s .pins)
-
--- Writing: the desk as it is, the answer, and the number of bytes written.
-unfoldable pub writtenOf : Desk → ℕ → List ℕ → Written
-writtenOf d s buffer =
-    let w : Writing = writeBy (rowsAt d (asking s (writing (length buffer)))) (mapAt d s) in
-    record { desk = d; verdict = w .verdict; bytes = w .bytes }
-
--- The lent buffer after writing.
-unfoldable pub bufferOf : Desk → ℕ → List ℕ → List ℕ
-bufferOf d s buffer = bufferBy (rowsAt d (asking s (writing (length buffer)))) (mapAt d s) buffer
-
 -- The empty desk: eight closed seats, no record in use.
 unfoldable pub emptyDesk : Desk
 emptyDesk = record { seats = replicate mostSeats closedSeat; journal = replicate mostRecords blank; used = 0 }
@@ -157,33 +127,3 @@ namingNetAt d s net = namingNetRows (not (sound d)) s (seatOf d s .opened) net
 -- The feed of a net of a seat: that net's pins of the drawing there.
 abbrev pub feedAt : Desk → ℕ → ℕ → List Spot
 feedAt d s net = feedOf (seatOf d s .pins) net
-
--- Wiring a net of a seat, with room for so many legs: the desk as it is, and the answer with its legs.
-unfoldable pub wiredOf : Desk → ℕ → ℕ → ℕ → Favour → Wired
-wiredOf d s net room favour = record { desk = d; laid = wiredBy (namingNetAt d s net) (feedAt d s net) room favour }
-
--- Wiring into a lent list of legs: its length is the room. The desk as it is, and the answer.
-unfoldable pub wiredSeatOf : Desk → ℕ → ℕ → List Leg → Favour → WiredSeat
-wiredSeatOf d s net lent favour = record { desk = d; wiring = wiredOf d s net (length lent) favour .laid .wiring }
-
--- The lent list of legs after wiring: filled with the legs, entries after these as they were; where it is refused, there are none.
-unfoldable pub lentOf : Desk → ℕ → ℕ → List Leg → Favour → List Leg
-lentOf d s net lent favour = filledWith (stripOf (wiredOf d s net (length lent) favour .laid)) lent
-
--- The copper of a net of a seat as segments, with room for so many: the desk as it is, and the answer with its segments.
-unfoldable pub milledOf : Desk → ℕ → ℕ → ℕ → Favour → Milled
-milledOf d s net room favour =
-    record { desk = d; cut = cutBy (rowsAt d (asking s (milling net room favour))) (copperOf (feedAt d s net) favour) }
-
--- The same into a lent list of segments: its length is the room. The desk as it is, and the answer.
-unfoldable pub milledSeatOf : Desk → ℕ → ℕ → List Leg → Favour → MilledSeat
-milledSeatOf d s net lent favour = record { desk = d; milling = milledOf d s net (length lent) favour .cut .milling }
-
--- The lent list of segments afterwards: filled with the segments, entries after these as they were; where it is refused, there are none.
-unfoldable pub segmentsLentOf : Desk → ℕ → ℕ → List Leg → Favour → List Leg
-segmentsLentOf d s net lent favour = filledWith (stripOfCut (milledOf d s net (length lent) favour .cut)) lent
-
--- The volts lost to the pins of a net of a seat, for these loads and this board sheet: the desk as it is, and the answer.
-unfoldable pub droppedOf : Desk → ℕ → ℕ → List Loaded → Sheet → Dropped
-droppedOf d s net loads sheet =
-    record { desk = d; lost = lostBy (rowsAt d (asking s (dropping net loads sheet))) (dropsOf (feedAt d s net) loads sheet) }

@@ -1,38 +1,28 @@
-// The desk: its seats and its journal, whether it is broken, and the calls that take it as it stands and hand back the desk that follows.
-use board::PINS;
+// The desk: its seats and its journal, whether it is broken, and the calls that change it: each takes it as it stands and hands back the desk that follows.
 use board::Place;
-use copper::Favour;
-use copper::Leg;
 use drawing::Held;
-use drawing::stated::Making;
-use drops::Loaded;
-use drops::Lost;
-use drops::Sheet;
+use edits::stated::Making;
 use journal::Compacted;
 use journal::RECORDS;
 use journal::Record;
 use journal::SEATS;
-use mill::Cut;
-use mill::Milling;
 use pinmap::Form;
 use refusal::Verdict;
 use rows::Found;
 use seats::Seat;
-use wiring::Laid;
-use wiring::Wiring;
 ghost use mathlib.Core.Path.{_≡_};
 ghost use mathlib.Core.Bool.{false};
 ghost use mathlib.Core.List.{_++_};
 ghost use Prim.Native.Nat.{_≤_};
 ghost use Rattle.refusal.specs.Rows.{firstOf};
-ghost use Rattle.drawing.specs.declared.stated.Making.the-variants.{Placing, Moving, Removing};
+ghost use Rattle.edits.specs.declared.stated.Making.the-variants.{Placing, Moving, Removing};
 ghost use Rattle.drawing.specs.Pins.{holding};
 ghost use Rattle.journal.specs.Journal.{mostRecords, own, kept, compacted};
 ghost use Rattle.seats.specs.Seats.{takenBackCount};
 ghost use Rattle.rows.specs.Calls.{opening, closing, making, undoing, redoing};
 ghost use Rattle.rows.specs.Refusals.{makingRows, fullRow};
 ghost use Rattle.rows.specs.Found.{foundIn, namingFound};
-ghost use Rattle.desk.specs.Desk.{emptyDesk, inUse, sound, refused, step, writtenOf, bufferOf, wiredOf, wiredSeatOf, lentOf, milledOf, milledSeatOf, segmentsLentOf, droppedOf};
+ghost use Rattle.desk.specs.Desk.{emptyDesk, inUse, sound, refused, step};
 
 // A desk: its seats, and the journal that they share, of which the first `used` records are in use.
 pub struct Desk {
@@ -45,43 +35,6 @@ pub struct Desk {
 pub struct Answered {
     pub desk: Desk,
     pub verdict: Verdict,
-}
-
-// What writing hands back: the desk as it is, the answer, and the number of bytes written.
-pub struct Written {
-    pub desk: Desk,
-    pub verdict: Verdict,
-    pub bytes: usize,
-}
-
-// What wiring hands back: the desk as it is, and the answer with its legs.
-pub struct Wired {
-    pub desk: Desk,
-    pub laid: Laid,
-}
-
-// What wiring into a lent list of legs hands back: the desk as it is, and the answer.
-pub struct WiredSeat {
-    pub desk: Desk,
-    pub wiring: Wiring,
-}
-
-// What milling hands back: the desk as it is, and the answer with its segments.
-pub struct Milled {
-    pub desk: Desk,
-    pub cut: Cut,
-}
-
-// What milling into a lent list of segments hands back: the desk as it is, and the answer.
-pub struct MilledSeat {
-    pub desk: Desk,
-    pub milling: Milling,
-}
-
-// What the call for volts lost hands back: the desk as it is, and the answer.
-pub struct Dropped {
-    pub desk: Desk,
-    pub lost: Lost,
 }
 
 impl Desk {
@@ -110,7 +63,7 @@ impl Desk {
     }
 
     // What a call finds at the seat that it names.
-    fn find(self, seat: usize) -> Found
+    pub fn find(self, seat: usize) -> Found
         ensures { λ r. ⌜ r ≡ foundIn (self .seats) (self .journal) (self .used) seat ⌝ }
     {
         let seats = self.seats;
@@ -158,7 +111,7 @@ impl Desk {
         }
         let mut s = found.state;
         let pins = s.pins;
-        let edit = drawing::stated::edit_of(pins, stated);
+        let edit = edits::stated::edit_of(pins, stated);
         let left = self.freed(seat, s.standing);
         let records = left.journal;
         let used = left.used;
@@ -279,84 +232,6 @@ impl Desk {
         Answered {
             desk: self,
             verdict,
-        }
-    }
-
-    // Writes the map of the drawing at `seat`, in the new form, into a lent buffer, and says how many bytes, or why not. The desk stays as it is.
-    pub fn write(self, seat: usize, buffer: &mut [u8]) -> Written
-        ensures { λ r. ⌜ r ≡ writtenOf self seat (now (buffer .entry)) ⌝ }
-        ensures { λ _. ⌜ now (buffer .exit) ≡ bufferOf self seat (now (buffer .entry)) ⌝ }
-    {
-        let found = self.find(seat);
-        let writing = rows::map_written(found, buffer);
-        let verdict = writing.verdict;
-        Written {
-            desk: self,
-            verdict,
-            bytes: writing.bytes,
-        }
-    }
-
-    // Wires a net of the drawing at `seat`, with room for so many legs, as is said of the shape to favour; or says why not. The desk stays as it is.
-    pub fn wire(self, seat: usize, net: u32, room: usize, favour: Favour) -> Wired
-        ensures { λ r. ⌜ r ≡ wiredOf self seat net room favour ⌝ }
-    {
-        let found = self.find(seat);
-        let laid = rows::feed_wired(found, net, room, favour);
-        Wired { desk: self, laid }
-    }
-
-    // Gives the copper of a net of the drawing at `seat` as segments, with room for so many, as is said of the shape to favour; or says why not. The desk stays as it is.
-    pub fn mill(self, seat: usize, net: u32, room: usize, favour: Favour) -> Milled
-        ensures { λ r. ⌜ r ≡ milledOf self seat net room favour ⌝ }
-    {
-        let found = self.find(seat);
-        let cut = rows::feed_milled(found, net, room, favour);
-        Milled { desk: self, cut }
-    }
-
-    // The volts lost to each pin of a net of the drawing at `seat`, for these loads, one for each pin number, and this board sheet; or says why not. The desk stays as it is.
-    pub fn drops(self, seat: usize, net: u32, loads: [Loaded; PINS], sheet: Sheet) -> Dropped
-        ensures { λ r. ⌜ r ≡ droppedOf self seat net loads sheet ⌝ }
-    {
-        let found = self.find(seat);
-        let lost = rows::feed_dropped(found, net, loads, sheet);
-        Dropped { desk: self, lost }
-    }
-
-    // Wires a net of the drawing at `seat` and fills a lent list with its legs, or says why not. Entries after the legs keep what they held.
-    pub fn wire_lent(self, seat: usize, net: u32, legs: &mut [Leg], favour: Favour) -> WiredSeat
-        ensures { λ r. ⌜ r ≡ wiredSeatOf self seat net (now (legs .entry)) favour ⌝ }
-        ensures { λ _. ⌜ now (legs .exit) ≡ lentOf self seat net (now (legs .entry)) favour ⌝ }
-    {
-        let wired = self.wire(seat, net, legs.len(), favour);
-        let laid = wired.laid;
-        let strip = lent::strip_of(laid);
-        lent::fill(strip, legs);
-        WiredSeat {
-            desk: wired.desk,
-            wiring: laid.wiring,
-        }
-    }
-
-    // Fills a lent list with the copper of a net of the drawing at `seat` as segments, or says why not. Entries after the segments keep what they held.
-    pub fn mill_lent(
-        self,
-        seat: usize,
-        net: u32,
-        segments: &mut [Leg],
-        favour: Favour,
-    ) -> MilledSeat
-        ensures { λ r. ⌜ r ≡ milledSeatOf self seat net (now (segments .entry)) favour ⌝ }
-        ensures { λ _. ⌜ now (segments .exit) ≡ segmentsLentOf self seat net (now (segments .entry)) favour ⌝ }
-    {
-        let milled = self.mill(seat, net, segments.len(), favour);
-        let cut = milled.cut;
-        let strip = mill::strip_of(cut);
-        lent::fill(strip, segments);
-        MilledSeat {
-            desk: milled.desk,
-            milling: cut.milling,
         }
     }
 }

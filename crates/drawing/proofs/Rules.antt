@@ -1,26 +1,21 @@
 -- Pins that are the same, what stands at their numbers, and the rules that a drawing keeps with one pin changed. From the rules of a feed; assumes nothing.
 use mathlib.Core.Path.{_≡_, refl, ap, _∙_}
-use mathlib.Core.Bool.{true, false, not}
+use mathlib.Core.Bool.{true, false}
 use mathlib.Core.List.{List, [], _∷_, map}
-use Prim.Native.Nat.{ℕ, zero, suc, _<_}
-use native.Mathlib.Omega.{arith}
-use borrow.Author.Tests.{eqb-true, eq-eqb, not-true}
+use Prim.Native.Nat.{ℕ, zero, suc}
+use borrow.Author.Tests.{eqb-true, eq-eqb}
 use lib.ListN.{length, getD, set, length-set, length-map, List·getD-map}
-use lib.Seq.{getD-set-same, set-set}
-use Rattle.basics.proofs.Tests.{both-left, both-right, both-of, same-test}
+use Rattle.basics.proofs.Tests.{both-left, both-right, both-of}
 use Rattle.basics.specs.Tests.{eachOf}
-use Rattle.basics.proofs.Anyone.{each-set, each-at}
+use Rattle.basics.proofs.Anyone.{each-set}
 use Rattle.board.proofs.Board.{place-same, place-self}
 use Rattle.board.specs.Spots.{mostPins, spotAt, within, tooNearOther, allWithin, allApart}
-use Rattle.board.specs.declared.Spot.{Spot}
-use Rattle.board.specs.declared.Spot.the-variants as spot
-use Rattle.board.proofs.Rules.{apart-set, apart-at, within-at}
+use Rattle.board.proofs.Rules.{apart-set}
 use Rattle.drawing.specs.declared.Held.{Held}
 use Rattle.drawing.specs.declared.Stand.{Stand}
 use Rattle.drawing.specs.declared.Stand.the-variants.{Absent, There}
 use Rattle.drawing.specs.declared.Pin.{Pin}
 use Rattle.drawing.specs.Pins.{absent, sameHeld, sameIn, samePin, samePins, hasNet, lawful, spotOf, spotsOf}
-use Rattle.drawing.specs.Changes.{fits, pinFits}
 
 -- ---- pins that are the same
 
@@ -130,24 +125,3 @@ lawful-set l p q e n w m =
       apart = rw (spots-put l p q) (apart-set (spotOf q) (spotsOf l) p (h .apart) m);
       nets = each-set hasNet l p q (h .nets) n;
     })
-
--- A pin that was put among others, all of which keep the rules with it, fits among them.
-put-fits : (feed : List Spot) (p : ℕ) (s : Spot) → p < length feed → allWithin (set feed p s) ≡ true → allApart (set feed p s) ≡ true → fits feed p s ≡ true
-unfolding fits tooNearOther
-put-fits feed p s k w a =
-    let g = getD-set-same feed p s spot.Absent k in
-    both-of (rw g at (within-at (set feed p s) p w)) (ap not (rw (g, set-set) at (apart-at (set feed p s) p a)))
-
--- With pin p of a drawing changed, the drawing keeps the rules just where that pin fits.
-pub lawful-change : (l : List Pin) (p : ℕ) (q : Pin) → lawful l ≡ true → p < mostPins → lawful (set l p q) ≡ pinFits (spotsOf l) p q
-unfolding fits pinFits hasNet
-lawful-change l p q e n =
-    same-test (lawful (set l p q)) (pinFits (spotsOf l) p q)
-    (λ t.
-    let h : Lawful (set l p q) = lawful-parts (set l p q) t in
-    let k = lawful-parts l e .long in
-    both-of (rw (getD-set-same l p q absent (omega arith)) at (each-at hasNet absent (set l p q) p (h .nets) (λ w. refl)))
-    (put-fits (spotsOf l) p (spotOf q) (omega (arith, spots-long l e)) (rw (spots-put l p q) at (h .board)) (rw (spots-put l p q) at (h .apart))))
-    (λ t.
-    let f = both-right _ _ t in
-    lawful-set l p q e (both-left _ _ t) (both-left _ _ f) (not-true _ (both-right _ _ f)))

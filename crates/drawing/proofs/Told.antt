@@ -3,7 +3,7 @@ use mathlib.Core.Path.{_≡_, refl, ap, sym, _∙_}
 use mathlib.Core.Bool.{Bool, false}
 use mathlib.Core.List.{List, map}
 use Prim.Native.Nat.{ℕ}
-use lib.IntN.{ℤ, pos}
+use lib.IntN.{ℤ}
 use lib.ListN.{length, getD, set, length-set, length-map, List·getD-map}
 use Rattle.basics.specs.Tests.{choose}
 use Rattle.board.specs.declared.Spot.{Spot}
@@ -14,9 +14,8 @@ use Rattle.drawing.specs.declared.Stand.{Stand}
 use Rattle.drawing.specs.declared.Stand.the-variants.{Absent, There}
 use Rattle.drawing.specs.declared.Pin.{Pin}
 use Rattle.drawing.specs.declared.SpotLists.{SpotLists}
-use Rattle.drawing.specs.Pins.{absent, isThere, thereIn, ofNetIn, isOf, spotIn, spotOf, spotsOf, feedSpot, feedOf}
-use Rattle.drawing.specs.Edits.{heldIn, heldBy}
-use Rattle.drawing.specs.Changes.{xOf, yOf, listsOf, feedLists}
+use Rattle.drawing.specs.Pins.{absent, isThere, thereIn, ofNetIn, isOf, spotIn, spotOf, spotsOf, feedSpot, feedOf, heldIn, heldBy}
+use Rattle.drawing.specs.Lists.{xOf, yOf, listsOf, feedLists}
 use Rattle.drawing.proofs.Rules.{spots-put}
 
 -- What stands at a number, by whether a pin is there, its x and its y,

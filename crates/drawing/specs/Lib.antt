@@ -1,5 +1,3 @@
 -- What the words of a drawing mean.
 pub mod Pins
-pub mod Edits
-pub mod Changes
-pub mod Stated
+pub mod Lists

@@ -8,7 +8,7 @@ use Rattle.basics.specs.Tests.{both, choose, eachOf}
 use Rattle.board.specs.declared.Place.{Place}
 use Rattle.board.specs.declared.Spot.{Spot}
 use Rattle.board.specs.declared.Spot.the-variants as spot
-use Rattle.board.specs.Place.{samePlace}
+use Rattle.board.specs.Place.{samePlace, middle}
 use Rattle.drawing.specs.declared.Held.{Held}
 use Rattle.drawing.specs.declared.Stand.{Stand}
 use Rattle.drawing.specs.declared.Stand.the-variants.{Absent, There}
@@ -51,6 +51,24 @@ thereIn (There h) = true
 -- The pin is there.
 unfoldable pub isThere : Pin → Bool
 isThere q = thereIn (q .stand)
+
+-- A pin stands at that place.
+abbrev pub standsIn : Stand → Place → Bool
+standsIn Absent at = false
+standsIn (There h) at = samePlace (h .place) at
+
+-- The pin is there, at that place.
+unfoldable pub standsAt : Pin → Place → Bool
+standsAt q at = standsIn (q .stand) at
+
+-- What a pin that is there holds; for an absent one, as if it stood in the middle of the board, of no net and with part number 0.
+abbrev pub heldIn : Stand → Held
+heldIn Absent = holding middle 0 0
+heldIn (There h) = h
+
+-- What a pin holds, an absent one as if it stood in the middle of the board, of no net and with part number 0.
+unfoldable pub heldBy : Pin → Held
+heldBy q = heldIn (q .stand)
 
 -- Two pins hold the same: place, net and part number.
 unfoldable pub sameHeld : Held → Held → Bool

@@ -1,17 +1,13 @@
-// Drawings: the pins of one, what stands at each pin number, the rules that they keep, and the edits that are made on them and taken back.
-pub mod stated;
-
+// Drawings: the pins of one, what stands at each pin number, the feed of each net, and the rules that they keep.
 use board::PINS;
 use board::Place;
 use board::spots;
 ghost use mathlib.Core.Path.{_≡_};
 ghost use mathlib.Core.List.{map};
 ghost use Rattle.basics.specs.Tests.{eachOf};
-ghost use Rattle.board.specs.declared.Spot.the-variants.{At};
-ghost use Rattle.board.specs.Spots.{crowded, spotsFrom};
-ghost use Rattle.drawing.specs.Pins.{absent, there, isThere, isNet, isOf, hasNet, sameHeld, samePin, spotsOf, lawful, noPins, pinAt};
-ghost use Rattle.drawing.specs.Edits.{heldAt, movedPin, standsAt, heldBy, pinMade, pinUnmade, made, unmade, foundAs, proper};
-ghost use Rattle.drawing.specs.Changes.{pinOf, listsOf, feedLists, fits, pinFits, makeableAt, leftBy, takeableAt};
+ghost use Rattle.board.specs.Spots.{crowded};
+ghost use Rattle.drawing.specs.Pins.{absent, there, isThere, isNet, isOf, hasNet, sameHeld, samePin, spotsOf, lawful, noPins, pinAt, heldBy, standsAt};
+ghost use Rattle.drawing.specs.Lists.{listsOf, feedLists};
 
 // Nets go from 1 to this.
 pub const NETS: u32 = 8;
@@ -32,13 +28,6 @@ pub enum Stand {
 // What a drawing has at one pin number.
 pub struct Pin {
     pub stand: Stand,
-}
-
-// An edit of a drawing, with what is needed to take it back. Its pin number takes a byte: the journal holds 256 edits.
-pub enum Edit {
-    Placed(u8, Held),
-    Moved(u8, Place, Place),
-    Removed(u8, Held),
 }
 
 // What stands at each pin number of a drawing, or of the feed of a net, told by lists of x, of y and of whether a pin is there.
@@ -104,7 +93,7 @@ fn is_of(pin: Pin, net: u32) -> bool
 }
 
 // Whether a pin, if it is there, has a net from 1 to 8.
-fn has_net(pin: Pin) -> bool
+pub fn has_net(pin: Pin) -> bool
     ensures { λ r. ⌜ r ≡ hasNet pin ⌝ }
 {
     let s = pin.stand;
@@ -127,7 +116,7 @@ fn same_held(a: Held, b: Held) -> bool
 }
 
 // Whether two pins are the same: both absent, or both there and holding the same.
-fn same_pin(a: Pin, b: Pin) -> bool
+pub fn same_pin(a: Pin, b: Pin) -> bool
     ensures { λ r. ⌜ r ≡ samePin a b ⌝ }
 {
     let s = a.stand;
@@ -145,7 +134,7 @@ fn same_pin(a: Pin, b: Pin) -> bool
 }
 
 // What a pin holds; as if it stood in the middle of the board, of no net and with part number 0, where it is not there.
-fn held_by(pin: Pin) -> Held
+pub fn held_by(pin: Pin) -> Held
     ensures { λ r. ⌜ r ≡ heldBy pin ⌝ }
 {
     let s = pin.stand;
@@ -267,215 +256,6 @@ pub fn stands_at(pin: Pin, at: Place) -> bool
             board::same_place(p, at)
         }
     }
-}
-
-// What a pin holds, at another place.
-fn held_at(held: Held, to: Place) -> Held
-    ensures { λ r. ⌜ r ≡ heldAt held to ⌝ }
-{
-    let mut h = held;
-    h.place = to;
-    h
-}
-
-// The pin at another place, where it is there.
-fn moved_pin(pin: Pin, to: Place) -> Pin
-    ensures { λ r. ⌜ r ≡ movedPin pin to ⌝ }
-{
-    let s = pin.stand;
-    match s {
-        Stand::Absent => absent_pin(),
-        Stand::There(h) => pin_with(held_at(h, to)),
-    }
-}
-
-// A number of a byte as one of 64 bits.
-fn wide(number: u8) -> usize
-    ensures { λ r. ⌜ r ≡ number ⌝ }
-{
-    number as usize
-}
-
-// The number of the pin that an edit names.
-pub fn pin_of(edit: Edit) -> usize
-    ensures { λ r. ⌜ r ≡ pinOf edit ⌝ }
-{
-    match edit {
-        Edit::Placed(number, held) => wide(number),
-        Edit::Moved(number, from, to) => wide(number),
-        Edit::Removed(number, held) => wide(number),
-    }
-}
-
-// The pin that an edit names, with the edit made.
-pub fn pin_made(edit: Edit, pin: Pin) -> Pin
-    ensures { λ r. ⌜ r ≡ pinMade edit (pinOf edit) pin ⌝ }
-{
-    match edit {
-        Edit::Placed(number, held) => pin_with(held),
-        Edit::Moved(number, from, to) => moved_pin(pin, to),
-        Edit::Removed(number, held) => absent_pin(),
-    }
-}
-
-// The pin that an edit names, with the edit taken back.
-pub fn pin_unmade(edit: Edit, pin: Pin) -> Pin
-    ensures { λ r. ⌜ r ≡ pinUnmade edit (pinOf edit) pin ⌝ }
-{
-    match edit {
-        Edit::Placed(number, held) => absent_pin(),
-        Edit::Moved(number, from, to) => moved_pin(pin, from),
-        Edit::Removed(number, held) => pin_with(held),
-    }
-}
-
-// The pins with an edit made.
-pub fn make(pins: [Pin; PINS], edit: Edit) -> [Pin; PINS]
-    ensures { λ r. ⌜ r ≡ made pins edit ⌝ }
-{
-    let number = pin_of(edit);
-    let mut next = pins;
-    if PINS <= number {
-        return next;
-    }
-    let q = next[number];
-    next[number] = pin_made(edit, q);
-    next
-}
-
-// The pins with an edit taken back.
-pub fn take_back(pins: [Pin; PINS], edit: Edit) -> [Pin; PINS]
-    ensures { λ r. ⌜ r ≡ unmade pins edit ⌝ }
-{
-    let number = pin_of(edit);
-    let mut former = pins;
-    if PINS <= number {
-        return former;
-    }
-    let q = former[number];
-    former[number] = pin_unmade(edit, q);
-    former
-}
-
-// Whether an edit names a pin up to 31, and a move goes to another place.
-fn is_proper(edit: Edit) -> bool
-    ensures { λ r. ⌜ r ≡ proper edit ⌝ }
-{
-    match edit {
-        Edit::Placed(number, held) => wide(number) < PINS,
-        Edit::Moved(number, from, to) => wide(number) < PINS && !board::same_place(from, to),
-        Edit::Removed(number, held) => wide(number) < PINS,
-    }
-}
-
-// Whether the pin that an edit names is as the edit finds it.
-fn is_found(edit: Edit, pin: Pin) -> bool
-    ensures { λ r. ⌜ r ≡ foundAs edit (pinOf edit) pin ⌝ }
-{
-    match edit {
-        Edit::Placed(number, held) => !is_there(pin),
-        Edit::Moved(number, from, to) => stands_at(pin, from),
-        Edit::Removed(number, held) => same_pin(pin, pin_with(held)),
-    }
-}
-
-// Whether a pin of this number could stand at a place: it is on the board, and no other pin is too near.
-fn can_stand(
-    xs: &[i32; PINS],
-    ys: &[i32; PINS],
-    there: &[bool; PINS],
-    number: usize,
-    at: Place,
-) -> bool
-    ensures { λ r. ⌜ r ≡ fits (spotsFrom (now (xs .entry)) (now (ys .entry)) (now (there .entry))) number (At at) ⌝ }
-{
-    if !board::is_inside(at) {
-        return false;
-    }
-    !spots::is_crowded(xs, ys, there, number, at)
-}
-
-// Whether a pin fits among the others as the one of this number: it is absent, or has a net from 1 to 8 and could stand where it does.
-fn does_fit(
-    xs: &[i32; PINS],
-    ys: &[i32; PINS],
-    there: &[bool; PINS],
-    number: usize,
-    pin: Pin,
-) -> bool
-    ensures { λ r. ⌜ r ≡ pinFits (spotsFrom (now (xs .entry)) (now (ys .entry)) (now (there .entry))) number pin ⌝ }
-{
-    if !has_net(pin) {
-        return false;
-    }
-    let s = pin.stand;
-    match s {
-        Stand::Absent => true,
-        Stand::There(h) => {
-            let at = h.place;
-            can_stand(xs, ys, there, number, at)
-        }
-    }
-}
-
-// Whether an edit can be made on pins that keep the rules, of which it names `pin`.
-pub fn can_make(
-    xs: &[i32; PINS],
-    ys: &[i32; PINS],
-    there: &[bool; PINS],
-    edit: Edit,
-    pin: Pin,
-) -> bool
-    ensures { λ r. ⌜ r ≡ makeableAt edit pin (spotsFrom (now (xs .entry)) (now (ys .entry)) (now (there .entry))) ⌝ }
-{
-    if !is_proper(edit) {
-        return false;
-    }
-    if !is_found(edit, pin) {
-        return false;
-    }
-    let number = pin_of(edit);
-    let next = pin_made(edit, pin);
-    does_fit(xs, ys, there, number, next)
-}
-
-// Whether an edit could have been made of `former`, the pin that it names, so that it left `pin`, on pins that keep the rules.
-fn could_have_made(
-    xs: &[i32; PINS],
-    ys: &[i32; PINS],
-    there: &[bool; PINS],
-    edit: Edit,
-    former: Pin,
-    pin: Pin,
-) -> bool
-    ensures { λ r. ⌜ r ≡ leftBy edit former pin (spotsFrom (now (xs .entry)) (now (ys .entry)) (now (there .entry))) ⌝ }
-{
-    if !is_proper(edit) {
-        return false;
-    }
-    if !is_found(edit, former) {
-        return false;
-    }
-    let next = pin_made(edit, former);
-    if !same_pin(next, pin) {
-        return false;
-    }
-    let number = pin_of(edit);
-    does_fit(xs, ys, there, number, former)
-}
-
-// Whether an edit that stands on pins that keep the rules, of which it names `pin`, could have been made.
-pub fn can_take_back(
-    xs: &[i32; PINS],
-    ys: &[i32; PINS],
-    there: &[bool; PINS],
-    edit: Edit,
-    pin: Pin,
-) -> bool
-    ensures { λ r. ⌜ r ≡ takeableAt edit pin (spotsFrom (now (xs .entry)) (now (ys .entry)) (now (there .entry))) ⌝ }
-{
-    let former = pin_unmade(edit, pin);
-    could_have_made(xs, ys, there, edit, former, pin)
 }
 
 // What a drawing has at a pin number; above 31, a pin that is absent.

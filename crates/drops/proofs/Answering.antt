@@ -16,7 +16,7 @@ use Rattle.refusal.specs.Refusals.{accepted}
 use Rattle.refusal.specs.Rows.{Row, given, firstOf}
 use Rattle.refusal.specs.declared.Verdict.{Verdict}
 use Rattle.refusal.specs.declared.Verdict.the-variants.{Accepted, OutOfRange}
-use Rattle.refusal.proofs.Rows.{hit, miss, no-row, unlike, distinct, Apart, apart-by, stops, goes, behind}
+use Rattle.refusal.proofs.Rows.{hit, miss, no-row, stops, goes, behind}
 use Rattle.board.specs.declared.Spot.{Spot}
 use Rattle.board.specs.Spots.{spotsFrom, allWithin}
 use Rattle.board.proofs.Lent.{spots-many}
@@ -26,9 +26,9 @@ use Rattle.tree.specs.Growth.{run, pinsOf, runsOf}
 use Rattle.tree.specs.Trees.{mostRuns, entries, treeWith, treeRows, treeOf}
 use Rattle.tree.proofs.Answer.{tree-apart, runs-few}
 use Rattle.tree.proofs.Result.{take-entries, count-few, low-ends}
-use Rattle.drops.specs.declared.Sheet.{Sheet}
-use Rattle.drops.specs.declared.Loaded.{Loaded}
-use Rattle.drops.specs.Loads.{nought, sheetFits, loadsFit}
+use Rattle.loads.specs.declared.Sheet.{Sheet}
+use Rattle.loads.specs.declared.Loaded.{Loaded}
+use Rattle.loads.specs.Loads.{nought, sheetFits, loadsFit}
 use Rattle.drops.specs.Drops.{nearsOf, currentsOf, dropsAfter, noDrops, dropsOf, dropRows, noneLost, lostBy, lostOf}
 use Rattle.drops.specs.Passes.{farsOf, runsBy, PinNumbers, ampsAt}
 use Rattle.drops.proofs.Passes.{runs-back}

@@ -1,5 +1,5 @@
 -- What is proved of drops beside the functions' contracts.
-pub mod Ranges
+pub mod Distances
 pub mod Passes
 pub mod Answering
 pub mod Worked

@@ -21,7 +21,7 @@ use Rattle.tree.specs.declared.Run.{Run}
 use Rattle.tree.specs.Growth.{run}
 use Rattle.tree.specs.Trees.{mostRuns}
 use Rattle.tree.specs.Reached.{runAt}
-use Rattle.drops.specs.Loads.{nought}
+use Rattle.loads.specs.Loads.{nought}
 use Rattle.drops.specs.Drops.{nearsOf, plusLeadingOn, currentsOf, runDrop, distanceOfRun, dropsAfter}
 use Rattle.drops.specs.Passes.{farsOf, runsBy, PinNumbers, Rising, plusAlong}
 

@@ -17,12 +17,12 @@ use Rattle.board.specs.Place.{difference, larger, distanceOf}
 use Rattle.board.specs.Spots.{mostPins}
 use Rattle.tree.specs.Weight.{weightOf, pairOf, byPart, byNumber, comesBefore}
 use Rattle.tree.specs.Growth.{pairAt, sooner, keptIf, pinsFrom, without, runsFrom, runsBetween, earliest, earliestOf, nextRun, grown, runsAmong, pinsOf, runsOf}
-use Rattle.drops.specs.declared.Sheet.{Sheet}
-use Rattle.drops.specs.declared.Load.{Load}
-use Rattle.drops.specs.declared.Load.the-variants.{Amps, Watts, Spare}
-use Rattle.drops.specs.declared.Loaded.{Loaded}
+use Rattle.loads.specs.declared.Sheet.{Sheet}
+use Rattle.loads.specs.declared.Load.{Load}
+use Rattle.loads.specs.declared.Load.the-variants.{Amps, Watts, Spare}
+use Rattle.loads.specs.declared.Loaded.{Loaded}
 use Rattle.drops.specs.declared.Lost.{Lost}
-use Rattle.drops.specs.Loads.{nought, hundredth, fiveHundred, sheetFits, loadFits, ampsOf, spare}
+use Rattle.loads.specs.Loads.{nought, hundredth, fiveHundred, sheetFits, loadFits, ampsOf, spare}
 use Rattle.drops.specs.Drops.{plusLeadingOn, currentsOf, dropsAfter, dropsOf, noneLost, lostOf}
 
 -- A feed of 32 spots that begins with the pins of a board.

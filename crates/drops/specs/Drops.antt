@@ -18,10 +18,10 @@ use Rattle.board.specs.Spots.{mostPins, placeAt}
 use Rattle.tree.specs.declared.Run.{Run}
 use Rattle.tree.specs.Growth.{pinsOf, runsOf}
 use Rattle.tree.specs.Trees.{treeRows}
-use Rattle.drops.specs.declared.Sheet.{Sheet}
-use Rattle.drops.specs.declared.Loaded.{Loaded}
+use Rattle.loads.specs.declared.Sheet.{Sheet}
+use Rattle.loads.specs.declared.Loaded.{Loaded}
 use Rattle.drops.specs.declared.Lost.{Lost}
-use Rattle.drops.specs.Loads.{nought, sheetFits, loadAt, loadsFit, ampsOf}
+use Rattle.loads.specs.Loads.{nought, sheetFits, loadAt, loadsFit, ampsOf}
 
 -- The near pins of runs, in run order.
 abbrev pub nearsOf : List Run → List ℕ

@@ -10,9 +10,9 @@ use Rattle.board.specs.Spots.{mostPins}
 use Rattle.tree.specs.declared.Run.{Run}
 use Rattle.tree.specs.Growth.{run}
 use Rattle.tree.specs.Trees.{mostRuns}
-use Rattle.drops.specs.declared.Sheet.{Sheet}
-use Rattle.drops.specs.declared.Loaded.{Loaded}
-use Rattle.drops.specs.Loads.{loadAt, ampsOf}
+use Rattle.loads.specs.declared.Sheet.{Sheet}
+use Rattle.loads.specs.declared.Loaded.{Loaded}
+use Rattle.loads.specs.Loads.{loadAt, ampsOf}
 
 -- The far pins of runs, in run order.
 abbrev pub farsOf : List Run → List ℕ

@@ -1,102 +1,29 @@
-// Volts lost on the way to each pin: loads as amps, the currents of the runs, the drops of the pins. Everything is f32, one rounding an operation.
+// Volts lost on the way to each pin: the currents of the runs, the drops of the pins. Everything is f32, one rounding an operation.
 use board::PINS;
 use board::Place;
 use board::spots::place_at;
+use loads::Loaded;
+use loads::Sheet;
 use refusal::Verdict;
 use tree::RUNS;
 use tree::Run;
 ghost use mathlib.Core.Path.{_≡_};
 ghost use mathlib.Core.Bool.{true};
-ghost use mathlib.Core.List.{List};
 ghost use Prim.Native.Nat.{_≤_, _*_};
-ghost use lib.IntN.{ℤ};
 ghost use lib.ListN.{length, take};
 ghost use Rattle.basics.specs.Lists.{padded};
 ghost use Rattle.board.specs.Place.{limit, distanceOf};
 ghost use Rattle.board.specs.Spots.{spotsFrom, allWithin};
-ghost use Rattle.tree.specs.Growth.{run, pinsOf};
+ghost use Rattle.tree.specs.Growth.{run};
 ghost use Rattle.tree.specs.Trees.{mostRuns};
-ghost use Rattle.drops.specs.Loads.{nought, isFrom, sheetFits, loadFits, loadsFit, ampsOf};
+ghost use Rattle.loads.specs.Loads.{nought};
 ghost use Rattle.drops.specs.Drops.{nearsOf, currentsOf, runDrop, distanceOfRun, dropsAfter, noDrops, noneLost, lostOf};
 ghost use Rattle.drops.specs.Passes.{farsOf, runsBy, PinNumbers, ampsAt, Rising, plusAlong};
-
-// A board sheet: supply volts, and ohms per step.
-pub struct Sheet {
-    pub volts: f32,
-    pub ohms: f32,
-}
-
-// A load: so many amps, so many watts, or none.
-pub enum Load {
-    Amps(f32),
-    Watts(f32),
-    Spare,
-}
-
-// The load of one pin number.
-pub struct Loaded {
-    pub load: Load,
-}
 
 // What is answered: the verdict, and the drop of each pin number.
 pub struct Lost {
     pub verdict: Verdict,
     pub drops: [f32; PINS],
-}
-
-// Whether a number is from `low` to `high`, both included; a NaN is in no range.
-fn is_from(low: f32, number: f32, high: f32) -> bool
-    ensures { λ r. ⌜ r ≡ isFrom low number high ⌝ }
-{
-    low <= number && number <= high
-}
-
-// Whether supply volts are from 1 to 60, and ohms per step from 0 to 0.01.
-fn sheet_fits(sheet: Sheet) -> bool
-    ensures { λ r. ⌜ r ≡ sheetFits sheet ⌝ }
-{
-    is_from(1.0, sheet.volts, 60.0) && is_from(0.0, sheet.ohms, 0.01)
-}
-
-// Whether amps are from 0 to 500, or watts from 0 to 12,000.
-fn load_fits(load: Load) -> bool
-    ensures { λ r. ⌜ r ≡ loadFits load ⌝ }
-{
-    match load {
-        Load::Amps(a) => is_from(0.0, a, 500.0),
-        Load::Watts(w) => is_from(0.0, w, 12000.0),
-        Load::Spare => true,
-    }
-}
-
-// Whether the loads of the pins that are there are in their ranges, wherever these pins stand.
-fn loads_fit(loads: [Loaded; PINS], there: &[bool; PINS]) -> bool
-    ensures { λ r. ⌜ ((xs ys : List ℤ) → r ≡ loadsFit loads (pinsOf (spotsFrom xs ys (now (there .entry))))) ⌝ }
-{
-    let mut count = 0;
-    while count < PINS {
-        let pin = count;
-        count += 1;
-        if there[pin] {
-            let loaded = loads[pin];
-            let load = loaded.load;
-            if !load_fits(load) {
-                return false;
-            }
-        }
-    }
-    true
-}
-
-// The amps of a load: watts by one division by the supply volts.
-fn amps(sheet: Sheet, load: Load) -> f32
-    ensures { λ r. ⌜ r ≡ ampsOf sheet load ⌝ }
-{
-    match load {
-        Load::Amps(a) => a,
-        Load::Watts(w) => w / sheet.volts,
-        Load::Spare => 0.0,
-    }
 }
 
 // The near pins of the runs.
@@ -163,7 +90,7 @@ fn currents_of(
         let far = fars[at];
         let loaded = loads[far];
         let load = loaded.load;
-        let own = amps(sheet, load);
+        let own = loads::amps(sheet, load);
         currents[at] = plus_along(&chain, &currents, leading[far], own);
         chain[at] = leading[near];
         leading[near] = at;
@@ -257,10 +184,10 @@ pub fn drops_of(
     if !refusal::is_accepted(verdict) {
         return refused(verdict);
     }
-    if !sheet_fits(sheet) {
+    if !loads::sheet_fits(sheet) {
         return refused(Verdict::OutOfRange);
     }
-    if !loads_fit(loads, there) {
+    if !loads::loads_fit(loads, there) {
         return refused(Verdict::OutOfRange);
     }
     let count = tree.count;

@@ -14,13 +14,13 @@ use Rattle.board.specs.Spots.{mostPins, allWithin}
 use Rattle.tree.specs.declared.Run.{Run}
 use Rattle.tree.specs.Growth.{pinsOf, runsOf}
 use Rattle.tree.specs.Reached.{runAt}
-use Rattle.basics.specs.Lists.{Among, first, later}
+use Rattle.basics.specs.Lists.{Among, first}
 use Rattle.tree.proofs.Membership.{without-in, pins-once, pins-lowest}
 use Rattle.tree.proofs.Listing.{Listed, done, taking, runs-listed}
 use Rattle.spanning.proofs.Spanning.{far-among, entry-in, none-among, no-runs}
-use Rattle.drops.specs.declared.Sheet.{Sheet}
-use Rattle.drops.specs.declared.Loaded.{Loaded}
-use Rattle.drops.specs.Loads.{nought, sheetFits, loadsFit, loadAt, ampsOf}
+use Rattle.loads.specs.declared.Sheet.{Sheet}
+use Rattle.loads.specs.declared.Loaded.{Loaded}
+use Rattle.loads.specs.Loads.{nought, sheetFits, loadsFit, loadAt, ampsOf}
 use Rattle.drops.specs.Drops.{nearsOf, plusLeadingOn, currentsOf, dropsAfter, noDrops, dropsOf}
 use Rattle.drops.proofs.Answering.{currents-long}
 use Rattle.finite.specs.Demand.{Flows, VoltsLost}

@@ -22,15 +22,14 @@ use Rattle.board.specs.Spots.{mostPins, allWithin}
 use Rattle.board.proofs.Flat.{same-or-not}
 use Rattle.tree.specs.declared.Run.{Run}
 use Rattle.tree.specs.Growth.{pinsOf, runsOf}
-use Rattle.tree.specs.Offers.{LowEnds}
+use Rattle.tree.proofs.Membership.{LowEnds, pin-in}
 use Rattle.basics.specs.Lists.{Among, first, later}
 use Rattle.tree.specs.Trees.{mostRuns, treeRows}
 use Rattle.tree.proofs.Answer.{runs-few}
-use Rattle.tree.proofs.Membership.{pin-in}
 use Rattle.spanning.proofs.Spanning.{runs-join}
-use Rattle.drops.specs.declared.Sheet.{Sheet}
-use Rattle.drops.specs.declared.Loaded.{Loaded}
-use Rattle.drops.specs.Loads.{nought, sheetFits, loadsFit, loadAt, ampsOf}
+use Rattle.loads.specs.declared.Sheet.{Sheet}
+use Rattle.loads.specs.declared.Loaded.{Loaded}
+use Rattle.loads.specs.Loads.{nought, sheetFits, loadsFit, loadAt, ampsOf}
 use Rattle.drops.specs.Drops.{currentsOf, runDrop, distanceOfRun, dropsAfter, noDrops, dropsOf, dropRows, lostOf}
 use Rattle.finite.specs.Bounds.{AtMost, mostDrop}
 use Rattle.finite.proofs.Sizes.{at-most-more}

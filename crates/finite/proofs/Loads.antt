@@ -10,11 +10,11 @@ use Rattle.basics.specs.Tests.{eachOf}
 use Rattle.basics.proofs.Tests.{both-left, both-right}
 use Rattle.basics.proofs.Anyone.{each-first, each-rest}
 use Rattle.basics.specs.Lists.{Among, first, later}
-use Rattle.drops.specs.declared.Sheet.{Sheet}
-use Rattle.drops.specs.declared.Load.{Load}
-use Rattle.drops.specs.declared.Load.the-variants.{Amps, Watts, Spare}
-use Rattle.drops.specs.declared.Loaded.{Loaded}
-use Rattle.drops.specs.Loads.{sheetFits, loadFits, loadAt, loadsFit, ampsOf}
+use Rattle.loads.specs.declared.Sheet.{Sheet}
+use Rattle.loads.specs.declared.Load.{Load}
+use Rattle.loads.specs.declared.Load.the-variants.{Amps, Watts, Spare}
+use Rattle.loads.specs.declared.Loaded.{Loaded}
+use Rattle.loads.specs.Loads.{sheetFits, loadFits, loadAt, loadsFit, ampsOf}
 use Rattle.finite.specs.Bounds.{AtMost}
 use Rattle.finite.proofs.Rounding.{holds}
 use Rattle.finite.proofs.Operations.{AtLeast, div-at-most}

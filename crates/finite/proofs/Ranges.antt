@@ -8,7 +8,7 @@ use lib.Dec.{T, eqb, eqb→eq}
 use lib.Ieee.{Float, nan, inf, fin, up, down, le}
 use lib.Ieee.Fits.{down-pos, and-l, and-r}
 use Rattle.basics.proofs.Tests.{both-left, both-right}
-use Rattle.drops.specs.Loads.{isFrom}
+use Rattle.loads.specs.Loads.{isFrom}
 use Rattle.finite.specs.Bounds.{AtMost}
 use Rattle.finite.proofs.Rounding.{less-or-same}
 use Rattle.finite.proofs.Operations.{AtLeast}

@@ -17,9 +17,9 @@ use Rattle.tree.proofs.Membership.{Distinct, also, without-in, pins-once}
 use Rattle.tree.proofs.Earliest.{Earliest}
 use Rattle.tree.proofs.Listing.{Listed, done, taking, runs-listed, pins-low}
 use Rattle.spanning.proofs.Spanning.{far-among, runs-join, no-runs}
-use Rattle.drops.specs.declared.Sheet.{Sheet}
-use Rattle.drops.specs.declared.Loaded.{Loaded}
-use Rattle.drops.specs.Loads.{nought, loadAt, ampsOf}
+use Rattle.loads.specs.declared.Sheet.{Sheet}
+use Rattle.loads.specs.declared.Loaded.{Loaded}
+use Rattle.loads.specs.Loads.{nought, loadAt, ampsOf}
 use Rattle.drops.specs.Drops.{currentsOf, runDrop, distanceOfRun, dropsAfter, noDrops, dropsOf}
 use Rattle.drops.proofs.Answering.{currents-long}
 use Rattle.finite.specs.Demand.{AddsUp}

@@ -10,9 +10,9 @@ use Rattle.tree.specs.declared.Run.{Run}
 use Rattle.tree.specs.Growth.{pinsOf, runsOf}
 use Rattle.tree.specs.Reached.{runAt}
 use Rattle.basics.specs.Lists.{Among}
-use Rattle.drops.specs.declared.Sheet.{Sheet}
-use Rattle.drops.specs.declared.Loaded.{Loaded}
-use Rattle.drops.specs.Loads.{nought, loadAt, ampsOf}
+use Rattle.loads.specs.declared.Sheet.{Sheet}
+use Rattle.loads.specs.declared.Loaded.{Loaded}
+use Rattle.loads.specs.Loads.{nought, loadAt, ampsOf}
 use Rattle.drops.specs.Drops.{nearsOf, plusLeadingOn, runDrop, distanceOfRun}
 use Rattle.finite.specs.Bounds.{AtMost, mostDrop}
 

@@ -2,27 +2,25 @@
 -- trip of pin maps; assumes nothing.
 use mathlib.Core.Path.{_≡_, refl, sym, ap, ap₂, _∙_}
 use mathlib.Core.Bool.{true, false}
-use mathlib.Core.List.{List, [], _∷_, _++_}
+use mathlib.Core.List.{List}
 use Prim.Native.Nat.{ℕ, _≤_}
-use native.Mathlib.Omega.{arith}
 use borrow.Author.Tests.{eqb-false, le-ltb, not-false}
 use lib.ListN.{length, take, drop}
 use lib.Seq.{take-append-seam, drop-append-seam}
 use Rattle.basics.specs.Tests.{eachOf}
 use Rattle.basics.proofs.Tests.{choose-yes, choose-no}
-use Rattle.refusal.specs.declared.Verdict.{Verdict}
 use Rattle.refusal.specs.declared.Verdict.the-variants.{Accepted}
 use Rattle.refusal.specs.Refusals.{accepted}
-use Rattle.refusal.specs.Rows.{Row, firstOf, NoneHolds}
+use Rattle.refusal.specs.Rows.{firstOf, NoneHolds}
 use Rattle.refusal.proofs.Rows.{none-holds, none-before, none-after, none-accepted, goes, miss, no-row}
 use Rattle.drawing.specs.declared.Pin.{Pin}
 use Rattle.pinmap.specs.declared.Form.{Form}
 use Rattle.pinmap.specs.declared.Form.the-variants.{Old, New}
-use Rattle.pinmap.specs.declared.Reading.{Reading}
-use Rattle.pinmap.specs.declared.Writing.{Writing}
-use Rattle.pinmap.specs.Record.{Bytes}
-use Rattle.pinmap.specs.Map.{holds, underRows, readAs, readMap, mapOf, roomRows, written}
-use Rattle.pinmap.proofs.Judging.{under-passed, under-job}
+use Rattle.readmap.specs.declared.Reading.{Reading}
+use Rattle.pinmap.specs.Map.{Bytes, holds}
+use Rattle.readmap.specs.Map.{underRows, readAs, readMap}
+use Rattle.writemap.specs.Map.{mapOf, roomRows, written}
+use Rattle.readmap.proofs.Judging.{under-passed, under-job}
 use Rattle.roundtrip.proofs.Holding.{new-holds}
 use Rattle.roundtrip.proofs.RoundTrip.{moved-opens, read-held, same-bytes}
 use Rattle.forms.specs.Moving.{otherThan, formRows, laterRows, pinsMoved, movingRows, mapMoved, movedOf, bufferMoved, bytesMoved}

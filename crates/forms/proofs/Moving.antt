@@ -1,7 +1,7 @@
 -- What moving a map hands back, by what turns it away: the reading, 22 or 19. From the laws of rows and of pin maps; assumes nothing.
 use mathlib.Core.Path.{_≡_, refl, ap, sym, _∙_}
 use mathlib.Core.Bool.{true, false}
-use mathlib.Core.List.{List, [], _∷_, _++_}
+use mathlib.Core.List.{List, [], _∷_}
 use Prim.Native.Nat.{ℕ}
 use lib.Dec.{eqb}
 use lib.ListN.{length}
@@ -16,10 +16,11 @@ use Rattle.drawing.specs.declared.Pin.{Pin}
 use Rattle.drawing.specs.Pins.{lawful}
 use Rattle.pinmap.specs.declared.Form.{Form}
 use Rattle.pinmap.specs.declared.Form.the-variants.{Old, New}
-use Rattle.pinmap.specs.declared.Reading.{Reading}
-use Rattle.pinmap.specs.declared.Writing.{Writing}
-use Rattle.pinmap.specs.Map.{mapRows, underRows, readBy, readMap, mapOf, roomRows, written, writeMap, bufferAfter}
-use Rattle.pinmap.proofs.Judging.{notOfMap, map-differs, map-apart, under-passed}
+use Rattle.readmap.specs.declared.Reading.{Reading}
+use Rattle.writemap.specs.declared.Writing.{Writing}
+use Rattle.readmap.specs.Map.{mapRows, underRows, readBy}
+use Rattle.writemap.specs.Map.{roomRows, written, writeMap, bufferAfter}
+use Rattle.readmap.proofs.Judging.{notOfMap, map-differs, map-apart, under-passed}
 use Rattle.roundtrip.proofs.RoundTrip.{read-lawful}
 use Rattle.forms.specs.Moving.{otherThan, formRows, laterRows, pinsMoved, mapMoved, movedOf, bufferMoved}
 

@@ -1,13 +1,12 @@
 -- Moving a map gives each refusal exactly under its condition and after those before it: 4, 13, 14 or 15, 22 on the way back, 19. Assumes nothing.
 use mathlib.Core.Path.{_≡_, refl}
 use mathlib.Core.Bool.{Bool, true}
-use mathlib.Core.List.{List, [], _∷_, _++_}
+use mathlib.Core.List.{List, [], _∷_}
 use Prim.Native.Nat.{ℕ, _+_}
 use lib.ListN.{length}
 use Rattle.basics.specs.Tests.{both, eachOf}
-use Rattle.basics.proofs.Tests.{both-of}
 use Rattle.refusal.specs.declared.Verdict.{Verdict}
-use Rattle.refusal.specs.declared.Verdict.the-variants.{JobZero, MapLength, OtherJob, FaultyRecord, RoomTooSmall, OtherNetOrPart}
+use Rattle.refusal.specs.declared.Verdict.the-variants.{RoomTooSmall, OtherNetOrPart}
 use Rattle.refusal.specs.Refusals.{accepted}
 use Rattle.refusal.specs.Rows.{Row, given, Exactly}
 use Rattle.refusal.proofs.Rows.{unlike, distinct, Differs, Apart, differs-by, apart-by, apart-both, exactly}
@@ -15,8 +14,8 @@ use Rattle.drawing.specs.declared.Pin.{Pin}
 use Rattle.drawing.specs.Pins.{noPins}
 use Rattle.pinmap.specs.declared.Form.{Form}
 use Rattle.pinmap.specs.declared.Form.the-variants.{Old, New}
-use Rattle.pinmap.specs.declared.MapRecord.{MapRecord}
-use Rattle.pinmap.specs.Map.{recordsOf, withPinOf, rowsFrom, underRows}
+use Rattle.records.specs.declared.MapRecord.{MapRecord}
+use Rattle.readmap.specs.Map.{recordsOf, withPinOf, rowsFrom, underRows}
 use Rattle.forms.specs.Moving.{otherThan, laterRows, pinsMoved, movingRows, movedOf}
 use Rattle.forms.proofs.Moving.{under-apart}
 

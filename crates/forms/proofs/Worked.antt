@@ -12,8 +12,11 @@ use Rattle.board.specs.Spots.{spotsTooNear}
 use Rattle.drawing.specs.Pins.{isNet, spotOf, spotsOf}
 use Rattle.pinmap.specs.declared.Form.the-variants.{Old, New}
 use Rattle.pinmap.specs.Number.{bitsAt, numberAt, firstByte, secondByte, thirdByte, fourthByte, fourBytes}
-use Rattle.pinmap.specs.Record.{recordOf, faulty, recordBytes, pinBytes}
-use Rattle.pinmap.specs.Map.{plain, recordsIn, withPinOf, withPinsOf, rowsFrom, wrongLength, readMap, mapFrom, mapOf, written}
+use Rattle.records.specs.Record.{recordOf, faulty}
+use Rattle.writemap.specs.Record.{recordBytes, pinBytes}
+use Rattle.pinmap.specs.Map.{plain}
+use Rattle.readmap.specs.Map.{recordsIn, withPinOf, withPinsOf, rowsFrom, wrongLength, readMap}
+use Rattle.writemap.specs.Map.{mapFrom, mapOf, written}
 use Rattle.forms.specs.Moving.{movedOf, bufferMoved}
 
 -- The record of D3's pin, job 7, pin 0 at (20,-20), in the old form,

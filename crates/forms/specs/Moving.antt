@@ -10,8 +10,10 @@ use Rattle.drawing.specs.declared.Pin.{Pin}
 use Rattle.drawing.specs.Pins.{noPins}
 use Rattle.pinmap.specs.declared.Form.{Form}
 use Rattle.pinmap.specs.declared.Form.the-variants.{Old, New}
-use Rattle.pinmap.specs.declared.Writing.{Writing}
-use Rattle.pinmap.specs.Map.{holds, recordsOf, withPinsOf, underRows, mapOf, roomRows, writeBy, bufferBy}
+use Rattle.writemap.specs.declared.Writing.{Writing}
+use Rattle.pinmap.specs.Map.{holds}
+use Rattle.readmap.specs.Map.{recordsOf, withPinsOf, underRows}
+use Rattle.writemap.specs.Map.{mapOf, roomRows, writeBy, bufferBy}
 
 -- The form of a map that is moved to this one: the other.
 abbrev pub otherThan : Form → Form

@@ -3,8 +3,8 @@ use board::PINS;
 use drawing::Pin;
 use drawing::Stand;
 use pinmap::Form;
-use pinmap::Writing;
 use refusal::Verdict;
+use writemap::Writing;
 ghost use mathlib.Core.Path.{_≡_};
 ghost use Rattle.basics.specs.Tests.{eachOf};
 ghost use Rattle.refusal.specs.Rows.{firstOf};
@@ -68,7 +68,7 @@ pub fn move_map(to: Form, job: u16, map: &[u8], buffer: &mut [u8]) -> Writing
     ensures { λ r. ⌜ r ≡ movedOf to job (now (map .entry)) (now (buffer .entry)) ⌝ }
     ensures { λ _. ⌜ now (buffer .exit) ≡ bufferMoved to job (now (map .entry)) (now (buffer .entry)) ⌝ }
 {
-    let reading = pinmap::read_under(other_than(to), map, job);
+    let reading = readmap::read_under(other_than(to), map, job);
     let read = reading.verdict;
     if !refusal::is_accepted(read) {
         return Writing {
@@ -81,5 +81,5 @@ pub fn move_map(to: Form, job: u16, map: &[u8], buffer: &mut [u8]) -> Writing
     if !refusal::is_accepted(verdict) {
         return Writing { verdict, bytes: 0 };
     }
-    pinmap::write_map(to, pins, job, buffer)
+    writemap::write_map(to, pins, job, buffer)
 }

@@ -13,9 +13,9 @@ use Rattle.refusal.specs.Refusals.{accepted}
 use Rattle.refusal.specs.Rows.{firstOf}
 use Rattle.refusal.specs.declared.Verdict.the-variants.{Accepted}
 use Rattle.drawing.specs.declared.Pin.{Pin}
-use Rattle.drawing.specs.declared.Edit.{Edit}
-use Rattle.drawing.specs.Edits.{made, unmade, makeable, takeable}
-use Rattle.drawing.proofs.Making.{made-unmade, unmade-made}
+use Rattle.edits.specs.declared.Edit.{Edit}
+use Rattle.edits.specs.Edits.{made, unmade, makeable, takeable}
+use Rattle.edits.proofs.Making.{made-unmade, unmade-made}
 use Rattle.journal.specs.Journal.{mostSeats, noEdit}
 use Rattle.journal.proofs.Turns.{turn-first}
 use Rattle.seats.specs.declared.Seat.{Seat}

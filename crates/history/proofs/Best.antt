@@ -1,5 +1,6 @@
 -- DEMAND 2 FOR ACCEPTED ANSWERS, NET BY NET: every accepted wiring of a net of a seat, on any desk and after any calls from the empty desk, is what demand 2 and
--- document 01 say of that net's pins; the boxes of its runs never meet, wired or not. From the theorems of wiring and spanning and Leaving; assumes nothing.
+-- document 01 say of that net's pins; and at every open seat of a desk that is not broken, the boxes of two runs of a net that have no common pin never share a
+-- point, wired or not. From the theorems of wiring and spanning and Leaving; assumes nothing.
 use mathlib.Core.Path.{_≡_, sym, ap, subst}
 use mathlib.Core.Bool.{true, not}
 use mathlib.Core.List.{List}
@@ -26,7 +27,8 @@ use Rattle.desk.specs.declared.Desk.{Desk}
 use Rattle.journal.specs.Journal.{mostSeats}
 use Rattle.rows.specs.Calls.{Call}
 use Rattle.rows.proofs.Passed.{OpenSeat}
-use Rattle.desk.specs.Desk.{seatOf, sound, lookAt, feedAt, namingNetAt, emptyDesk, wiredOf, wiredSeatOf, lentOf}
+use Rattle.desk.specs.Desk.{seatOf, sound, lookAt, feedAt, namingNetAt, emptyDesk}
+use Rattle.asked.specs.Asked.{wiredOf, wiredSeatOf, lentOf}
 use Rattle.desk.proofs.Sound.{pins-lawful}
 use Rattle.history.specs.History.{pinsIn, pastOf, nothing, history, after}
 use Rattle.history.proofs.Demand.{desk-as-past}

@@ -16,13 +16,13 @@ use Rattle.board.specs.declared.Place.{Place}
 use Rattle.drawing.specs.declared.Pin.{Pin}
 use Rattle.drawing.specs.declared.Stand.{Stand}
 use Rattle.drawing.specs.declared.Stand.the-variants.{Absent, There}
-use Rattle.drawing.specs.declared.Edit.{Edit}
-use Rattle.drawing.specs.declared.Edit.the-variants.{Placed, Moved, Removed}
-use Rattle.drawing.specs.declared.stated.Making.{Making}
-use Rattle.drawing.specs.declared.stated.Making.the-variants.{Placing, Moving, Removing}
+use Rattle.edits.specs.declared.Edit.{Edit}
+use Rattle.edits.specs.declared.Edit.the-variants.{Placed, Moved, Removed}
+use Rattle.edits.specs.declared.stated.Making.{Making}
+use Rattle.edits.specs.declared.stated.Making.the-variants.{Placing, Moving, Removing}
 use Rattle.drawing.specs.Pins.{there, absent}
-use Rattle.drawing.specs.Edits.{movedIn, movedPin, pinMade, made}
-use Rattle.drawing.specs.Stated.{editOf}
+use Rattle.edits.specs.Edits.{movedIn, movedPin, pinMade, made}
+use Rattle.edits.specs.Stated.{editOf}
 use Rattle.pinmap.specs.Map.{partIn, partFits, partsFit}
 use Rattle.roundtrip.proofs.RoundTrip.{read-parts}
 use Rattle.journal.specs.Journal.{mostSeats}

@@ -26,7 +26,8 @@ use Rattle.drawing.specs.declared.Stand.the-variants.{Absent, There}
 use Rattle.drawing.specs.declared.Pin.{Pin}
 use Rattle.drawing.specs.Pins.{isNet, netIn, hasNet, spotsOf, feedOf, lawful}
 use Rattle.pinmap.specs.declared.Form.the-variants.{Old}
-use Rattle.pinmap.specs.Map.{plainIn, plain, holds, mapOf}
+use Rattle.pinmap.specs.Map.{plainIn, plain, holds}
+use Rattle.writemap.specs.Map.{mapOf}
 use Rattle.roundtrip.proofs.Holding.{plain-feed}
 use Rattle.roundtrip.proofs.RoundTrip.{map-opens, read-held}
 use Rattle.copper.specs.declared.Favour.{Favour}
@@ -35,7 +36,8 @@ use Rattle.seats.specs.declared.Seat.{Seat}
 use Rattle.rows.specs.Calls.{opening}
 use Rattle.desk.specs.declared.Desk.{Desk}
 use Rattle.desk.specs.declared.Answered.{Answered}
-use Rattle.desk.specs.Desk.{noSeat, seatOf, openSeat, withSeat, namingNetAt, step, wiredOf}
+use Rattle.desk.specs.Desk.{noSeat, seatOf, openSeat, withSeat, namingNetAt, step}
+use Rattle.asked.specs.Asked.{wiredOf}
 use Rattle.history.specs.Former.{formerly, formerlyWithin, formerlyLawful}
 use Rattle.history.proofs.Opened.{opened-seat}
 use Rattle.history.proofs.Sounding.{sound-step}

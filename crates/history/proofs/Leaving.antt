@@ -9,7 +9,7 @@ use Rattle.refusal.specs.Refusals.{accepted}
 use Rattle.drawing.specs.declared.Pin.{Pin}
 use Rattle.drawing.specs.Pins.{feedOf}
 use Rattle.pinmap.specs.declared.Form.the-variants.{New}
-use Rattle.pinmap.specs.Map.{mapOf}
+use Rattle.writemap.specs.Map.{mapOf}
 use Rattle.copper.specs.declared.Favour.{Favour}
 use Rattle.copper.specs.declared.Leg.{Leg}
 use Rattle.wiring.specs.declared.Laid.{Laid}
@@ -20,7 +20,8 @@ use Rattle.desk.specs.declared.Desk.{Desk}
 use Rattle.rows.specs.Calls.{Call}
 use Rattle.rows.proofs.Rows.{net-open}
 use Rattle.rows.proofs.Passed.{OpenSeat}
-use Rattle.desk.specs.Desk.{seatOf, sound, lookAt, emptyDesk, writtenOf, wiredOf, wiredSeatOf, lentOf}
+use Rattle.desk.specs.Desk.{seatOf, sound, lookAt, emptyDesk}
+use Rattle.asked.specs.Asked.{writtenOf, wiredOf, wiredSeatOf, lentOf}
 use Rattle.history.specs.History.{jobIn, pinsIn, pastOf, nothing, history, after}
 use Rattle.history.specs.AsPast.{AsPast}
 use Rattle.history.specs.Leaving.{bytesFrom}

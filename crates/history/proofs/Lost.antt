@@ -14,9 +14,9 @@ use Rattle.board.specs.Spots.{mostPins}
 use Rattle.drawing.specs.declared.Pin.{Pin}
 use Rattle.drawing.specs.Pins.{feedOf}
 use Rattle.drawing.proofs.Feeds.{feed-long, feed-within}
-use Rattle.drops.specs.declared.Loaded.{Loaded}
-use Rattle.drops.specs.declared.Sheet.{Sheet}
-use Rattle.drops.specs.Loads.{nought}
+use Rattle.loads.specs.declared.Loaded.{Loaded}
+use Rattle.loads.specs.declared.Sheet.{Sheet}
+use Rattle.loads.specs.Loads.{nought}
 use Rattle.drops.specs.Drops.{noDrops, dropsOf}
 use Rattle.finite.specs.Bounds.{AtMost, mostDrop}
 use Rattle.finite.specs.Demand.{VoltsLost}
@@ -24,7 +24,8 @@ use Rattle.finite.proofs.Demand.{drops-demanded}
 use Rattle.rows.specs.Calls.{Call, asking, dropping}
 use Rattle.rows.proofs.Passed.{OpenSeat, Passes, passes}
 use Rattle.desk.specs.declared.Desk.{Desk}
-use Rattle.desk.specs.Desk.{seatOf, lookAt, rowsAt, answerOf, step, emptyDesk, droppedOf}
+use Rattle.desk.specs.Desk.{seatOf, lookAt, rowsAt, answerOf, step, emptyDesk}
+use Rattle.asked.specs.Asked.{droppedOf}
 use Rattle.desk.proofs.Sound.{pins-lawful}
 use Rattle.history.specs.History.{pinsIn, pastOf, nothing, history, after}
 use Rattle.history.proofs.Refused.{each-refusal-exactly}

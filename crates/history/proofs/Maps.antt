@@ -18,8 +18,9 @@ use Rattle.refusal.proofs.Rows.{none-first}
 use Rattle.drawing.specs.declared.Pin.{Pin}
 use Rattle.pinmap.specs.declared.Form.{Form}
 use Rattle.pinmap.specs.declared.Form.the-variants.{Old, New}
-use Rattle.pinmap.specs.declared.Reading.{Reading}
-use Rattle.pinmap.specs.Map.{mapRows, readMap, mapOf, written, readAs}
+use Rattle.readmap.specs.declared.Reading.{Reading}
+use Rattle.readmap.specs.Map.{mapRows, readMap, readAs}
+use Rattle.writemap.specs.Map.{mapOf, written}
 use Rattle.forms.specs.Moving.{mapMoved, movedOf, bytesMoved}
 use Rattle.forms.proofs.Back.{moving-writes-the-map, read-pins}
 use Rattle.roundtrip.proofs.RoundTrip.{new-opens, map-bytes, same-bytes}
@@ -30,14 +31,15 @@ use Rattle.rows.specs.Refusals.{takingRows}
 use Rattle.rows.proofs.Passed.{OpenSeat, Passes, passes}
 use Rattle.desk.specs.declared.Desk.{Desk}
 use Rattle.desk.specs.declared.Answered.{Answered}
-use Rattle.desk.specs.Desk.{noSeat, seatOf, jobsOf, openSeat, withSeat, sound, lookAt, effect, answerOf, step, emptyDesk, mapAt, writtenOf, bufferOf}
+use Rattle.desk.specs.Desk.{noSeat, seatOf, jobsOf, openSeat, withSeat, sound, lookAt, effect, answerOf, step, emptyDesk}
+use Rattle.asked.specs.Asked.{mapAt, writtenOf, bufferOf}
 use Rattle.desk.proofs.Sound.{eight-seats, pins-lawful}
 use Rattle.history.specs.History.{after}
 use Rattle.history.specs.Until.{NoneAt, isEditOrClosing}
 use Rattle.history.specs.Leaving.{bytesFrom, CallsFit}
 use Rattle.history.proofs.Fitting.{seat-fits}
 use Rattle.history.proofs.Opened.{opened-map-read, opened-seat, opened-without-edits, same-until-edit}
-use Rattle.pinmap.specs.Record.{Bytes}
+use Rattle.pinmap.specs.Map.{Bytes}
 
 module _ (d : Desk) (s : ℕ) (buffer : List ℕ) (z : accepted (writtenOf d s buffer .verdict) ≡ true) where
   -- An accepted writing finds the seat open,

@@ -21,7 +21,8 @@ use Rattle.copper.specs.declared.Favour.{Favour}
 use Rattle.copper.specs.declared.Leg.{Leg}
 use Rattle.tree.specs.Trees.{treeRows}
 use Rattle.wiring.specs.declared.Laid.{Laid}
-use Rattle.wiring.specs.Answer.{mostLegs, feedRows, wiringOf}
+use Rattle.laying.specs.Entries.{mostLegs}
+use Rattle.wiring.specs.Answer.{feedRows, wiringOf}
 use Rattle.wiring.specs.Demand.{legsIn}
 use Rattle.wiring.proofs.Few.{most-room-verdict}
 use Rattle.wiring.proofs.Refusing.{wiring-apart, wiring-verdict}
@@ -39,7 +40,8 @@ use Rattle.rows.specs.Calls.{Call, asking, milling}
 use Rattle.rows.proofs.Rows.{net-apart, rows-apart}
 use Rattle.rows.proofs.Passed.{OpenSeat, Passes, passes}
 use Rattle.desk.specs.declared.Desk.{Desk}
-use Rattle.desk.specs.Desk.{seatOf, sound, lookAt, namingNetAt, rowsAt, answerOf, step, emptyDesk, wiredOf, milledOf, milledSeatOf, segmentsLentOf}
+use Rattle.desk.specs.Desk.{seatOf, sound, lookAt, namingNetAt, rowsAt, answerOf, step, emptyDesk}
+use Rattle.asked.specs.Asked.{wiredOf, milledOf, milledSeatOf, segmentsLentOf}
 use Rattle.desk.proofs.Sound.{pins-lawful}
 use Rattle.history.specs.History.{pinsIn, pastOf, nothing, history, after}
 use Rattle.history.proofs.Refused.{each-refusal-exactly}

@@ -1,7 +1,7 @@
 -- A map and what it was moved to open alike, at any seat of any desk. From the moving of maps and the rows of opening; assumes nothing.
-use mathlib.Core.Path.{_≡_, refl, sym, ap, ap₂, _∙_}
-use mathlib.Core.Bool.{Bool, true, not}
-use mathlib.Core.List.{List, _++_}
+use mathlib.Core.Path.{_≡_, sym, ap, ap₂, _∙_}
+use mathlib.Core.Bool.{true, not}
+use mathlib.Core.List.{List}
 use Prim.Native.Nat.{ℕ}
 use Rattle.basics.specs.Tests.{choose}
 use Rattle.refusal.specs.declared.Verdict.{Verdict}
@@ -11,9 +11,9 @@ use Rattle.refusal.specs.Rows.{firstOf}
 use Rattle.refusal.proofs.Rows.{joined, none-holds, none-accepted}
 use Rattle.drawing.specs.declared.Pin.{Pin}
 use Rattle.pinmap.specs.declared.Form.{Form}
-use Rattle.pinmap.specs.declared.Reading.{Reading}
-use Rattle.pinmap.specs.Map.{mapRows, readMap}
-use Rattle.pinmap.proofs.Judging.{map-apart}
+use Rattle.readmap.specs.declared.Reading.{Reading}
+use Rattle.readmap.specs.Map.{mapRows, readMap}
+use Rattle.readmap.proofs.Judging.{map-apart}
 use Rattle.forms.specs.Moving.{otherThan, movedOf, bytesMoved}
 use Rattle.forms.proofs.Back.{moved-map-opens, moved-opens-alike}
 use Rattle.rows.specs.Calls.{opening}

@@ -13,9 +13,9 @@ use Rattle.basics.specs.Tests.{both}
 use Rattle.refusal.specs.Refusals.{accepted}
 use Rattle.basics.proofs.Lists.{empty}
 use Rattle.drawing.specs.declared.Pin.{Pin}
-use Rattle.drawing.specs.declared.Edit.{Edit}
+use Rattle.edits.specs.declared.Edit.{Edit}
 use Rattle.pinmap.specs.declared.Form.{Form}
-use Rattle.pinmap.specs.Map.{readMap}
+use Rattle.readmap.specs.Map.{readMap}
 use Rattle.journal.specs.Journal.{own, kept}
 use Rattle.journal.proofs.Own.{own-kept}
 use Rattle.journal.proofs.Filled.{take-filled}

@@ -13,10 +13,10 @@ use Rattle.refusal.specs.Refusals.{accepted}
 use Rattle.basics.proofs.Lists.{blank-at}
 use Rattle.board.proofs.Flat.{same-or-not}
 use Rattle.drawing.specs.declared.Pin.{Pin}
-use Rattle.drawing.specs.declared.Edit.{Edit}
+use Rattle.edits.specs.declared.Edit.{Edit}
 use Rattle.drawing.specs.Pins.{lawful}
-use Rattle.drawing.specs.Edits.{makeable, made}
-use Rattle.drawing.specs.Stated.{editOf}
+use Rattle.edits.specs.Edits.{makeable, made}
+use Rattle.edits.specs.Stated.{editOf}
 use Rattle.drawing.proofs.Rules.{map-set}
 use Rattle.roundtrip.proofs.RoundTrip.{read-lawful}
 use Rattle.journal.specs.Journal.{mostSeats, makeableAll}

@@ -13,7 +13,7 @@ use Rattle.basics.specs.Tests.{choose}
 use Rattle.basics.proofs.Tests.{choose-yes, choose-no}
 use Rattle.board.proofs.Flat.{same-or-not}
 use Rattle.drawing.specs.declared.Pin.{Pin}
-use Rattle.drawing.specs.declared.Edit.{Edit}
+use Rattle.edits.specs.declared.Edit.{Edit}
 use Rattle.journal.specs.declared.Record.{Record}
 use Rattle.journal.specs.Journal.{mostSeats, mostRecords, noEdit, own, seated}
 use Rattle.journal.proofs.Filled.{take-filled, filled-length}

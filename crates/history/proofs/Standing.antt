@@ -13,7 +13,7 @@ use borrow.Author.Tests.{eqb-true, eqb-false}
 use Rattle.basics.specs.Tests.{both, choose}
 use Rattle.refusal.specs.Refusals.{accepted}
 use Rattle.board.proofs.Flat.{order}
-use Rattle.drawing.specs.declared.Edit.{Edit}
+use Rattle.edits.specs.declared.Edit.{Edit}
 use Rattle.journal.specs.Journal.{mostSeats}
 use Rattle.desk.specs.declared.Desk.{Desk}
 use Rattle.rows.specs.Calls.{Call, seatIn, opening, closing, making, undoing, redoing, asking}

@@ -15,11 +15,11 @@ use Rattle.refusal.specs.Rows.{firstOf}
 use Rattle.basics.proofs.Tests.{both-of}
 use Rattle.board.proofs.Flat.{order}
 use Rattle.drawing.specs.declared.Pin.{Pin}
-use Rattle.drawing.specs.declared.Edit.{Edit}
-use Rattle.drawing.specs.Edits.{made, unmade}
-use Rattle.drawing.specs.Stated.{editOf}
-use Rattle.drawing.proofs.Making.{unmade-made}
-use Rattle.pinmap.specs.Map.{readMap}
+use Rattle.edits.specs.declared.Edit.{Edit}
+use Rattle.edits.specs.Edits.{made, unmade}
+use Rattle.edits.specs.Stated.{editOf}
+use Rattle.edits.proofs.Making.{unmade-made}
+use Rattle.readmap.specs.Map.{readMap}
 use Rattle.journal.specs.Journal.{mostSeats, mostRecords, noEdit, kept, added}
 use Rattle.journal.proofs.Own.{own-kept, own-other, own-added, other-added, added-length, kept-length}
 use Rattle.journal.proofs.Seated.{seated-kept, seated-added}

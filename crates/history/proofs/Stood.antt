@@ -4,10 +4,10 @@ use mathlib.Core.Path.{_≡_, refl}
 use mathlib.Core.Bool.{true}
 use mathlib.Core.List.{List, [], _∷_}
 use Rattle.drawing.specs.declared.Pin.{Pin}
-use Rattle.drawing.specs.declared.Edit.{Edit}
+use Rattle.edits.specs.declared.Edit.{Edit}
 use Rattle.drawing.specs.Pins.{lawful}
-use Rattle.drawing.specs.Edits.{makeable, made, takeable, unmade}
-use Rattle.drawing.proofs.Making.{unmade-made, made-lawful, made-takeable, unmade-makeable, made-unmade, unmade-lawful}
+use Rattle.edits.specs.Edits.{makeable, made, takeable, unmade}
+use Rattle.edits.proofs.Making.{unmade-made, made-lawful, made-takeable, unmade-makeable, made-unmade, unmade-lawful}
 use Rattle.journal.specs.Journal.{takeableAll}
 use Rattle.journal.proofs.Turns.{turn-nil, turn-first, turn-rest, turn-cons}
 use Rattle.history.specs.History.{pinsBy}

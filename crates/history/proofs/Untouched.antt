@@ -16,7 +16,8 @@ use Rattle.journal.proofs.Filled.{take-filled}
 use Rattle.seats.specs.declared.Seat.{Seat}
 use Rattle.desk.specs.declared.Desk.{Desk}
 use Rattle.rows.specs.Calls.{Call, seatIn, opening, closing, making, undoing, redoing, asking, Asking, writing}
-use Rattle.desk.specs.Desk.{noSeat, seatOf, inUse, editsOf, withSeat, withRecords, edited, effect, answerOf, step, writtenOf, bufferOf, wiredOf}
+use Rattle.desk.specs.Desk.{noSeat, seatOf, inUse, editsOf, withSeat, withRecords, edited, effect, answerOf, step}
+use Rattle.asked.specs.Asked.{writtenOf, bufferOf, wiredOf}
 use Rattle.history.specs.AsPast.{Untouched}
 use Rattle.copper.specs.declared.Favour.{Favour}
 

@@ -17,7 +17,8 @@ use Rattle.lent.proofs.Untouched.{turned-by, wiring-turned, alone-empty, untouc
 use Rattle.rows.specs.Calls.{asking, wiring}
 use Rattle.rows.proofs.Rows.{net-apart}
 use Rattle.desk.specs.declared.Desk.{Desk}
-use Rattle.desk.specs.Desk.{seatOf, sound, namingNetAt, rowsAt, answerOf, step, wiredOf, wiredSeatOf, lentOf}
+use Rattle.desk.specs.Desk.{seatOf, sound, namingNetAt, rowsAt, answerOf, step}
+use Rattle.asked.specs.Asked.{wiredOf, wiredSeatOf, lentOf}
 use Rattle.history.proofs.Refused.{each-refusal-exactly}
 
 -- The verdict in the answer of wiring a net of a seat is what the call is answered,

@@ -5,8 +5,8 @@ use mathlib.Core.List.{List, [], _∷_, _++_}
 use Prim.Native.Nat.{ℕ, zero, suc, _<_}
 use Rattle.basics.specs.Tests.{choose}
 use Rattle.drawing.specs.declared.Pin.{Pin}
-use Rattle.drawing.specs.declared.Edit.{Edit}
-use Rattle.drawing.specs.Edits.{unmade}
+use Rattle.edits.specs.declared.Edit.{Edit}
+use Rattle.edits.specs.Edits.{unmade}
 use Rattle.journal.specs.Journal.{mostSeats}
 use Rattle.desk.specs.declared.Desk.{Desk}
 use Rattle.desk.specs.Desk.{seatOf, editsOf, standingOf, takenBackOf, sound}

@@ -9,10 +9,10 @@ use Rattle.refusal.specs.Refusals.{accepted}
 use Rattle.refusal.specs.Rows.{firstOf}
 use Rattle.refusal.specs.declared.Verdict.{Verdict}
 use Rattle.drawing.specs.declared.Pin.{Pin}
-use Rattle.drawing.specs.declared.Edit.{Edit}
-use Rattle.drawing.specs.Edits.{made}
-use Rattle.drawing.specs.Stated.{editOf}
-use Rattle.pinmap.specs.Map.{readMap}
+use Rattle.edits.specs.declared.Edit.{Edit}
+use Rattle.edits.specs.Edits.{made}
+use Rattle.edits.specs.Stated.{editOf}
+use Rattle.readmap.specs.Map.{readMap}
 use Rattle.journal.specs.Journal.{mostSeats}
 use Rattle.desk.specs.declared.Desk.{Desk}
 use Rattle.rows.specs.Calls.{Call, seatIn, opening, closing, making, undoing, redoing, asking}

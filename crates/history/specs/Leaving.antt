@@ -2,12 +2,12 @@
 use mathlib.Core.List.{List, [], _∷_}
 use Prim.Native.Nat.{ℕ, _<_}
 use lib.ListN.{take}
-use Rattle.drawing.specs.declared.stated.Making.{Making}
-use Rattle.drawing.specs.declared.stated.Making.the-variants.{Placing, Moving, Removing}
-use Rattle.pinmap.specs.Record.{Bytes}
+use Rattle.edits.specs.declared.stated.Making.{Making}
+use Rattle.edits.specs.declared.stated.Making.the-variants.{Placing, Moving, Removing}
+use Rattle.pinmap.specs.Map.{Bytes}
 use Rattle.desk.specs.declared.Desk.{Desk}
 use Rattle.rows.specs.Calls.{Call, opening, closing, making, undoing, redoing, asking}
-use Rattle.desk.specs.Desk.{writtenOf, bufferOf}
+use Rattle.asked.specs.Asked.{writtenOf, bufferOf}
 
 -- The bytes that writing a seat wrote: so many of the lent buffer.
 abbrev pub bytesFrom : Desk → ℕ → List ℕ → List ℕ

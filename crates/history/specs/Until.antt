@@ -6,7 +6,7 @@ use Prim.Native.Nat.{ℕ}
 use lib.Dec.{eqb}
 use Rattle.basics.specs.Tests.{both}
 use Rattle.refusal.specs.Refusals.{accepted}
-use Rattle.drawing.specs.declared.Edit.{Edit}
+use Rattle.edits.specs.declared.Edit.{Edit}
 use Rattle.desk.specs.declared.Desk.{Desk}
 use Rattle.rows.specs.Calls.{Call, seatIn, opening, closing, making, undoing, redoing, asking}
 use Rattle.desk.specs.Desk.{step}

@@ -9,7 +9,7 @@ use lib.ListN.{length, take, length-append}
 use lib.Seq.{take-nil}
 use Rattle.basics.proofs.Tests.{choose-yes, choose-no}
 use Rattle.board.proofs.Flat.{same-or-not}
-use Rattle.drawing.specs.declared.Edit.{Edit}
+use Rattle.edits.specs.declared.Edit.{Edit}
 use Rattle.journal.specs.declared.Record.{Record}
 use Rattle.journal.specs.Journal.{recorded, own, kept, added}
 

@@ -9,7 +9,7 @@ use borrow.Author.Tests.{ltb-true, lt-ltb}
 use lib.ListN.{length}
 use Rattle.basics.proofs.Anyone.{each-end, each-first, each-rest, each-more, each-append}
 use Rattle.board.proofs.Flat.{same-or-not}
-use Rattle.drawing.specs.declared.Edit.{Edit}
+use Rattle.edits.specs.declared.Edit.{Edit}
 use Rattle.journal.specs.declared.Record.{Record}
 use Rattle.journal.specs.Journal.{mostSeats, recorded, kept, added, ofDesk, seated, own}
 use Rattle.journal.proofs.Own.{own-nil, own-here, own-past, kept-nil, kept-here, kept-none, kept-past}

@@ -9,7 +9,7 @@ use lib.ListN.{drop, getD}
 use lib.Seq.{drop-nil}
 use Rattle.basics.proofs.Tests.{both-left, both-right, both-of, both-yes, both-no}
 use Rattle.drawing.specs.declared.Pin.{Pin}
-use Rattle.drawing.specs.declared.Edit.{Edit}
+use Rattle.edits.specs.declared.Edit.{Edit}
 use Rattle.journal.specs.Journal.{inTurn}
 
 -- Of edits of which the first k are skipped, the first one is skipped too.

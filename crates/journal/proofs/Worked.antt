@@ -7,7 +7,7 @@ use lib.ListN.{length, replicate}
 use Rattle.basics.specs.Tests.{both, choose, eachOf}
 use Rattle.board.specs.Place.{place}
 use Rattle.basics.specs.Lists.{valuesFrom}
-use Rattle.drawing.specs.declared.Edit.the-variants.{Placed, Moved}
+use Rattle.edits.specs.declared.Edit.the-variants.{Placed, Moved}
 use Rattle.drawing.specs.Pins.{holding}
 use Rattle.journal.specs.declared.Record.{Record}
 use Rattle.journal.specs.Journal.{mostRecords, mostSeats, recorded, own, countsOf, kept, added, seated}

@@ -8,10 +8,10 @@ use Rattle.basics.specs.Tests.{both, choose, eachOf}
 use Rattle.basics.specs.Lists.{padded, valuesFrom}
 use Rattle.board.specs.Place.{middle}
 use Rattle.drawing.specs.declared.Pin.{Pin}
-use Rattle.drawing.specs.declared.Edit.{Edit}
+use Rattle.edits.specs.declared.Edit.{Edit}
 use Rattle.drawing.specs.Pins.{holding}
-use Rattle.drawing.specs.declared.Edit.the-variants.{Placed}
-use Rattle.drawing.specs.Edits.{makeable, made, takeable, unmade}
+use Rattle.edits.specs.declared.Edit.the-variants.{Placed}
+use Rattle.edits.specs.Edits.{makeable, made, takeable, unmade}
 use Rattle.journal.specs.declared.Record.{Record}
 use Rattle.journal.specs.declared.Compacted.{Compacted}
 

@@ -1,6 +1,6 @@
 // The journal: the records of all seats, counting and finding a seat's own, dropping and appending.
-use drawing::Edit;
 use drawing::Held;
+use edits::Edit;
 ghost use mathlib.Core.Path.{_≡_};
 ghost use Prim.Native.Nat.{_<_, _≤_};
 ghost use mathlib.Core.List.{reverse};

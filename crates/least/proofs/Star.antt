@@ -1,5 +1,5 @@
 -- The star of a pin: what the legs that leave it cover, told by how far they reach in the four directions. Assumes nothing.
-use mathlib.Core.Path.{_≡_, refl, sym, ap, ap₂, _∙_, fun-ext}
+use mathlib.Core.Path.{_≡_, refl, sym, ap₂, _∙_}
 use mathlib.Core.Bool.{Bool, true, false, cond}
 use mathlib.Core.Logic.{_⊎_, inl, inr}
 use Prim.Native.Nat.{ℕ, zero, suc, _+_, _-_, _≤_, _<_, min, max}
@@ -12,7 +12,7 @@ use Rattle.board.proofs.Flat.{order, Site, gap, span}
 use Rattle.copper.specs.declared.Arms.{Arms}
 use Rattle.copper.specs.Arms.{noArms, longest, spread}
 use Rattle.basics.proofs.Sums.{oneIf, sumBelow, sum-same, sum-add, sum-none, sum-only}
-use Rattle.copper.proofs.Cover.{Stride, along, rise, covers, over, over-same, over-add, over-none, over-sum, Within}
+use Rattle.copper.proofs.Cover.{Stride, along, rise, covers, over, Within}
 use Rattle.least.proofs.Sharing.{On, in-row, in-column, on-of, on-covers, gap-same}
 
 -- The leg from p to t reaches in one direction only.

@@ -36,9 +36,9 @@ use denote.Triple.Clauses.{Ended, ensured, closing, lasts}
 use denote.Exit.{yes}
 use Rattle.copper.specs.declared.Leg.{Leg}
 use Rattle.copper.proofs.Leg as T
-use Rattle.wiring.specs.declared.Strip.{Strip}
-use Rattle.wiring.proofs.Strip as S
-use Rattle.wiring.proofs.Strip.Laws as S′
+use Rattle.laying.specs.declared.Strip.{Strip}
+use Rattle.laying.proofs.Strip as S
+use Rattle.laying.proofs.Strip.Laws as S′
 use Rattle.lent.specs.Lent.{filledWith}
 use Rattle.lent.proofs.Fitting.{StripFits}
 use Rattle.lent.proofs.fill as fill

@@ -7,7 +7,7 @@ use lib.Seq.{take-at}
 use Rattle.board.specs.declared.Spot.{Spot}
 use Rattle.copper.specs.declared.Leg.{Leg}
 use Rattle.wiring.specs.declared.Laid.{Laid}
-use Rattle.wiring.specs.declared.Strip.{Strip}
+use Rattle.laying.specs.declared.Strip.{Strip}
 use Rattle.wiring.specs.Demand.{BestWiring}
 use Rattle.wiring.proofs.Demand.{best-in-list}
 use Rattle.lent.specs.Lent.{stripOf, filledWith}

@@ -5,8 +5,8 @@ use Prim.Native.Nat.{ℕ, _+_, _<_}
 use lib.ListN.{length, getD, set}
 use Rattle.basics.proofs.Lists.{overlaid, overlaid-turn}
 use Rattle.copper.specs.declared.Leg.{Leg}
-use Rattle.wiring.specs.declared.Strip.{Strip}
-use Rattle.wiring.specs.Answer.{noLeg}
+use Rattle.laying.specs.declared.Strip.{Strip}
+use Rattle.laying.specs.Entries.{noLeg}
 use Rattle.lent.specs.Lent.{filledWith}
 
 module _ (strip : Strip) (lent : List Leg) (at : ℕ) where

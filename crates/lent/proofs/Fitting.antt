@@ -18,9 +18,10 @@ use Rattle.copper.specs.declared.Favour.{Favour}
 use Rattle.copper.specs.declared.Shape.{Shape}
 use Rattle.copper.specs.Shapes.{favoursUpper}
 use Rattle.wiring.specs.declared.Laid.{Laid}
-use Rattle.wiring.specs.declared.Strip.{Strip}
+use Rattle.laying.specs.declared.Strip.{Strip}
 use Rattle.wiring.specs.Choices.{legsOfChoice, bestChoice}
-use Rattle.wiring.specs.Answer.{mostLegs, turnedAway, answerWith, wiringRows, wiringWith, wiringFavouring, wiringOf}
+use Rattle.laying.specs.Entries.{mostLegs}
+use Rattle.wiring.specs.Answer.{turnedAway, answerWith, wiringRows, wiringWith, wiringFavouring, wiringOf}
 use Rattle.wiring.proofs.Few.{needed-few}
 use Rattle.wiring.proofs.Refusing.{wiring-apart}
 use Rattle.lent.specs.Lent.{stripOf}

@@ -14,10 +14,11 @@ use Rattle.copper.specs.Shapes.{favoursUpper}
 use Rattle.copper.specs.declared.Shape.{Shape}
 use Rattle.copper.specs.declared.Leg.{Leg}
 use Rattle.wiring.specs.declared.Laid.{Laid}
-use Rattle.wiring.specs.declared.Strip.{Strip}
+use Rattle.laying.specs.declared.Strip.{Strip}
 use Rattle.wiring.specs.Choices.{bestChoice}
 use Rattle.wiring.specs.Demand.{Alone, Empty}
-use Rattle.wiring.specs.Answer.{runEntries, answerWith, turnedAway, wiringRows, wiringWith, wiringFavouring, wiringOf}
+use Rattle.laying.specs.Entries.{runEntries}
+use Rattle.wiring.specs.Answer.{answerWith, turnedAway, wiringRows, wiringWith, wiringFavouring, wiringOf}
 use Rattle.lent.specs.Lent.{stripOf, filledWith}
 
 -- A wiring that was turned away has length, runs, legs and choices zero, and every run entry 0, 0, straight.

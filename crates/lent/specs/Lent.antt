@@ -3,7 +3,7 @@ use mathlib.Core.List.{List, _++_}
 use lib.ListN.{take, drop}
 use Rattle.copper.specs.declared.Leg.{Leg}
 use Rattle.wiring.specs.declared.Laid.{Laid}
-use Rattle.wiring.specs.declared.Strip.{Strip}
+use Rattle.laying.specs.declared.Strip.{Strip}
 
 -- The legs of an answer, with their number.
 abbrev pub stripOf : Laid → Strip

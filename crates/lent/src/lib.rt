@@ -1,12 +1,12 @@
 // The list that a host lends: filled with the legs of an answer or its segments, later entries unchanged.
 use copper::Leg;
+use laying::Strip;
 use wiring::Laid;
-use wiring::Strip;
 use wiring::Wiring;
 ghost use mathlib.Core.Path.{_≡_};
 ghost use Prim.Native.Nat.{_≤_, _<_};
 ghost use lib.ListN.{length, getD};
-ghost use Rattle.wiring.specs.Answer.{mostLegs, noLeg};
+ghost use Rattle.laying.specs.Entries.{mostLegs, noLeg};
 ghost use Rattle.lent.specs.Lent.{stripOf, filledWith};
 
 // How many entries a strip has.

@@ -20,9 +20,11 @@ use Rattle.tree.specs.Growth.{keptIf, pinsFrom, pinsOf}
 use Rattle.wiring.specs.Answer.{turnedAway, wiringWith, wiringFavouring, wiringOf}
 use Rattle.journal.specs.Journal.{own, filled, inTurn}
 use Rattle.pinmap.specs.declared.Form.the-variants.{Old}
-use Rattle.pinmap.specs.Map.{mostBytes, recordsIn, withPinsOf, rowsFrom, wrongLength, readMap}
+use Rattle.pinmap.specs.Map.{mostBytes}
+use Rattle.readmap.specs.Map.{recordsIn, withPinsOf, rowsFrom, wrongLength, readMap}
 use Rattle.seats.specs.Seats.{sameJob}
-use Rattle.desk.specs.Desk.{jobOf, soundOpen, soundClosed, soundSeat, soundTo, sound, effect, answerOf, step, emptyDesk, wiredOf}
+use Rattle.desk.specs.Desk.{jobOf, soundOpen, soundClosed, soundSeat, soundTo, sound, effect, answerOf, step, emptyDesk}
+use Rattle.asked.specs.Asked.{wiredOf}
 use Rattle.text.specs.Text.{text}
 use Rattle.text.specs.Digits.{digits}
 use Rattle.printed.specs.Answers.{carriedText, toldLine, verdictLine}

@@ -4,7 +4,7 @@ use mathlib.Core.List.{List, [], _∷_}
 use Prim.Native.Nat.{ℕ, _≤_, _<_}
 use native.Mathlib.Omega.{arith}
 use lib.ListN.{length}
-use Rattle.pinmap.specs.Record.{jobAt}
+use Rattle.records.specs.Record.{jobAt}
 use Rattle.mapped.specs.Mapped.{jobOfMap}
 
 -- With fewer than two bytes the job is 1.

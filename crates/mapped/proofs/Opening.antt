@@ -13,9 +13,9 @@ use Rattle.drawing.specs.declared.Pin.{Pin}
 use Rattle.board.specs.declared.Spot.{Spot}
 use Rattle.drawing.specs.Pins.{isNet, lawful, spotsOf, feedOf}
 use Rattle.pinmap.specs.declared.Form.the-variants.{Old}
-use Rattle.pinmap.specs.declared.Reading.{Reading}
-use Rattle.pinmap.specs.Map.{underRows, readBy, readMap}
-use Rattle.pinmap.proofs.Judging.{under-passed}
+use Rattle.readmap.specs.declared.Reading.{Reading}
+use Rattle.readmap.specs.Map.{underRows, readBy, readMap}
+use Rattle.readmap.proofs.Judging.{under-passed}
 use Rattle.roundtrip.proofs.Holding.{plain-feed}
 use Rattle.roundtrip.proofs.RoundTrip.{opened-lawful, read-held}
 use Rattle.journal.specs.Journal.{own, filled, inTurn}
@@ -25,12 +25,14 @@ use Rattle.seats.specs.Seats.{sameJob, openSeat}
 use Rattle.rows.specs.Calls.{opening}
 use Rattle.rows.specs.Refusals.{namingRows, netRow}
 use Rattle.rows.specs.Found.{wiredBy}
-use Rattle.desk.specs.Desk.{jobOf, soundOpen, soundClosed, soundSeat, soundTo, sound, withSeat, namingNetAt, effect, answerOf, step, emptyDesk, wiredOf}
+use Rattle.desk.specs.Desk.{jobOf, soundOpen, soundClosed, soundSeat, soundTo, sound, withSeat, namingNetAt, effect, answerOf, step, emptyDesk}
+use Rattle.asked.specs.Asked.{wiredOf}
 use Rattle.printed.specs.Answers.{verdictLine}
 use Rattle.shown.specs.Shown.{mapText}
 use Rattle.copper.specs.declared.Favour.{Favour}
 use Rattle.wiring.specs.declared.Laid.{Laid}
-use Rattle.wiring.specs.Answer.{mostLegs, wiringOf}
+use Rattle.laying.specs.Entries.{mostLegs}
+use Rattle.wiring.specs.Answer.{wiringOf}
 use Rattle.mapped.specs.Mapped.{jobOfMap, openedWith, wiredWith, mapAnswer}
 
 -- Opening a map at seat 0 of the empty desk: 4, then as the map is read.

@@ -17,11 +17,13 @@ use Rattle.tree.specs.Growth.{runsOf}
 use Rattle.copper.specs.declared.Favour.{Favour}
 use Rattle.copper.specs.Shapes.{favoursUpper}
 use Rattle.wiring.specs.Choices.{bestChoice, legsOfChoice}
-use Rattle.wiring.specs.Answer.{mostLegs, turnedAway, wiringOf, feedRows}
+use Rattle.laying.specs.Entries.{mostLegs}
+use Rattle.wiring.specs.Answer.{turnedAway, wiringOf, feedRows}
 use Rattle.wiring.proofs.Refusing.{wiring-apart, wiring-verdict}
 use Rattle.wiring.proofs.Few.{needed-few}
 use Rattle.desk.specs.declared.Desk.{Desk}
-use Rattle.desk.specs.Desk.{namingNetAt, feedAt, wiredOf}
+use Rattle.desk.specs.Desk.{namingNetAt, feedAt}
+use Rattle.asked.specs.Asked.{wiredOf}
 use Rattle.desk.proofs.Sound.{feed-whole}
 use Rattle.mapped.specs.Mapped.{openedWith, wiredWith}
 

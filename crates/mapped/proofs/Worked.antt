@@ -20,12 +20,14 @@ use Rattle.copper.specs.Shapes.{lowerCorner, upperCorner, legsOf}
 use Rattle.copper.specs.Length.{sameStep, stepsAcross, stepsUp, stepsOf, stepsOfAll, lengthOf}
 use Rattle.board.specs.Place.{smaller}
 use Rattle.wiring.specs.Choices.{bentShapes, shapesOf, withShape, withShapes, choicesOf, legsOfChoice, lengthOfChoice, shortest, shortestOf, bestChoice, weighedAt, weighedOf}
-use Rattle.wiring.specs.Answer.{shapedRuns, runEntries, legEntries, turnedAway, answerWith, wiringWith, wiringFavouring, wiringOf}
+use Rattle.wiring.specs.Answer.{shapedRuns, turnedAway, answerWith, wiringWith, wiringFavouring, wiringOf}
+use Rattle.laying.specs.Entries.{runEntries, legEntries}
 use Rattle.journal.specs.Journal.{own, filled, inTurn}
-use Rattle.pinmap.specs.Record.{recordOf, faulty}
-use Rattle.pinmap.specs.Map.{recordsIn, withPinOf, withPinsOf, rowsFrom, wrongLength, readMap}
+use Rattle.records.specs.Record.{recordOf, faulty}
+use Rattle.readmap.specs.Map.{recordsIn, withPinOf, withPinsOf, rowsFrom, wrongLength, readMap}
 use Rattle.seats.specs.Seats.{sameJob}
-use Rattle.desk.specs.Desk.{jobOf, soundOpen, soundClosed, soundSeat, soundTo, sound, effect, answerOf, step, emptyDesk, wiredOf}
+use Rattle.desk.specs.Desk.{jobOf, soundOpen, soundClosed, soundSeat, soundTo, sound, effect, answerOf, step, emptyDesk}
+use Rattle.asked.specs.Asked.{wiredOf}
 use Rattle.text.specs.Text.{text, textForEach}
 use Rattle.text.specs.Digits.{digits}
 use Rattle.printed.specs.Answers.{carriedText, toldLine, jobLine, runLine}

@@ -4,13 +4,14 @@ use Prim.Native.Nat.{ℕ}
 use Rattle.basics.specs.Tests.{choose}
 use Rattle.refusal.specs.Refusals.{accepted}
 use Rattle.pinmap.specs.declared.Form.the-variants.{Old}
-use Rattle.pinmap.specs.Record.{jobAt}
+use Rattle.records.specs.Record.{jobAt}
 use Rattle.rows.specs.Calls.{opening}
 use Rattle.desk.specs.declared.Answered.{Answered}
-use Rattle.desk.specs.Desk.{emptyDesk, step, wiredOf}
+use Rattle.desk.specs.Desk.{emptyDesk, step}
+use Rattle.asked.specs.Asked.{wiredOf}
 use Rattle.copper.specs.declared.Favour.{Favour}
 use Rattle.wiring.specs.declared.Wiring.{Wiring}
-use Rattle.wiring.specs.Answer.{mostLegs}
+use Rattle.laying.specs.Entries.{mostLegs}
 use Rattle.printed.specs.Answers.{verdictLine}
 use Rattle.shown.specs.Shown.{mapText}
 

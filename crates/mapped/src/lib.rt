@@ -2,13 +2,13 @@
 use board::PINS;
 use copper::Favour;
 use drawing::Pin;
+use laying::LEGS;
 use pinmap::Form;
 use pinmap::OLD_BYTES;
 use printed::print_verdict;
 use rows::Found;
 use shown::print_map;
 use text::ANSWER_BYTES;
-use wiring::LEGS;
 use wiring::Laid;
 ghost use mathlib.Core.Path.{_≡_};
 ghost use mathlib.Core.Bool.{true};
@@ -16,7 +16,8 @@ ghost use Prim.Native.Nat.{_≤_};
 ghost use lib.ListN.{length, replicate};
 ghost use Rattle.drawing.specs.Pins.{lawful, feedOf};
 ghost use Rattle.copper.specs.declared.Favour.the-variants.{Lower};
-ghost use Rattle.wiring.specs.Answer.{mostLegs, wiringOf};
+ghost use Rattle.laying.specs.Entries.{mostLegs};
+ghost use Rattle.wiring.specs.Answer.{wiringOf};
 ghost use Rattle.text.specs.Text.{over, answerBytes};
 ghost use Rattle.mapped.specs.Mapped.{jobOfMap, mapAnswer, mostRead};
 
@@ -37,7 +38,7 @@ fn job_of_map(map: &[u8]) -> u16
     if map.len() < 2 {
         return 1;
     }
-    pinmap::job_at(map)
+    records::job_at(map)
 }
 
 // Wires net 1 of the pins of a map as those of seat 0, open for its job: room for all legs, lower asked for.
@@ -51,7 +52,7 @@ fn wire_opened(job: u16, pins: [Pin; PINS]) -> Laid
         seat: 0,
         state,
     };
-    rows::feed_wired(found, 1, LEGS, Favour::Lower)
+    asking::feed_wired(found, 1, LEGS, Favour::Lower)
 }
 
 // Opens a map of the old form at seat 0 of an empty desk under its job, wires net 1 with lower asked for, and prints the answer; says how many bytes that is.
@@ -60,7 +61,7 @@ pub fn map_answer(map: &[u8], out: &mut [u8; ANSWER_BYTES]) -> usize
     ensures { λ r. ⌜ ((r ≡ length (mapAnswer (now (map .entry)))) × (r ≤ answerBytes)) × (now (out .exit) ≡ over (mapAnswer (now (map .entry))) (now (out .entry))) ⌝ }
 {
     let job = job_of_map(map);
-    let reading = pinmap::read_under(Form::Old, map, job);
+    let reading = readmap::read_under(Form::Old, map, job);
     let verdict = reading.verdict;
     if refusal::is_accepted(verdict) {
         let pins = reading.pins;

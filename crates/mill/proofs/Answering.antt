@@ -22,10 +22,11 @@ use Rattle.copper.specs.declared.Leg.{Leg}
 use Rattle.copper.specs.declared.Shape.{Shape}
 use Rattle.copper.specs.Shapes.{favoursUpper}
 use Rattle.wiring.specs.declared.Laid.{Laid}
-use Rattle.wiring.specs.declared.Strip.{Strip}
+use Rattle.laying.specs.declared.Strip.{Strip}
 use Rattle.wiring.specs.Choices.{bestChoice, legsOfChoice}
-use Rattle.wiring.specs.Answer.{mostLegs, answerWith, wiringRows, wiringWith, wiringFavouring, wiringOf}
-use Rattle.wiring.specs.Reaching.{strip}
+use Rattle.laying.specs.Entries.{mostLegs}
+use Rattle.wiring.specs.Answer.{answerWith, wiringRows, wiringWith, wiringFavouring, wiringOf}
+use Rattle.laying.specs.Reaching.{strip}
 use Rattle.wiring.specs.Demand.{legsIn}
 use Rattle.wiring.proofs.Shortest.{take-legs}
 use Rattle.wiring.proofs.Demand.{answer-comes}

@@ -10,8 +10,8 @@ use Rattle.copper.specs.declared.Leg.{Leg}
 use Rattle.spans.specs.declared.Span.{Span}
 use Rattle.spans.specs.Spans.{mostSpans, spansFrom, Long, lowsOf, highsOf, cleaned}
 use Rattle.spans.proofs.Few.{cleaned-few}
-use Rattle.wiring.specs.Answer.{mostLegs, legEntries}
-use Rattle.wiring.specs.Reaching.{strip}
+use Rattle.laying.specs.Entries.{mostLegs, legEntries}
+use Rattle.laying.specs.Reaching.{strip}
 use Rattle.mill.specs.Numbered.{spanOf, segmentOf, segmentsOf}
 use Rattle.mill.proofs.Stretches.{lowOf, highOf}
 use Rattle.mill.proofs.Filling.{told-front, spans-many, filled-long}

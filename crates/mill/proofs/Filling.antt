@@ -17,7 +17,7 @@ use Rattle.copper.specs.declared.Leg.{Leg}
 use Rattle.spans.specs.declared.Span.{Span}
 use Rattle.spans.specs.Spans.{span, spansFrom, Long, lowsOf, highsOf}
 use Rattle.spans.proofs.Telling.{told-many, told-next}
-use Rattle.wiring.specs.Answer.{mostLegs, noLeg, legEntries}
+use Rattle.laying.specs.Entries.{mostLegs, noLeg, legEntries}
 use Rattle.mill.specs.Numbered.{columns, spanOf, isNumbered, segmentOf}
 use Rattle.mill.proofs.Steps.{base}
 use Rattle.mill.proofs.Stretches.{lowOf, highOf, Lined, lined}

@@ -19,7 +19,7 @@ use Rattle.copper.specs.Shapes.{favoursUpper}
 use Rattle.spans.specs.Spans.{cleaned}
 use Rattle.spans.proofs.Few.{cleaned-few}
 use Rattle.wiring.specs.Choices.{bestChoice, legsOfChoice}
-use Rattle.wiring.specs.Answer.{mostLegs}
+use Rattle.laying.specs.Entries.{mostLegs}
 use Rattle.wiring.proofs.Few.{needed-few}
 use Rattle.mill.specs.Numbered.{spanOf, segmentOf, segmentsOf}
 use Rattle.mill.specs.Answer.{copperOf, millRows, cutWith, cutBy}

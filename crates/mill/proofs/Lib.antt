@@ -16,4 +16,3 @@ pub mod Cutting
 pub mod Wired
 pub mod Answering
 pub mod Demand
-pub mod Worked

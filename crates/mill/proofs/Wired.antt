@@ -15,7 +15,8 @@ use Rattle.tree.specs.declared.Run.{Run}
 use Rattle.copper.specs.declared.Shape.{Shape}
 use Rattle.copper.specs.declared.Shape.the-variants.{Straight, Lower, Upper}
 use Rattle.copper.specs.Shapes.{crossing, lowerCorner, upperCorner, cornerOf, firstLeg, secondLeg, legsOf}
-use Rattle.wiring.specs.Choices.{nearEnd, farEnd, legsOfChoice}
+use Rattle.laying.specs.Entries.{nearEnd, farEnd}
+use Rattle.wiring.specs.Choices.{legsOfChoice}
 use Rattle.mill.specs.Numbered.{isInside}
 
 module _ (a b : Place) (h : inside a ≡ true) (k : inside b ≡ true) where

@@ -14,9 +14,9 @@ use Rattle.tree.specs.Trees.{treeRows}
 use Rattle.copper.specs.declared.Favour.{Favour}
 use Rattle.copper.specs.declared.Leg.{Leg}
 use Rattle.copper.specs.Shapes.{favoursUpper}
-use Rattle.wiring.specs.declared.Strip.{Strip}
+use Rattle.laying.specs.declared.Strip.{Strip}
 use Rattle.wiring.specs.Choices.{bestChoice, legsOfChoice}
-use Rattle.wiring.specs.Answer.{legEntries}
+use Rattle.laying.specs.Entries.{legEntries}
 use Rattle.mill.specs.declared.Cut.{Cut}
 use Rattle.mill.specs.Numbered.{segmentsOf}
 

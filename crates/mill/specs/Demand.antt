@@ -5,7 +5,7 @@ use Prim.Native.Nat.{_≤_}
 use lib.ListN.{length, take}
 use Rattle.copper.specs.declared.Leg.{Leg}
 use Rattle.wiring.specs.declared.Laid.{Laid}
-use Rattle.wiring.specs.Answer.{mostLegs}
+use Rattle.laying.specs.Entries.{mostLegs}
 use Rattle.wiring.specs.Demand.{legsIn}
 use Rattle.mill.specs.declared.Cut.{Cut}
 use Rattle.mill.specs.Segments.{CleanList, SameSteps, totalLength}

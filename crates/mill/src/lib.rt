@@ -3,10 +3,10 @@ use board::PINS;
 use board::Place;
 use copper::Favour;
 use copper::Leg;
+use laying::LEGS;
+use laying::Strip;
 use refusal::Verdict;
 use spans::Span;
-use wiring::LEGS;
-use wiring::Strip;
 ghost use mathlib.Core.Path.{_≡_};
 ghost use mathlib.Core.Bool.{true};
 ghost use mathlib.Core.List.{[], map, _++_};
@@ -16,8 +16,8 @@ ghost use Rattle.basics.specs.Tests.{eachOf};
 ghost use Rattle.board.specs.Place.{onBoard, inside};
 ghost use Rattle.board.specs.Spots.{spotsFrom, allWithin, allApart};
 ghost use Rattle.spans.specs.Spans.{spansFrom, Long, lowsOf, highsOf};
-ghost use Rattle.wiring.specs.Answer.{mostLegs, legEntries};
-ghost use Rattle.wiring.specs.Reaching.{strip};
+ghost use Rattle.laying.specs.Entries.{mostLegs, legEntries};
+ghost use Rattle.laying.specs.Reaching.{strip};
 ghost use Rattle.mill.specs.Numbered.{width, columns, counted, uncounted, rowNumber, columnNumber, spanOf, isInside, isNumbered, placeOf, segmentOf, segmentsOf};
 ghost use Rattle.mill.specs.Answer.{cutWith, cutOf, stripOfCut};
 
@@ -139,7 +139,7 @@ fn segments_of(lows: &[usize; LEGS], highs: &[usize; LEGS], count: usize) -> [Le
     requires { ⌜ (count ≤ mostLegs) × Long (now lows) (now highs) × (eachOf isNumbered (take count (spansFrom (now lows) (now highs))) ≡ true) ⌝ }
     ensures { λ r. ⌜ r ≡ legEntries (map segmentOf (take count (spansFrom (now (lows .entry)) (now (highs .entry))))) ⌝ }
 {
-    let none = wiring::no_leg();
+    let none = laying::no_leg();
     let mut segments = [none; LEGS];
     let mut at = 0;
     while at < count {
@@ -169,7 +169,7 @@ fn cut_legs(legs: [Leg; LEGS], count: usize) -> Strip
 pub fn refused(verdict: Verdict) -> Cut
     ensures { λ r. ⌜ r ≡ cutWith verdict [] ⌝ }
 {
-    let none = wiring::no_leg();
+    let none = laying::no_leg();
     let list = [none; LEGS];
     let milling = Milling {
         verdict,

@@ -5,8 +5,7 @@ use native.Mathlib.Omega.{arith}
 use Rattle.board.specs.Spots.{mostPins}
 use Rattle.pinmap.specs.declared.Form.{Form}
 use Rattle.pinmap.specs.declared.Form.the-variants.{Old, New}
-use Rattle.pinmap.specs.Record.{recordSize}
-use Rattle.pinmap.specs.Map.{mostBytes}
+use Rattle.pinmap.specs.Map.{recordSize, mostBytes}
 
 -- A record has at least the twelve bytes of the old form, and at most the sixteen of the new.
 pub size-range : (form : Form) → (12 ≤ recordSize form) × (recordSize form ≤ 16)

@@ -1,4 +1,3 @@
 -- What the words of the pin map mean.
 pub mod Number
-pub mod Record
 pub mod Map

@@ -34,7 +34,7 @@ fn join(a: u8, b: u8, c: u8, d: u8) -> u32
 }
 
 // The number whose four bytes begin at `at`.
-pub(crate) fn read_bits(bytes: &[u8], at: usize) -> u32
+pub fn read_bits(bytes: &[u8], at: usize) -> u32
     requires { ⌜ at + 4 ≤ length (now bytes) ⌝ }
     ensures { λ r. ⌜ r ≡ bitsAt (now (bytes .entry)) at ⌝ }
 {
@@ -42,7 +42,7 @@ pub(crate) fn read_bits(bytes: &[u8], at: usize) -> u32
 }
 
 // The same in two's complement.
-pub(crate) fn read_number(bytes: &[u8], at: usize) -> i32
+pub fn read_number(bytes: &[u8], at: usize) -> i32
     requires { ⌜ at + 4 ≤ length (now bytes) ⌝ }
     ensures { λ r. ⌜ r ≡ numberAt (now (bytes .entry)) at ⌝ }
 {
@@ -50,7 +50,7 @@ pub(crate) fn read_number(bytes: &[u8], at: usize) -> i32
 }
 
 // Writes the four bytes of an i32 from `at` on.
-pub(crate) fn write_number(bytes: &mut [u8], at: usize, z: i32)
+pub fn write_number(bytes: &mut [u8], at: usize, z: i32)
     requires { ⌜ at + 4 ≤ length (now bytes) ⌝ }
     ensures { λ _. ⌜ now (bytes .exit) ≡ putAt (now (bytes .entry)) at (bitsOf z) ⌝ }
 {
@@ -58,7 +58,7 @@ pub(crate) fn write_number(bytes: &mut [u8], at: usize, z: i32)
 }
 
 // Writes the four bytes of a number from `at` on.
-pub(crate) fn write_bits(bytes: &mut [u8], at: usize, n: u32)
+pub fn write_bits(bytes: &mut [u8], at: usize, n: u32)
     requires { ⌜ at + 4 ≤ length (now bytes) ⌝ }
     ensures { λ _. ⌜ now (bytes .exit) ≡ putAt (now (bytes .entry)) at n ⌝ }
 {

@@ -24,13 +24,16 @@ use Rattle.board.proofs.Rules.{clear-other}
 use Rattle.drawing.specs.Pins.{absent, there, hasNet, lawful, spotOf, spotsOf}
 use Rattle.drawing.proofs.Rules.{lawful-parts, lawful-set}
 use Rattle.pinmap.specs.declared.Form.{Form}
-use Rattle.pinmap.specs.declared.MapRecord.{MapRecord}
-use Rattle.pinmap.specs.declared.Reading.{Reading}
-use Rattle.pinmap.specs.Record.{recordSize, recordOf, heldOf, recordBytes, pinBytes, Bytes}
-use Rattle.pinmap.specs.Map.{holds, partFits, partsFit, recordsIn, withPinOf, mapFrom, mapOf}
+use Rattle.records.specs.declared.MapRecord.{MapRecord}
+use Rattle.readmap.specs.declared.Reading.{Reading}
+use Rattle.pinmap.specs.Map.{recordSize, Bytes, holds, partFits, partsFit}
+use Rattle.records.specs.Record.{recordOf, heldOf}
+use Rattle.writemap.specs.Record.{recordBytes, pinBytes}
+use Rattle.readmap.specs.Map.{recordsIn, withPinOf}
+use Rattle.writemap.specs.Map.{mapFrom, mapOf}
 use Rattle.pinmap.proofs.Sizes.{one-more}
-use Rattle.pinmap.proofs.Judging.{refusedBy, judged, readFrom, read-none, read-next}
-use Rattle.pinmap.proofs.Faults.{Faultless, faultless}
+use Rattle.readmap.proofs.Judging.{refusedBy, readFrom, read-none, read-next}
+use Rattle.records.proofs.Faults.{judged, Faultless, faultless}
 use Rattle.roundtrip.proofs.Holding.{holds-given, net-given}
 use Rattle.roundtrip.proofs.Records.{record-written, part-given}
 

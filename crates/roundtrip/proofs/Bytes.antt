@@ -10,7 +10,7 @@ use mir.Syntax.{w32}
 use mir.Val.{toZ, Fits, SFits}
 use mir.Facts.{toZ-ofZ, ofZ-toZ}
 use Rattle.pinmap.specs.Number.{joined, bitsAt, numberAt, firstByte, secondByte, thirdByte, fourthByte, bitsOf, putAt}
-use Rattle.pinmap.specs.Record.{Bytes}
+use Rattle.pinmap.specs.Map.{Bytes}
 
 -- The four bytes of a number, joined, are the number,
 pub join-split : (n : ℕ) → joined (firstByte n) (secondByte n) (thirdByte n) (fourthByte n) ≡ n

@@ -1,9 +1,8 @@
 -- Which pins a form can hold: the new form any, the old one a pin of net 1 with part number 0. Assumes nothing.
 use mathlib.Core.Path.{_≡_, refl, sym, ap}
-use mathlib.Core.Bool.{Bool, true, false, not}
+use mathlib.Core.Bool.{true, false, not}
 use mathlib.Core.List.{List, [], _∷_}
 use Prim.Native.Nat.{ℕ, suc, _<_}
-use lib.Dec.{eqb}
 use lib.ListN.{getD}
 use native.Mathlib.Omega.{arith}
 use borrow.Author.Tests.{eqb-true, eq-eqb, leb-true, not-false}
@@ -19,7 +18,8 @@ use Rattle.drawing.specs.Pins.{absent, there, holding, isNet, ofNetIn, isOf, sp
 use Rattle.pinmap.specs.declared.Form.{Form}
 use Rattle.pinmap.specs.declared.Form.the-variants.{Old, New}
 use Rattle.pinmap.specs.Map.{plainIn, plain, holds}
-use Rattle.pinmap.specs.Record.{recordOf, netGiven, wrongByte, heldOf, byteFor}
+use Rattle.records.specs.Record.{recordOf, netGiven, wrongByte, heldOf}
+use Rattle.writemap.specs.Record.{byteFor}
 
 -- Either form can leave a pin out.
 pub holds-absent : (form : Form) → holds form absent ≡ true

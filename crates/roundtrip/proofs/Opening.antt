@@ -24,13 +24,15 @@ use Rattle.board.specs.declared.Spot.the-variants as spot
 use Rattle.board.proofs.Rules.{spots-turned, apart-pair, within-at}
 use Rattle.drawing.proofs.Rules.{lawful-parts, spots-at}
 use Rattle.pinmap.specs.declared.Form.{Form}
-use Rattle.pinmap.specs.declared.MapRecord.{MapRecord}
-use Rattle.pinmap.specs.Record.{recordSize, byteFor, recordBytes, pinBytes}
-use Rattle.pinmap.specs.Map.{holds, recordsIn, recordsOf, withPinOf, mapFrom, readAs}
+use Rattle.records.specs.declared.MapRecord.{MapRecord}
+use Rattle.pinmap.specs.Map.{recordSize, holds}
+use Rattle.writemap.specs.Record.{byteFor, recordBytes, pinBytes}
+use Rattle.readmap.specs.Map.{recordsIn, recordsOf, withPinOf, readAs}
+use Rattle.writemap.specs.Map.{mapFrom}
 use Rattle.pinmap.proofs.Sizes.{none-count, count-more}
-use Rattle.pinmap.proofs.Judging.{readFrom, read-none, read-next}
-use Rattle.pinmap.proofs.Faults.{Faultless, no-fault}
-use Rattle.pinmap.proofs.Written.{record-length, absent-bytes, there-bytes, there-net, net-at, map-next, map-end}
+use Rattle.readmap.proofs.Judging.{readFrom, read-none, read-next}
+use Rattle.records.proofs.Faults.{Faultless, no-fault}
+use Rattle.writemap.proofs.Written.{record-length, absent-bytes, there-bytes, there-net, net-at, map-next, map-end}
 use Rattle.roundtrip.proofs.Holding.{holds-absent, partGiven, same-held, right-byte}
 use Rattle.roundtrip.proofs.Records.{record-read}
 

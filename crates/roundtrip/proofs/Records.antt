@@ -20,10 +20,12 @@ use Rattle.drawing.specs.Pins.{isNet}
 use Rattle.pinmap.specs.declared.Form.{Form}
 use Rattle.pinmap.specs.declared.Form.the-variants.{Old, New}
 use Rattle.pinmap.specs.Number.{bitsAt, numberAt, fourBytes, bitsOf, putAt}
-use Rattle.pinmap.specs.Record.{Bytes, recordSize, partAt, recordOf, heldOf, byteFor, partBytes, recordBytes}
+use Rattle.pinmap.specs.Map.{Bytes, recordSize}
+use Rattle.records.specs.Record.{partAt, recordOf, heldOf}
+use Rattle.writemap.specs.Record.{byteFor, partBytes, recordBytes}
 use Rattle.pinmap.proofs.Sizes.{size-range}
-use Rattle.pinmap.proofs.Faults.{Faultless}
-use Rattle.pinmap.proofs.Written.{record-stored, part-stored}
+use Rattle.records.proofs.Faults.{Faultless}
+use Rattle.writemap.proofs.Written.{record-stored, part-stored}
 use Rattle.roundtrip.proofs.Bytes.{join-split, number-split, first-byte, second-byte, third-byte, fourth-byte, bits-fit, bits-number, written-read}
 use Rattle.roundtrip.proofs.Holding.{partGiven, byte-fits, byte-again}
 

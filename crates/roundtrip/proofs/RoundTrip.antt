@@ -6,30 +6,31 @@ use mathlib.Core.Bool.{Bool, true, false, false≢true}
 use mathlib.Core.List.{List, [], _∷_, _++_}
 use Prim.Native.Nat.{ℕ, _+_, _/_, _%_, _<_, _≤_}
 use native.Mathlib.Omega.{arith}
-use lib.ListN.{length, getD, take, drop}
+use lib.ListN.{length, take, drop}
 use borrow.Author.Tests.{ltb-true}
 use lib.Seq.{take-append-seam}
 use Rattle.refusal.specs.declared.Verdict.the-variants.{MapLength}
 use Rattle.basics.specs.Tests.{both, either, choose, anyOf, eachOf, noTwo}
 use Rattle.refusal.specs.Refusals.{accepted}
 use Rattle.basics.proofs.Tests.{both-left, both-right, choose-yes, choose-no}
-use Rattle.drawing.specs.declared.Held.{Held}
 use Rattle.drawing.specs.declared.Stand.{Stand}
 use Rattle.drawing.specs.declared.Stand.the-variants.{Absent, There}
 use Rattle.drawing.specs.declared.Pin.{Pin}
 use Rattle.board.specs.Spots.{mostPins, within, allWithin, spotsTooNear}
-use Rattle.drawing.specs.Pins.{absent, there, spotIn, netIn, hasNet, lawful, spotOf, spotsOf, noPins}
+use Rattle.drawing.specs.Pins.{spotIn, netIn, hasNet, lawful, spotOf, spotsOf, noPins}
 use Rattle.drawing.proofs.Rules.{lawful-parts}
 use Rattle.pinmap.specs.declared.Form.{Form}
 use Rattle.pinmap.specs.declared.Form.the-variants.{Old, New}
-use Rattle.pinmap.specs.declared.Reading.{Reading}
-use Rattle.pinmap.specs.Record.{recordSize, bytesIn, pinBytes, Bytes}
-use Rattle.pinmap.specs.Map.{plain, holds, mostBytes, partIn, partFits, partsFit, recordsOf, wrongLength, readMap, mapFrom, mapOf, written, writeMap, bufferAfter, readAs}
+use Rattle.readmap.specs.declared.Reading.{Reading}
+use Rattle.pinmap.specs.Map.{recordSize, Bytes, plain, holds, mostBytes, partIn, partFits, partsFit}
+use Rattle.writemap.specs.Record.{bytesIn, pinBytes}
+use Rattle.readmap.specs.Map.{recordsOf, wrongLength, readMap, readAs}
+use Rattle.writemap.specs.Map.{mapFrom, mapOf, written, writeMap, bufferAfter}
 use Rattle.pinmap.proofs.Sizes.{most-records, whole-count}
-use Rattle.pinmap.proofs.Judging.{refusedBy, readFrom, read-by-length}
-use Rattle.pinmap.proofs.Lengths.{right-length, length-right}
-use Rattle.pinmap.proofs.Written.{map-size}
-use Rattle.roundtrip.proofs.Holding.{new-holds, old-plain}
+use Rattle.readmap.proofs.Judging.{refusedBy, readFrom, read-by-length}
+use Rattle.readmap.proofs.Lengths.{right-length, length-right}
+use Rattle.writemap.proofs.Written.{map-size}
+use Rattle.roundtrip.proofs.Holding.{new-holds}
 use Rattle.roundtrip.proofs.Records.{bytes-append, record-bytes}
 use Rattle.roundtrip.proofs.Opening.{upto-none, open-from}
 use Rattle.roundtrip.proofs.Back.{Kept, Back, back-from}

@@ -15,9 +15,11 @@ use Rattle.drawing.specs.declared.Pin.{Pin}
 use Rattle.board.specs.Spots.{spotsTooNear}
 use Rattle.drawing.specs.Pins.{absent, there, holding, isNet, spotOf, spotsOf, noPins}
 use Rattle.pinmap.specs.declared.Form.the-variants.{Old, New}
-use Rattle.pinmap.specs.Record.{recordOf, faulty, recordBytes, pinBytes}
-use Rattle.pinmap.proofs.Judging.{refusedBy}
-use Rattle.pinmap.specs.Map.{recordsIn, withPinOf, withPinsOf, rowsFrom, wrongLength, readMap, mapFrom, mapOf, written, writeMap, bufferAfter, readAs}
+use Rattle.records.specs.Record.{recordOf, faulty}
+use Rattle.writemap.specs.Record.{recordBytes, pinBytes}
+use Rattle.readmap.proofs.Judging.{refusedBy}
+use Rattle.readmap.specs.Map.{recordsIn, withPinOf, withPinsOf, rowsFrom, wrongLength, readMap, readAs}
+use Rattle.writemap.specs.Map.{mapFrom, mapOf, written, writeMap, bufferAfter}
 
 -- Job 7, pin 0 at (20,-20), of a net and with a part number.
 abbrev pinOf : ℕ → ℕ → List Pin

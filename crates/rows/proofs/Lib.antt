@@ -1,4 +1,3 @@
 -- The laws of the rows that other crates cite.
 pub mod Rows
-mod Fed
 pub mod Passed

@@ -1,7 +1,7 @@
 -- What an accepted call has passed: of each row of refusals, that its condition does not hold; so an accepted edit can be made.
 -- From the rows of each call and the laws of edits; assumes nothing.
 use mathlib.Core.Path.{_≡_, refl, ap}
-use mathlib.Core.Bool.{true, false, not}
+use mathlib.Core.Bool.{true, false}
 use mathlib.Core.List.{List, _++_}
 use Prim.Native.Nat.{ℕ, _-_, _<_}
 use borrow.Author.Tests.{not-false, eqb-false, leb-false}
@@ -16,14 +16,14 @@ use Rattle.board.specs.Spots.{mostPins}
 use Rattle.drawing.specs.declared.Stand.{Stand}
 use Rattle.drawing.specs.declared.Stand.the-variants.{Absent, There}
 use Rattle.drawing.specs.declared.Pin.{Pin}
-use Rattle.drawing.specs.declared.stated.Making.{Making}
-use Rattle.drawing.specs.declared.stated.Making.the-variants.{Placing, Moving, Removing}
-use Rattle.drawing.specs.Pins.{there, pinAt, thereIn, isThere, lawful}
-use Rattle.drawing.specs.Edits.{heldIn, heldBy, standsIn, standsAt, makeable}
-use Rattle.drawing.specs.Stated.{editOf}
-use Rattle.drawing.proofs.Changing.{placed-makeable, moved-makeable, removed-makeable}
+use Rattle.edits.specs.declared.stated.Making.{Making}
+use Rattle.edits.specs.declared.stated.Making.the-variants.{Placing, Moving, Removing}
+use Rattle.drawing.specs.Pins.{there, pinAt, thereIn, isThere, lawful, heldIn, heldBy, standsIn, standsAt}
+use Rattle.edits.specs.Edits.{makeable}
+use Rattle.edits.specs.Stated.{editOf}
+use Rattle.edits.proofs.Changing.{placed-makeable, moved-makeable, removed-makeable}
 use Rattle.pinmap.specs.declared.Form.{Form}
-use Rattle.pinmap.specs.Map.{mapRows, readMap}
+use Rattle.readmap.specs.Map.{mapRows, readMap}
 use Rattle.journal.specs.Journal.{mostSeats, mostRecords}
 use Rattle.seats.specs.Seats.{jobAmong}
 use Rattle.rows.specs.Calls.{Call, opening, closing, making, undoing, redoing, asking}

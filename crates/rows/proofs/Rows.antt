@@ -1,33 +1,33 @@
 -- The rows of every call are apart, what was read of them first, and what they decide. From the laws of rows; assumes nothing.
-use mathlib.Core.Path.{_≡_, refl, ap, ap₂, sym, _∙_}
+use mathlib.Core.Path.{_≡_, refl, ap, sym, _∙_}
 use mathlib.Core.Bool.{Bool, true, false, not}
 use mathlib.Core.List.{List, [], _∷_, _++_}
 use Prim.Native.Nat.{ℕ, _<_}
 use lib.Dec.{leb}
 use borrow.Author.Tests.{not-true, not-false, leb-false}
 use Rattle.basics.specs.Tests.{both, choose, eachOf}
-use Rattle.basics.proofs.Tests.{choose-no}
 use Rattle.refusal.specs.Refusals.{accepted}
 use Rattle.refusal.specs.Rows.{Row, given, firstOf, NoneHolds}
 use Rattle.refusal.specs.declared.Verdict.{Verdict}
 use Rattle.refusal.specs.declared.Verdict.the-variants.{SeatAbove, DeskBroken}
 use Rattle.refusal.proofs.Rows.{unlike, distinct, Apart, apart-by, apart-both, none-holds, none-before, stops, goes, decided-away, decided-on}
 use Rattle.drawing.specs.declared.Pin.{Pin}
-use Rattle.drawing.specs.declared.stated.Making.{Making}
-use Rattle.drawing.specs.declared.stated.Making.the-variants.{Placing, Moving, Removing}
+use Rattle.edits.specs.declared.stated.Making.{Making}
+use Rattle.edits.specs.declared.stated.Making.the-variants.{Placing, Moving, Removing}
 use lib.ListN.{length}
 use lib.Ieee.{Float}
 use Rattle.drawing.specs.Pins.{noPins}
 use Rattle.pinmap.specs.declared.Form.{Form}
-use Rattle.pinmap.specs.declared.Reading.{Reading}
-use Rattle.pinmap.specs.declared.Writing.{Writing}
-use Rattle.pinmap.specs.Map.{recordsOf, withPinsOf, mapRows, readBy, written, writeBy, bufferBy}
-use Rattle.pinmap.proofs.Judging.{notOfMap, map-differs, map-apart}
+use Rattle.readmap.specs.declared.Reading.{Reading}
+use Rattle.writemap.specs.declared.Writing.{Writing}
+use Rattle.readmap.specs.Map.{recordsOf, withPinsOf, mapRows, readBy}
+use Rattle.writemap.specs.Map.{written, writeBy, bufferBy}
+use Rattle.readmap.proofs.Judging.{notOfMap, map-differs, map-apart}
 use Rattle.copper.specs.declared.Leg.{Leg}
 use Rattle.mill.specs.Answer.{cutWith, cutBy}
 use Rattle.drops.specs.Drops.{noDrops, noneLost, lostBy}
 use Rattle.journal.specs.Journal.{mostSeats}
-use Rattle.rows.specs.Calls.{Call, opening, closing, making, undoing, redoing, asking, Asking, writing, wiring, milling, dropping}
+use Rattle.rows.specs.Calls.{Call, opening, closing, making, undoing, redoing, asking, writing, wiring, milling, dropping}
 use Rattle.rows.specs.declared.Found.{Found}
 use Rattle.rows.specs.Found.{namingFound}
 use Rattle.rows.specs.Refusals.{Look, namingRows, takingRows, netRow, namingNetRows, makingRows, rowsOf}

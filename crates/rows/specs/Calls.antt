@@ -1,10 +1,10 @@
 -- The calls that take a desk, as a type: each with the seat that it names and all that it states.
 use mathlib.Core.List.{List}
 use Prim.Native.Nat.{ℕ}
-use Rattle.drawing.specs.declared.stated.Making.{Making}
+use Rattle.edits.specs.declared.stated.Making.{Making}
 use Rattle.copper.specs.declared.Favour.{Favour}
-use Rattle.drops.specs.declared.Loaded.{Loaded}
-use Rattle.drops.specs.declared.Sheet.{Sheet}
+use Rattle.loads.specs.declared.Loaded.{Loaded}
+use Rattle.loads.specs.declared.Sheet.{Sheet}
 use Rattle.pinmap.specs.declared.Form.{Form}
 
 -- What is asked of a drawing: to write its map into lent room (bytes), to wire a net into lent room (legs) with what is said of the shape to favour, to give that

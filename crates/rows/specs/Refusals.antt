@@ -9,13 +9,12 @@ use Rattle.refusal.specs.declared.Verdict.the-variants.{SeatAbove, NotOpen, Ope
 use Rattle.board.specs.Place.{inside}
 use Rattle.board.specs.Spots.{mostPins, crowded}
 use Rattle.drawing.specs.declared.Pin.{Pin}
-use Rattle.drawing.specs.declared.stated.Making.{Making}
-use Rattle.drawing.specs.declared.stated.Making.the-variants.{Placing, Moving, Removing}
-use Rattle.drawing.specs.Pins.{isThere, isNet, spotsOf, feedOf}
-use Rattle.drawing.specs.Edits.{standsAt}
-use Rattle.drawing.specs.Pins.{pinAt}
+use Rattle.edits.specs.declared.stated.Making.{Making}
+use Rattle.edits.specs.declared.stated.Making.the-variants.{Placing, Moving, Removing}
+use Rattle.drawing.specs.Pins.{isThere, isNet, spotsOf, feedOf, standsAt, pinAt}
 use Rattle.pinmap.specs.declared.Form.the-variants.{New}
-use Rattle.pinmap.specs.Map.{mapRows, roomRows}
+use Rattle.readmap.specs.Map.{mapRows}
+use Rattle.writemap.specs.Map.{roomRows}
 use Rattle.drops.specs.Drops.{dropRows}
 use Rattle.wiring.specs.Answer.{feedRows}
 use Rattle.mill.specs.Answer.{millRows}

@@ -1,39 +1,28 @@
-// Rows of refusals: what a call finds at the seat that it names, for each call its row in the order of documents 01 and 02 over that, and what opening reads, writing writes, and wiring, milling and drops answer.
+// Rows of refusals: what a call finds at the seat that it names, and over that, for each call that changes a desk, its row in the order of documents 01 and 02; and what opening reads.
 use board::PINS;
 use board::Place;
-use copper::Favour;
 use drawing::Held;
 use drawing::Pin;
-use drawing::stated::Making;
-use drops::Loaded;
-use drops::Lost;
-use drops::Sheet;
+use edits::stated::Making;
 use journal::RECORDS;
 use journal::Record;
 use journal::SEATS;
-use mill::Cut;
 use pinmap::Form;
-use pinmap::Reading;
-use pinmap::Writing;
+use readmap::Reading;
 use refusal::Verdict;
 use seats::Seat;
-use wiring::Laid;
 ghost use mathlib.Core.Path.{_≡_};
-ghost use mathlib.Core.Bool.{true, false};
+ghost use mathlib.Core.Bool.{false};
 ghost use mathlib.Core.List.{_++_};
 ghost use Prim.Native.Nat.{_≤_};
-ghost use lib.ListN.{length, take};
+ghost use lib.ListN.{take};
 ghost use Rattle.refusal.specs.Rows.{firstOf};
-ghost use Rattle.drawing.specs.Pins.{lawful, feedOf};
-ghost use Rattle.drawing.specs.declared.stated.Making.the-variants.{Placing, Moving, Removing};
-ghost use Rattle.pinmap.specs.declared.Form.the-variants.{New};
-ghost use Rattle.pinmap.specs.Map.{mapRows, mapOf, readBy, roomRows, writeBy, bufferBy};
+ghost use Rattle.edits.specs.declared.stated.Making.the-variants.{Placing, Moving, Removing};
+ghost use Rattle.readmap.specs.Map.{mapRows, readBy};
 ghost use Rattle.journal.specs.Journal.{mostRecords, own};
 ghost use Rattle.seats.specs.Seats.{takenBackCount, jobsIn};
 ghost use Rattle.rows.specs.Refusals.{takingRows, makingRows, fullRow, undoingRow, redoingRow};
-ghost use Rattle.mill.specs.Answer.{copperOf, millRows, cutBy};
-ghost use Rattle.drops.specs.Drops.{dropRows, dropsOf, lostBy};
-ghost use Rattle.rows.specs.Found.{foundIn, namingFound, namingNet, wiredBy};
+ghost use Rattle.rows.specs.Found.{foundIn, namingFound};
 
 // What a call finds: whether the desk is broken, the seat that it names, and that seat's state, a closed one's where there is no such seat.
 pub struct Found {
@@ -257,97 +246,9 @@ pub fn map_read(found: Found, seats: [Seat; SEATS], job: u16, form: Form, map: &
 {
     let verdict = turned_taking(found, seats, job);
     if refusal::is_accepted(verdict) {
-        pinmap::read_map(form, map, job)
+        readmap::read_map(form, map, job)
     } else {
         let pins = drawing::no_pins();
         Reading { verdict, pins }
-    }
-}
-
-// Writing, in the new form: 28, 1, 2, 19; the map into the lent buffer, and the number of bytes, where none applies.
-pub fn map_written(found: Found, buffer: &mut [u8]) -> Writing
-    requires { ⌜ (found .broken ≡ false → found .state .opened ≡ true → lawful (found .state .pins) ≡ true) ⌝ }
-    ensures { λ r. ⌜ r ≡ writeBy (namingFound found ++ roomRows New (found .state .job) (found .state .pins) (length (now (buffer .entry)))) (mapOf New (found .state .job) (found .state .pins)) ⌝ }
-    ensures { λ _. ⌜ now (buffer .exit) ≡ bufferBy (namingFound found ++ roomRows New (found .state .job) (found .state .pins) (length (now (buffer .entry)))) (mapOf New (found .state .job) (found .state .pins)) (now (buffer .entry)) ⌝ }
-{
-    let verdict = turned_naming(found);
-    if refusal::is_accepted(verdict) {
-        let s = found.state;
-        let pins = s.pins;
-        pinmap::write_map(Form::New, pins, s.job, buffer)
-    } else {
-        Writing { verdict, bytes: 0 }
-    }
-}
-
-// Every call that asks for a net of a seat: 28, 1, 2, 21.
-fn turned_asking(found: Found, net: u32) -> Verdict
-    ensures { λ r. ⌜ r ≡ firstOf (namingNet found net) ⌝ }
-{
-    let verdict = turned_naming(found);
-    if !refusal::is_accepted(verdict) {
-        return verdict;
-    }
-    if drawing::is_net(net) {
-        Verdict::Accepted
-    } else {
-        Verdict::NoSuchNet
-    }
-}
-
-// Wiring a net of a seat, with room for so many legs and what is said of the shape to favour: 28, 1, 2, 21, then what wiring the net's feed answers, 17 or 19 among it.
-pub fn feed_wired(found: Found, net: u32, room: usize, favour: Favour) -> Laid
-    requires { ⌜ (found .broken ≡ false → found .state .opened ≡ true → lawful (found .state .pins) ≡ true) ⌝ }
-    ensures { λ r. ⌜ r ≡ wiredBy (namingNet found net) (feedOf (found .state .pins) net) room favour ⌝ }
-{
-    let verdict = turned_asking(found, net);
-    if refusal::is_accepted(verdict) {
-        let s = found.state;
-        let pins = s.pins;
-        let lists = drawing::feed_lists(pins, net);
-        let xs = lists.xs;
-        let ys = lists.ys;
-        let there = lists.there;
-        wiring::wire_feed(&xs, &ys, &there, room, favour)
-    } else {
-        wiring::refused(verdict)
-    }
-}
-
-// The copper of a net of a seat as segments, with room for so many and what is said of the shape to favour: 28, 1, 2, 21, then what is answered for the net's feed, 17 or 19 among it.
-pub fn feed_milled(found: Found, net: u32, room: usize, favour: Favour) -> Cut
-    requires { ⌜ (found .broken ≡ false → found .state .opened ≡ true → lawful (found .state .pins) ≡ true) ⌝ }
-    ensures { λ r. ⌜ r ≡ cutBy (namingNet found net ++ millRows (feedOf (found .state .pins) net) room favour) (copperOf (feedOf (found .state .pins) net) favour) ⌝ }
-{
-    let verdict = turned_asking(found, net);
-    if refusal::is_accepted(verdict) {
-        let s = found.state;
-        let pins = s.pins;
-        let lists = drawing::feed_lists(pins, net);
-        let xs = lists.xs;
-        let ys = lists.ys;
-        let there = lists.there;
-        mill::mill_feed(&xs, &ys, &there, room, favour)
-    } else {
-        mill::refused(verdict)
-    }
-}
-
-// The volts lost to the pins of a net of a seat: 28, 1, 2, 21, then what is answered for the net's feed, 17 or 20 among it.
-pub fn feed_dropped(found: Found, net: u32, loads: [Loaded; PINS], sheet: Sheet) -> Lost
-    requires { ⌜ (found .broken ≡ false → found .state .opened ≡ true → lawful (found .state .pins) ≡ true) ⌝ }
-    ensures { λ r. ⌜ r ≡ lostBy (namingNet found net ++ dropRows (feedOf (found .state .pins) net) loads sheet) (dropsOf (feedOf (found .state .pins) net) loads sheet) ⌝ }
-{
-    let verdict = turned_asking(found, net);
-    if refusal::is_accepted(verdict) {
-        let s = found.state;
-        let pins = s.pins;
-        let lists = drawing::feed_lists(pins, net);
-        let xs = lists.xs;
-        let ys = lists.ys;
-        let there = lists.there;
-        drops::drops_of(&xs, &ys, &there, loads, sheet)
-    } else {
-        drops::refused(verdict)
     }
 }

@@ -8,7 +8,7 @@ use lib.Dec.{eqb}
 use lib.ListN.{length, drop, getD}
 use Rattle.basics.specs.Tests.{either}
 use Rattle.basics.proofs.Tests.{opposite, choose-yes, choose-no}
-use Rattle.drops.specs.declared.Load.the-variants.{Amps, Watts, Spare}
+use Rattle.loads.specs.declared.Load.the-variants.{Amps, Watts, Spare}
 use Rattle.text.specs.Text.{text, same}
 use Rattle.text.specs.Numbers.{isBits, floatOf}
 use Rattle.script.specs.Loads.{ampsLetter, wattsLetter, beginsWith, isLoad, loadOf}

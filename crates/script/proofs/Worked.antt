@@ -9,8 +9,8 @@ use lib.ListN.{replicate}
 use Rattle.basics.specs.Tests.{both, either, choose, eachOf}
 use Rattle.copper.specs.declared.Favour.{Favour}
 use Rattle.pinmap.specs.declared.Form.the-variants.{Old, New}
-use Rattle.drops.specs.declared.Load.the-variants.{Amps, Watts}
-use Rattle.drops.specs.Loads.{hundredth, spare}
+use Rattle.loads.specs.declared.Load.the-variants.{Amps, Watts}
+use Rattle.loads.specs.Loads.{hundredth, spare}
 use Rattle.text.specs.Text.{text, same}
 use Rattle.text.specs.Words.{endOf, beforeFirst, pieces, nonEmpty, wordsOf}
 use Rattle.text.specs.Numbers.{between, valueFrom, isNumber, hasMinus, isCoordinate, signed, listed, isRowOf, isList, isHex, hexValue, allPairs, bytesOf, isSpelled, isMap, spelled, isBits, hexFrom, floatOf}

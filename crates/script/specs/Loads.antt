@@ -6,10 +6,10 @@ use lib.Dec.{eqb}
 use lib.ListN.{drop, replicate}
 use Rattle.basics.specs.Tests.{either, choose}
 use Rattle.board.specs.Spots.{mostPins}
-use Rattle.drops.specs.declared.Load.{Load}
-use Rattle.drops.specs.declared.Load.the-variants.{Amps, Watts, Spare}
-use Rattle.drops.specs.declared.Loaded.{Loaded}
-use Rattle.drops.specs.Loads.{spare}
+use Rattle.loads.specs.declared.Load.{Load}
+use Rattle.loads.specs.declared.Load.the-variants.{Amps, Watts, Spare}
+use Rattle.loads.specs.declared.Loaded.{Loaded}
+use Rattle.loads.specs.Loads.{spare}
 use Rattle.text.specs.Text.{text, same, over}
 use Rattle.text.specs.Words.{comma, pieces}
 use Rattle.text.specs.Numbers.{noneWord, isRowOf, isBits, floatOf}

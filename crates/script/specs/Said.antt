@@ -10,8 +10,8 @@ use Rattle.basics.specs.Tests.{both, either, choose}
 use Rattle.board.specs.Place.{place}
 use Rattle.board.specs.declared.Place.{Place}
 use Rattle.copper.specs.declared.Favour.{Favour}
-use Rattle.drops.specs.declared.Sheet.{Sheet}
-use Rattle.drops.specs.declared.Loaded.{Loaded}
+use Rattle.loads.specs.declared.Sheet.{Sheet}
+use Rattle.loads.specs.declared.Loaded.{Loaded}
 use Rattle.text.specs.Text.{text, same, mostRoom}
 use Rattle.text.specs.Words.{hash, withoutReturn, wordsOf, word}
 use Rattle.text.specs.Numbers.{mostNumber, mostJob, valueOf, isNumber, isCoordinate, signed, listed, isList, spelled, isMap, isBits, floatOf}

@@ -3,7 +3,7 @@ use crate::Lending;
 use crate::Pair;
 use crate::Placing;
 use crate::Said;
-use crate::loads::is_loads;
+use crate::load_words::is_loads;
 use board::Place;
 use copper::Favour;
 use pinmap::Form;

@@ -1,6 +1,6 @@
 // The lines of a log read into calls, over bytes.
 mod calls;
-mod loads;
+mod load_words;
 
 use board::PINS;
 use board::Place;
@@ -8,9 +8,9 @@ use calls::favour_in;
 use calls::is_skipped;
 use calls::read_call;
 use copper::Favour;
-use drops::Loaded;
-use drops::Sheet;
-use loads::loads_in;
+use load_words::loads_in;
+use loads::Loaded;
+use loads::Sheet;
 use pinmap::Form;
 use text::MOST_NUMBERS;
 use text::MOST_PAIRS;

@@ -10,7 +10,7 @@ use lib.Dec.{eqb, leb}
 use lib.ListN.{length, take, getD}
 use Rattle.basics.specs.Tests.{both}
 use Rattle.basics.proofs.Tests.{both-left, both-right, both-arm, both-stop, choose-yes, choose-no}
-use Rattle.drawing.specs.declared.Edit.{Edit}
+use Rattle.edits.specs.declared.Edit.{Edit}
 use Rattle.drawing.specs.Pins.{lawful}
 use Rattle.journal.specs.declared.Record.{Record}
 use Rattle.journal.specs.Journal.{mostSeats, mostRecords, own, seated, makeableAll, takeableAll}

@@ -6,9 +6,9 @@ use lib.Dec.{eqb}
 use lib.ListN.{length, getD}
 use Rattle.basics.specs.Tests.{both, choose, anyOf, noTwo}
 use Rattle.drawing.specs.declared.Pin.{Pin}
-use Rattle.drawing.specs.declared.Edit.{Edit}
+use Rattle.edits.specs.declared.Edit.{Edit}
 use Rattle.drawing.specs.Pins.{noPins}
-use Rattle.drawing.specs.Edits.{made, unmade}
+use Rattle.edits.specs.Edits.{made, unmade}
 use Rattle.journal.specs.Journal.{noEdit}
 use Rattle.seats.specs.declared.Seat.{Seat}
 

@@ -5,7 +5,7 @@ use Prim.Native.Nat.{ℕ, zero, suc}
 use lib.Dec.{eqb, leb}
 use lib.ListN.{length, take, drop, getD}
 use Rattle.basics.specs.Tests.{both, choose}
-use Rattle.drawing.specs.declared.Edit.{Edit}
+use Rattle.edits.specs.declared.Edit.{Edit}
 use Rattle.drawing.specs.Pins.{lawful}
 use Rattle.journal.specs.declared.Record.{Record}
 use Rattle.journal.specs.Journal.{mostSeats, mostRecords, own, seated, makeableAll, takeableAll}

@@ -1,7 +1,7 @@
 // Seats: the drawing at one and how many of its edits stand, the jobs that are open, whether seats and the journal that they share are sound, and what undo, redo and a new edit make of a seat.
 use board::PINS;
-use drawing::Edit;
 use drawing::Pin;
+use edits::Edit;
 use journal::RECORDS;
 use journal::Record;
 use journal::SEATS;
@@ -192,7 +192,7 @@ pub fn edited(s: Seat, edit: Edit) -> Seat
     ensures { λ r. ⌜ r ≡ editedSeat s edit ⌝ }
 {
     let pins = s.pins;
-    let changed = drawing::make(pins, edit);
+    let changed = edits::make(pins, edit);
     Seat {
         opened: s.opened,
         job: s.job,
@@ -223,7 +223,7 @@ pub fn undone(s: Seat, journal: [Record; RECORDS], used: usize, seat: usize) -> 
     let taken_back = taken_back_count(s, journal, used, seat);
     let edit = journal::edit_of(journal, used, seat, taken_back);
     let pins = s.pins;
-    let former = drawing::take_back(pins, edit);
+    let former = edits::take_back(pins, edit);
     Seat {
         opened: s.opened,
         job: s.job,
@@ -241,7 +241,7 @@ pub fn redone(s: Seat, journal: [Record; RECORDS], used: usize, seat: usize) -> 
     let taken_back = taken_back_count(s, journal, used, seat);
     let edit = journal::edit_of(journal, used, seat, taken_back - 1);
     let pins = s.pins;
-    let remade = drawing::make(pins, edit);
+    let remade = edits::make(pins, edit);
     Seat {
         opened: s.opened,
         job: s.job,

@@ -1,3 +1,2 @@
 -- What is proved of answers of several lines beside the functions' contracts.
 pub mod Lines
-pub mod Worked

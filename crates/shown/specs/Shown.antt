@@ -12,7 +12,7 @@ use Rattle.drawing.specs.Pins.{isThere}
 use Rattle.copper.specs.declared.Shape.{Shape}
 use Rattle.copper.specs.declared.Shape.the-variants.{Straight, Lower, Upper}
 use Rattle.copper.specs.declared.Leg.{Leg}
-use Rattle.wiring.specs.declared.RunEntry.{RunEntry}
+use Rattle.laying.specs.declared.RunEntry.{RunEntry}
 use Rattle.wiring.specs.declared.Wiring.{Wiring}
 use Rattle.wiring.specs.declared.Laid.{Laid}
 use Rattle.mill.specs.declared.Milling.{Milling}

@@ -14,9 +14,8 @@ use Rattle.board.specs.declared.Spot.{Spot}
 use Rattle.board.specs.Spots.{mostPins}
 use Rattle.tree.specs.Weight.{comesBefore}
 use Rattle.tree.specs.declared.Run.{Run}
-use Rattle.tree.specs.Offers.{LowEnds}
+use Rattle.tree.proofs.Membership.{LowEnds, Among, first, later, between-in, in-between}
 use Rattle.tree.specs.Growth.{run, pairAt, sooner, runsBetween, earliest, earliestOf, nextRun}
-use Rattle.tree.proofs.Membership.{Among, first, later, between-in, in-between}
 
 -- A number for each pair of pins below 32: pairs are in the order of their keys, and equal keys are of one pair.
 pub record Keyed (feed : List Spot) (key : ℕ → ℕ → ℕ) : Type 0 where

@@ -1,8 +1,8 @@
 -- Members of a list, lists without repeats, and the lists of pins and runs that the growth is made of. Assumes nothing.
 use mathlib.Core.Path.{_≡_, refl, sym, ap, _∙_}
 use mathlib.Core.Bool.{Bool, true, false, not}
-use mathlib.Core.List.{List, [], _∷_, _++_}
-use mathlib.Core.Logic.{_⊎_, inl, inr, ⊎-elim}
+use mathlib.Core.List.{List, [], _∷_}
+use mathlib.Core.Logic.{_⊎_, inl, inr}
 use Prim.Native.Nat.{ℕ, zero, suc, _+_, _<_, _≤_}
 use native.Mathlib.Omega.{arith}
 use lib.Dec.{eqb}
@@ -13,7 +13,7 @@ use Rattle.board.specs.declared.Spot.{Spot}
 use Rattle.board.specs.declared.Spot.the-variants.{Absent}
 use Rattle.board.proofs.Flat.{same-or-not}
 use Rattle.tree.specs.declared.Run.{Run}
-use Rattle.board.specs.Spots.{present}
+use Rattle.board.specs.Spots.{mostPins, present}
 use Rattle.tree.specs.Growth.{run, keptIf, pinsFrom, without, runsFrom, runsBetween, pinsOf}
 pub use Rattle.basics.specs.Lists.{Among, first, later}
 pub use Rattle.basics.proofs.Members.{in-front, in-back, in-either}
@@ -26,6 +26,11 @@ pub data Distinct : List ℕ → Type 0 where
 -- Nor does one of those after the first.
 pub distinct-rest : {a : ℕ} {l : List ℕ} → Distinct (a ∷ l) → Distinct l
 distinct-rest (also out d) = d
+
+-- Both ends of a run are pin numbers.
+pub record LowEnds (r : Run) : Type 0 where
+  pub near : r .near < mostPins
+  pub far : r .far < mostPins
 
 -- ---- a number before others, where a test holds
 -- Where the test holds, the number comes first;

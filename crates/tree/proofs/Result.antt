@@ -18,10 +18,10 @@ use Rattle.board.specs.Spots.{mostPins, present, spotAt, spotsFrom, allWithin, 
 use Rattle.board.proofs.Lent.{spots-many}
 use Rattle.tree.specs.Growth.{run, pinsFrom, runsAmong, pinsOf, runsOf}
 use Rattle.tree.specs.Trees.{mostRuns, entries, treeWith, none, treeOf}
-use Rattle.tree.specs.Offers.{firstFrom, firstPin, LowEnds}
+use Rattle.tree.specs.Offers.{firstFrom, firstPin}
 use Rattle.tree.specs.Reached.{runAt}
 use Rattle.tree.proofs.Lent.{there-at, place-there}
-use Rattle.tree.proofs.Membership.{Among, later, kept-yes, kept-no, pin-in}
+use Rattle.tree.proofs.Membership.{LowEnds, Among, later, kept-yes, kept-no, pin-in}
 use Rattle.tree.proofs.Listing.{runs-rooted}
 use Rattle.tree.proofs.Going.{Going, going-start}
 use Rattle.tree.proofs.Answer.{seventeen, runs-told, runs-few}

@@ -11,7 +11,6 @@ use Rattle.board.specs.declared.Place.{Place}
 use Rattle.board.specs.Place.{inside}
 use Rattle.board.specs.Spots.{mostPins}
 use Rattle.tree.specs.Weight.{pairOf, comesBefore}
-use Rattle.tree.specs.declared.Run.{Run}
 use Rattle.tree.specs.declared.Offer.{Offer}
 
 -- The lowest number of a pin that is there, among k numbers from i on; the number after these where there is none.
@@ -68,8 +67,3 @@ pub record Ready (at : ℕ → Place) (waits : List Bool) (near : List ℕ) (lat
   pub last : Standing at latest
   pub waiting : (k : ℕ) → k < mostPins → getD waits k false ≡ true → Standing at k
   pub kept : (k : ℕ) → k < mostPins → getD waits k false ≡ true → Standing at (getD near k 0)
-
--- Both ends of a run are pin numbers.
-pub record LowEnds (r : Run) : Type 0 where
-  pub near : r .near < mostPins
-  pub far : r .far < mostPins

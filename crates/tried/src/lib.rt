@@ -37,15 +37,15 @@ pub fn can_redo_all(
                 skip -= 1;
             } else {
                 let e = redone.edit;
-                let number = drawing::pin_of(e);
+                let number = edits::pin_of(e);
                 if PINS <= number {
                     return false;
                 }
                 let pin = q[number];
-                if !drawing::can_make(&xs, &ys, &there, e, pin) {
+                if !edits::can_make(&xs, &ys, &there, e, pin) {
                     return false;
                 }
-                let next = drawing::pin_made(e, pin);
+                let next = edits::pin_made(e, pin);
                 let place = drawing::place_of(next);
                 let x = place.x;
                 let y = place.y;
@@ -86,15 +86,15 @@ pub fn can_take_back_all(
                 later -= 1;
             } else {
                 let e = undone.edit;
-                let number = drawing::pin_of(e);
+                let number = edits::pin_of(e);
                 if PINS <= number {
                     return false;
                 }
                 let pin = q[number];
-                if !drawing::can_take_back(&xs, &ys, &there, e, pin) {
+                if !edits::can_take_back(&xs, &ys, &there, e, pin) {
                     return false;
                 }
-                let former = drawing::pin_unmade(e, pin);
+                let former = edits::pin_unmade(e, pin);
                 let place = drawing::place_of(former);
                 let x = place.x;
                 let y = place.y;

@@ -35,11 +35,12 @@ use Rattle.least.specs.declared.Least.{Least}
 use Rattle.least.specs.Asking.{base, markOf, leastOfTree, Grown, nearPin}
 use Rattle.least.proofs.Whole.{tree-cost}
 use Rattle.least.proofs.Alike.{Alike, found-alike}
-use Rattle.wiring.specs.declared.RunEntry.{RunEntry}
-use Rattle.wiring.specs.declared.Strip.{Strip}
-use Rattle.wiring.specs.Choices.{nearEnd, farEnd, bestChoice, legsOfChoice, lengthOfChoice, weighedOf}
-use Rattle.wiring.specs.Answer.{runEntry, noRun, shapedRuns, runEntries, legEntries, turnedAway, answerWith, wiringRows, wiringWith, wiringFavouring}
-use Rattle.wiring.specs.Reaching.{xsOf, ysOf, reachedAs, nearsOf, Numbered, upperIn, shapedRun, shapedIn, entriesIn, legsOfEntry, legsOfEntries, strip, shapesBy}
+use Rattle.laying.specs.declared.RunEntry.{RunEntry}
+use Rattle.laying.specs.declared.Strip.{Strip}
+use Rattle.laying.specs.Entries.{nearEnd, farEnd, runEntry, noRun, runEntries, legEntries}
+use Rattle.wiring.specs.Choices.{bestChoice, legsOfChoice, lengthOfChoice, weighedOf}
+use Rattle.wiring.specs.Answer.{shapedRuns, turnedAway, answerWith, wiringRows, wiringWith, wiringFavouring}
+use Rattle.laying.specs.Reaching.{xsOf, ysOf, reachedAs, nearsOf, Numbered, upperIn, shapedRun, shapedIn, entriesIn, legsOfEntry, legsOfEntries, strip, shapesBy}
 use Rattle.wiring.proofs.Laying.{grown, near-low, far-low, near-told}
 use Rattle.wiring.proofs.Best.{length-found, shapes-found}
 use Rattle.wiring.proofs.Weighed.{weighed-told}

@@ -29,8 +29,9 @@ use Rattle.least.proofs.Tallies.{leastOf}
 use Rattle.least.proofs.Wired.{legsOfRuns, first-shortest, joinBelow, join-first, runs-joined}
 use Rattle.least.proofs.Planted.{places-held}
 use Rattle.least.specs.Asking.{base, markOf}
-use Rattle.wiring.specs.Choices.{nearEnd, farEnd, choicesOf, legsOfChoice, lengthOfChoice, bestChoice}
-use Rattle.wiring.specs.Reaching.{upperIn, shapesBy}
+use Rattle.laying.specs.Entries.{nearEnd, farEnd}
+use Rattle.wiring.specs.Choices.{choicesOf, legsOfChoice, lengthOfChoice, bestChoice}
+use Rattle.laying.specs.Reaching.{upperIn, shapesBy}
 use Rattle.wiring.proofs.Ordered.{choice-told, told-choice, choice-long, choices-rising, choice-may, bends-told, first-found}
 use Rattle.wiring.proofs.Masks.{bends, maskFrom, maskBy, mask-sum, mask-choice, mask-less, mask-read}
 use Rattle.wiring.proofs.Laying.{near-place, far-place, laid}

@@ -25,11 +25,12 @@ use Rattle.copper.specs.declared.Shape.{Shape}
 use Rattle.copper.specs.declared.Leg.{Leg}
 use Rattle.copper.specs.Shapes.{shapeOf, legsOf}
 use Rattle.copper.specs.Length.{stepsOfAll, lengthOf}
-use Rattle.wiring.specs.declared.RunEntry.{RunEntry}
+use Rattle.laying.specs.declared.RunEntry.{RunEntry}
 use Rattle.wiring.specs.declared.Laid.{Laid}
-use Rattle.wiring.specs.Choices.{nearEnd, farEnd, choicesOf, legsOfChoice, lengthOfChoice, bestChoice, weighedOf}
-use Rattle.wiring.specs.Answer.{noRun, mostLegs, noLeg, shapedRuns, runEntries, legEntries, turnedAway, answerWith, wiringRows, wiringWith, wiringFavouring}
-use Rattle.wiring.specs.Reaching.{shapesBy}
+use Rattle.laying.specs.Entries.{nearEnd, farEnd, noRun, mostLegs, noLeg, runEntries, legEntries}
+use Rattle.wiring.specs.Choices.{choicesOf, legsOfChoice, lengthOfChoice, bestChoice, weighedOf}
+use Rattle.wiring.specs.Answer.{shapedRuns, turnedAway, answerWith, wiringRows, wiringWith, wiringFavouring}
+use Rattle.laying.specs.Reaching.{shapesBy}
 use Rattle.wiring.specs.Demand.{listedIn, runsIn, shapesIn, legsIn, BestWiring}
 use Rattle.wiring.proofs.Masks.{bends}
 use Rattle.wiring.proofs.Ordered.{choice-told}

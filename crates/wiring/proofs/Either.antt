@@ -24,13 +24,14 @@ use Rattle.copper.specs.declared.Shape.the-variants.{Straight, Lower, Upper}
 use Rattle.copper.specs.Shapes.{favoursUpper, shapeOf, legsOf, legCount}
 use Rattle.wiring.specs.declared.Wiring.{Wiring}
 use Rattle.wiring.specs.declared.Laid.{Laid}
-use Rattle.wiring.specs.Choices.{nearEnd, farEnd, choicesOf, legsOfChoice, lengthOfChoice, bestChoice}
+use Rattle.laying.specs.Entries.{nearEnd, farEnd}
+use Rattle.wiring.specs.Choices.{choicesOf, legsOfChoice, lengthOfChoice, bestChoice}
 use Rattle.wiring.specs.Answer.{turnedAway, answerWith, wiringRows, wiringWith, wiringFavouring, wiringOf}
-use Rattle.wiring.specs.Reaching.{shapesBy}
+use Rattle.laying.specs.Reaching.{shapesBy}
 use Rattle.wiring.specs.Demand.{SameButShapes}
 use Rattle.wiring.proofs.Masks.{bends}
 use Rattle.wiring.proofs.Ordered.{choice-told, told-choice}
-use Rattle.wiring.proofs.Filling.{legs-many}
+use Rattle.laying.proofs.Filling.{legs-many}
 use Rattle.wiring.proofs.Shortest.{best-among, none-shorter}
 use Rattle.wiring.proofs.Demand.{runs-are, runs-many}
 

@@ -18,9 +18,10 @@ use Rattle.tree.proofs.Answer.{runs-few}
 use Rattle.copper.specs.declared.Favour.{Favour}
 use Rattle.copper.specs.declared.Shape.{Shape}
 use Rattle.copper.specs.Shapes.{legsOf, favoursUpper}
-use Rattle.wiring.specs.Choices.{bestChoice, legsOfChoice, nearEnd, farEnd}
-use Rattle.wiring.specs.Answer.{mostLegs, wiringOf}
-use Rattle.wiring.proofs.Filling.{legs-many, leg-small}
+use Rattle.wiring.specs.Choices.{bestChoice, legsOfChoice}
+use Rattle.laying.specs.Entries.{nearEnd, farEnd, mostLegs}
+use Rattle.wiring.specs.Answer.{wiringOf}
+use Rattle.laying.proofs.Filling.{legs-many, leg-small}
 use Rattle.wiring.proofs.Refusing.{wiring-verdict}
 
 -- The legs of a choice are at most twice as many as the runs.

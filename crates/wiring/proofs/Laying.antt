@@ -28,7 +28,7 @@ use Rattle.spanning.proofs.Positions.{near-before, near-pin, far-pin, pin-there
 use Rattle.tree.proofs.Numbering.{stands}
 use Rattle.least.proofs.Laid.{Spaced}
 use Rattle.least.proofs.Planted.{planted}
-use Rattle.wiring.specs.Reaching.{reachedAs}
+use Rattle.laying.specs.Reaching.{reachedAs}
 
 -- Two numbers that are the same differ by less than the least gap.
 same-closer : (a b : ℤ) → sameNumber a b ≡ true → closer a b ≡ true

@@ -4,7 +4,6 @@ pub mod Ordered
 pub mod Laying
 pub mod Best
 pub mod Weighed
-pub mod Filling
 pub mod Answering
 pub mod Refusing
 pub mod Shortest

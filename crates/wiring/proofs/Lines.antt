@@ -26,8 +26,9 @@ use Rattle.copper.specs.declared.Shape.the-variants.{Straight, Lower, Upper}
 use Rattle.copper.specs.declared.Leg.{Leg}
 use Rattle.copper.specs.Shapes.{crossing, lowerCorner, upperCorner, shapeOf, legsOf}
 use Rattle.copper.specs.Length.{Step, stepsAcross, stepsUp, stepsOf, stepsOfAll}
-use Rattle.wiring.specs.Choices.{nearEnd, farEnd, bentShapes, shapesOf, choicesOf, legsOfChoice}
-use Rattle.wiring.specs.Reaching.{shapesBy}
+use Rattle.laying.specs.Entries.{nearEnd, farEnd}
+use Rattle.wiring.specs.Choices.{bentShapes, shapesOf, choicesOf, legsOfChoice}
+use Rattle.laying.specs.Reaching.{shapesBy}
 use Rattle.wiring.specs.Demand.{InLine}
 use Rattle.wiring.proofs.Masks.{bends}
 use Rattle.wiring.proofs.Ordered.{choice-told}

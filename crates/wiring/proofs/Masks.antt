@@ -14,7 +14,7 @@ use Rattle.copper.specs.declared.Shape.{Shape}
 use Rattle.copper.specs.declared.Shape.the-variants.{Straight, Lower, Upper}
 use Rattle.basics.proofs.Sums.{oneIf, sumBelow, sum-same}
 use Rattle.least.specs.Asking.{differs, markAt, markOf}
-use Rattle.wiring.specs.Reaching.{upperIn}
+use Rattle.laying.specs.Reaching.{upperIn}
 
 -- A shape bends upwards.
 abbrev pub isUpper : Shape → Bool

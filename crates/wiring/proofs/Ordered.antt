@@ -4,7 +4,7 @@ use mathlib.Core.Path.{_≡_, refl, sym, ap, ap₂, subst}
 use mathlib.Core.Bool.{Bool, true, false, not}
 use mathlib.Core.List.{List, [], _∷_, _++_}
 use mathlib.Core.Logic.{_⊎_, inl, inr}
-use Prim.Native.Nat.{ℕ, zero, suc, _+_, _-_, _≤_, _<_}
+use Prim.Native.Nat.{ℕ, zero, suc, _+_, _≤_, _<_}
 use native.Mathlib.Omega.{arith}
 use lib.Dec.{ltb}
 use lib.ListN.{length}
@@ -22,8 +22,9 @@ use Rattle.copper.specs.declared.Shape.{Shape}
 use Rattle.copper.specs.declared.Shape.the-variants.{Straight, Lower, Upper}
 use Rattle.copper.specs.Shapes.{shapeOf}
 use Rattle.least.specs.Asking.{differs, markAt, markOf}
-use Rattle.wiring.specs.Choices.{nearEnd, farEnd, bentShapes, shapesOf, withShape, withShapes, choicesOf, lengthOfChoice, shortest, shortestOf}
-use Rattle.wiring.specs.Reaching.{shapesBy}
+use Rattle.laying.specs.Entries.{nearEnd, farEnd}
+use Rattle.wiring.specs.Choices.{bentShapes, shapesOf, withShape, withShapes, choicesOf, lengthOfChoice, shortest, shortestOf}
+use Rattle.laying.specs.Reaching.{shapesBy}
 use Rattle.wiring.proofs.Masks.{isUpper, bends, maskFrom, mark-next, mask-most}
 
 -- One of the choices with a shape in front.

@@ -1,7 +1,6 @@
 -- The verdict that the answer of a wiring carries: 17, 19, or accepted. From the law of rows; assumes nothing.
 use mathlib.Core.Path.{_≡_, refl}
-use mathlib.Core.Bool.{false}
-use mathlib.Core.List.{List, [], _∷_, _++_}
+use mathlib.Core.List.{List, [], _++_}
 use Prim.Native.Nat.{ℕ}
 use Rattle.basics.specs.Tests.{both, choose}
 use Rattle.refusal.specs.Refusals.{accepted}

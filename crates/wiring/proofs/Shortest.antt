@@ -4,7 +4,7 @@ use mathlib.Core.Path.{_≡_, refl, sym, ap, _∙_, subst}
 use mathlib.Core.Bool.{Bool, true, false}
 use mathlib.Core.List.{List, [], _∷_, _++_, append-assoc, append-nil}
 use mathlib.Core.Logic.{_⊎_, inl, inr}
-use Prim.Native.Nat.{ℕ, _-_, _*_, _≤_, _<_}
+use Prim.Native.Nat.{ℕ, _*_, _≤_, _<_}
 use native.Mathlib.Omega.{arith}
 use lib.Dec.{ltb}
 use lib.ListN.{length, take}
@@ -26,8 +26,9 @@ use Rattle.copper.specs.declared.Leg.{Leg}
 use Rattle.copper.specs.Length.{stepsOfAll, lengthOf}
 use Rattle.wiring.specs.declared.Laid.{Laid}
 use Rattle.wiring.specs.Choices.{choicesOf, legsOfChoice, lengthOfChoice, shortest, shortestOf, bestChoice}
-use Rattle.wiring.specs.Answer.{mostLegs, noLeg, legEntries, turnedAway, answerWith, wiringRows, wiringWith, wiringFavouring}
-use Rattle.wiring.specs.Reaching.{shapesBy}
+use Rattle.laying.specs.Entries.{mostLegs, noLeg, legEntries}
+use Rattle.wiring.specs.Answer.{turnedAway, answerWith, wiringRows, wiringWith, wiringFavouring}
+use Rattle.laying.specs.Reaching.{shapesBy}
 use Rattle.wiring.specs.Demand.{First}
 use Rattle.wiring.proofs.Ordered.{told-choice}
 use Rattle.wiring.proofs.Weighed.{weighed-most}

@@ -1,58 +1,32 @@
 -- The wiring of a feed: its refusals and its answer, with the legs.
 use mathlib.Core.Bool.{Bool}
 use mathlib.Core.List.{List, [], _∷_, _++_}
-use Prim.Native.Nat.{ℕ, _*_}
+use Prim.Native.Nat.{ℕ}
 use lib.Dec.{ltb}
 use lib.ListN.{length}
 use Rattle.basics.specs.Tests.{choose}
-use Rattle.basics.specs.Lists.{padded}
 use Rattle.refusal.specs.Refusals.{accepted}
 use Rattle.refusal.specs.Rows.{Row, given, firstOf}
 use Rattle.refusal.specs.declared.Verdict.{Verdict}
 use Rattle.refusal.specs.declared.Verdict.the-variants.{Accepted, RoomTooSmall}
-use Rattle.board.specs.Place.{middle}
 use Rattle.board.specs.declared.Spot.{Spot}
 use Rattle.tree.specs.declared.Run.{Run}
 use Rattle.tree.specs.Growth.{pinsOf, runsOf}
-use Rattle.tree.specs.Trees.{mostRuns, treeRows}
+use Rattle.tree.specs.Trees.{treeRows}
 use Rattle.copper.specs.declared.Shape.{Shape}
-use Rattle.copper.specs.declared.Shape.the-variants.{Straight}
 use Rattle.copper.specs.declared.Favour.{Favour}
 use Rattle.copper.specs.declared.Leg.{Leg}
 use Rattle.copper.specs.Shapes.{favoursUpper}
-use Rattle.wiring.specs.declared.RunEntry.{RunEntry}
+use Rattle.laying.specs.declared.RunEntry.{RunEntry}
 use Rattle.wiring.specs.declared.Laid.{Laid}
+use Rattle.laying.specs.Entries.{runEntry, runEntries, legEntries}
 use Rattle.wiring.specs.Choices.{bestChoice, legsOfChoice, lengthOfChoice, weighedOf}
-
--- A run entry: near, far, shape.
-abbrev pub runEntry : ℕ → ℕ → Shape → RunEntry
-runEntry near far shape = record { near = near; far = far; shape = shape }
-
--- A run entry after the last: 0, 0, straight.
-abbrev pub noRun : RunEntry
-noRun = runEntry 0 0 Straight
-
--- The most legs that a board has: 31 runs of two legs each.
-abbrev pub mostLegs : ℕ
-mostLegs = 2 * mostRuns
-
--- A leg that is not filled.
-abbrev pub noLeg : Leg
-noLeg = record { from = middle; to = middle }
 
 -- The runs with their shapes.
 unfoldable pub shapedRuns : List Run → List Shape → List RunEntry
 shapedRuns [] shapes = []
 shapedRuns (r ∷ runs) [] = []
 shapedRuns (r ∷ runs) (s ∷ shapes) = runEntry (r .near) (r .far) s ∷ shapedRuns runs shapes
-
--- 31 run entries; entries after the last are 0, 0, straight.
-unfoldable pub runEntries : List RunEntry → List RunEntry
-runEntries runs = padded mostRuns noRun runs
-
--- As many legs as a board can have; those after the last are not filled.
-unfoldable pub legEntries : List Leg → List Leg
-legEntries legs = padded mostLegs noLeg legs
 
 -- A verdict with a length, runs with their shapes, the choices weighed, and legs.
 abbrev pub laidWith : Verdict → ℕ → List RunEntry → ℕ → List Leg → Laid

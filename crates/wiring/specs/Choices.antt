@@ -5,24 +5,15 @@ use Prim.Native.Nat.{ℕ, _*_, _^_}
 use lib.Dec.{eqb, ltb}
 use Rattle.basics.specs.Tests.{choose}
 use Rattle.basics.specs.Sums.{sum}
-use Rattle.board.specs.declared.Place.{Place}
 use Rattle.board.specs.declared.Spot.{Spot}
 use Rattle.tree.specs.declared.Run.{Run}
-use Rattle.board.specs.Spots.{placeAt}
 use Rattle.tree.specs.Bends.{bent, bentFrom, bentInto}
 use Rattle.copper.specs.declared.Shape.{Shape}
 use Rattle.copper.specs.declared.Shape.the-variants.{Straight, Lower, Upper}
 use Rattle.copper.specs.declared.Leg.{Leg}
 use Rattle.copper.specs.Shapes.{legsOf}
 use Rattle.copper.specs.Length.{lengthOf}
-
--- Where a run begins.
-abbrev pub nearEnd : List Spot → Run → Place
-nearEnd feed r = placeAt feed (r .near)
-
--- Where a run ends.
-abbrev pub farEnd : List Spot → Run → Place
-farEnd feed r = placeAt feed (r .far)
+use Rattle.laying.specs.Entries.{nearEnd, farEnd}
 
 -- The two shapes of a bent run, the favoured first: false favours lower, true upper.
 unfoldable pub bentShapes : Bool → List Shape

@@ -1,5 +1,5 @@
 -- What demand 2 and document 01 say of an accepted wiring of a feed: its runs are the tree, its shapes the first of the shortest, its length is counted
--- by steps, its choices by the sum over pins, and no copper lies diagonal; and of a refused one.
+-- by steps, its choices by the sum over pins, no copper lies diagonal, and the boxes of two runs without a common pin are apart; and of a refused one.
 use mathlib.Core.Path.{_≡_}
 use mathlib.Core.Bool.{Bool, true, false}
 use mathlib.Core.List.{List, _∷_, _++_, map}
@@ -21,11 +21,12 @@ use Rattle.copper.specs.declared.Shape.the-variants.{Straight}
 use Rattle.copper.specs.declared.Leg.{Leg}
 use Rattle.copper.specs.Shapes.{legsOf}
 use Rattle.copper.specs.Length.{stepsOfAll, lengthOf}
-use Rattle.wiring.specs.declared.RunEntry.{RunEntry}
+use Rattle.laying.specs.declared.RunEntry.{RunEntry}
 use Rattle.wiring.specs.declared.Wiring.{Wiring}
 use Rattle.wiring.specs.declared.Laid.{Laid}
 use Rattle.wiring.specs.Choices.{choicesOf, legsOfChoice, lengthOfChoice, weighedOf}
-use Rattle.wiring.specs.Answer.{runEntry, noRun, turnedAway}
+use Rattle.laying.specs.Entries.{runEntry, noRun}
+use Rattle.wiring.specs.Answer.{turnedAway}
 
 -- The run entries of an answer: as many as it has runs.
 abbrev pub listedIn : Wiring → List RunEntry

@@ -2,4 +2,3 @@
 pub mod Choices
 pub mod Answer
 pub mod Demand
-pub mod Reaching

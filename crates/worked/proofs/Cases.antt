@@ -16,13 +16,13 @@ use Rattle.board.specs.Place.{place, limit, onBoard, inside, difference, closer
 use Rattle.board.specs.declared.Place.{Place}
 use Rattle.drawing.specs.declared.Held.{Held}
 use Rattle.drawing.specs.declared.Pin.{Pin}
-use Rattle.drawing.specs.declared.Edit.the-variants.{Placed}
-use Rattle.drawing.specs.declared.stated.Making.the-variants.{Placing, Moving}
+use Rattle.edits.specs.declared.Edit.the-variants.{Placed}
+use Rattle.edits.specs.declared.stated.Making.the-variants.{Placing, Moving}
 use Rattle.board.specs.Spots.{mostPins, spotsTooNear, crowded, within, tooNearOther}
-use Rattle.drawing.specs.Pins.{absent, there, holding, isNet, hasNet, isThere, sameHeld, samePin, samePins, lawful, spotOf, spotsOf}
-use Rattle.drawing.specs.Edits.{movedPin, pinMade, pinUnmade, made, unmade, standsAt, foundAs, allFound, proper, makeable, takeable, heldBy}
+use Rattle.drawing.specs.Pins.{absent, there, holding, isNet, hasNet, isThere, sameHeld, samePin, samePins, lawful, spotOf, spotsOf, standsAt, heldBy}
+use Rattle.edits.specs.Edits.{movedPin, pinMade, pinUnmade, made, unmade, foundAs, allFound, proper, makeable, takeable}
 use Rattle.pinmap.specs.declared.Form.the-variants.{Old, New}
-use Rattle.pinmap.specs.Map.{recordsIn, withPinsOf, rowsFrom, wrongLength, readMap}
+use Rattle.readmap.specs.Map.{recordsIn, withPinsOf, rowsFrom, wrongLength, readMap}
 use Rattle.journal.specs.declared.Record.{Record}
 use Rattle.journal.specs.Journal.{mostSeats, recorded, own, kept, filled, inTurn}
 use Rattle.seats.specs.declared.Seat.{Seat}

@@ -17,18 +17,20 @@ use Rattle.pinmap.specs.Number.{fourBytes, firstByte, secondByte, thirdByte, fo
 use Rattle.board.specs.Place.{place, onBoard, inside, difference, closer, tooNear, sameNumber, samePlace}
 use Rattle.drawing.specs.declared.Pin.{Pin}
 use Rattle.board.specs.Spots.{spotsTooNear, crowded, within, tooNearOther}
-use Rattle.drawing.specs.Pins.{isNet, hasNet, isThere, sameHeld, samePin, samePins, lawful, spotOf, spotsOf}
-use Rattle.drawing.specs.Edits.{movedPin, pinMade, pinUnmade, made, unmade, standsAt, foundAs, allFound, proper, makeable, takeable, heldBy}
+use Rattle.drawing.specs.Pins.{isNet, hasNet, isThere, sameHeld, samePin, samePins, lawful, spotOf, spotsOf, standsAt, heldBy}
+use Rattle.edits.specs.Edits.{movedPin, pinMade, pinUnmade, made, unmade, foundAs, allFound, proper, makeable, takeable}
 use Rattle.pinmap.specs.declared.Form.the-variants.{Old}
-use Rattle.pinmap.specs.Record.{recordBytes, pinBytes}
-use Rattle.pinmap.specs.Map.{recordsIn, withPinsOf, rowsFrom, wrongLength, readMap, mapFrom, mapOf, written}
+use Rattle.writemap.specs.Record.{recordBytes, pinBytes}
+use Rattle.readmap.specs.Map.{recordsIn, withPinsOf, rowsFrom, wrongLength, readMap}
+use Rattle.writemap.specs.Map.{mapFrom, mapOf, written}
 use Rattle.journal.specs.Journal.{own, kept, filled, inTurn}
 use Rattle.rows.specs.Calls.{Call, opening, undoing, redoing}
 use Rattle.seats.specs.Seats.{sameJob}
-use Rattle.desk.specs.Desk.{seatOf, jobOf, soundOpen, soundClosed, soundSeat, soundTo, sound, edited, effect, answerOf, step, emptyDesk, writtenOf, bufferOf}
+use Rattle.desk.specs.Desk.{seatOf, jobOf, soundOpen, soundClosed, soundSeat, soundTo, sound, edited, effect, answerOf, step, emptyDesk}
+use Rattle.asked.specs.Asked.{writtenOf, bufferOf}
 use Rattle.copper.specs.declared.Favour.{Favour}
 use Rattle.wiring.specs.declared.Wiring.{Wiring}
-use Rattle.bare.proofs.Worked as bare
+use Rattle.worked.proofs.Boards as boarded
 use Rattle.history.specs.History.{after, answers}
 use Rattle.worked.proofs.Cases.{pinAt, drawn, placing, moving}
 
@@ -41,7 +43,7 @@ pub data Case : Type 0 where
 
 -- What a case says.
 unfoldable pub Holds : Case → Type 0
-Holds (wired favour l w) = map (bare.wiringOfBoard favour) l ≡ w
+Holds (wired favour l w) = map (boarded.wiringOfBoard favour) l ≡ w
 Holds (session calls verdicts first second) =
     (answers emptyDesk calls ≡ verdicts) × (seatOf (after emptyDesk calls) 0 .pins ≡ first) × (seatOf (after emptyDesk calls) 1 .pins ≡ second)
 Holds (writes calls buffer bytes later) =
@@ -69,9 +71,9 @@ D3 = opening 0 7 Old [] ∷ placing 0 0 (place (pos 20) (negsuc 19)) ∷ []
 -- The table: the boards with lower asked for, W2 with upper and with nothing said, D1 up to its first undo and to its end, D2, D3.
 abbrev pub table : List Case
 table =
-    wired Favour.Lower boards bare.answers
-    ∷ wired Favour.Upper (W2 ∷ []) (bare.upperAnswer ∷ [])
-    ∷ wired Favour.Unsaid (W2 ∷ []) (bare.upperAnswer ∷ [])
+    wired Favour.Lower boards boarded.answers
+    ∷ wired Favour.Upper (W2 ∷ []) (boarded.upperAnswer ∷ [])
+    ∷ wired Favour.Unsaid (W2 ∷ []) (boarded.upperAnswer ∷ [])
     ∷ session D1 (Accepted ∷ Accepted ∷ Accepted ∷ Accepted ∷ Accepted ∷ []) (drawn []) (drawn (pinAt (pos 40) (pos 40) ∷ []))
     ∷ session (D1 ++ (undoing 0 ∷ redoing 0 ∷ [])) (Accepted ∷ Accepted ∷ Accepted ∷ Accepted ∷ Accepted ∷ NothingStands ∷ Accepted ∷ [])
     (drawn (pinAt (pos 20) (pos 20) ∷ [])) (drawn (pinAt (pos 40) (pos 40) ∷ []))
@@ -86,4 +88,4 @@ unfolding Holds AllHold after answers both either choose accepted firstOf onBoar
     recordsIn withPinsOf rowsFrom wrongLength readMap own kept filled inTurn sameJob
     jobOf soundOpen soundClosed soundSeat soundTo sound edited effect answerOf step emptyDesk mapFrom mapOf recordBytes pinBytes fourBytes
     firstByte secondByte thirdByte fourthByte written writtenOf bufferOf anyOf eachOf noTwo
-worked = (bare.worked .0, (ap (take 1) (bare.worked .1), (ap (drop 1) (bare.worked .1), ((refl, refl, refl), ((refl, refl, refl), ((refl, refl, refl), ((refl, refl, refl), tt)))))))
+worked = (boarded.worked .0, (ap (take 1) (boarded.worked .1), (ap (drop 1) (boarded.worked .1), ((refl, refl, refl), ((refl, refl, refl), ((refl, refl, refl), ((refl, refl, refl), tt)))))))

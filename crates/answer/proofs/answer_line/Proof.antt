@@ -2,7 +2,7 @@
 use mathlib.Core.Path.{refl}
 use native.Mathlib.Omega.{arith}
 use borrow.Author.Needs.{needs}
-use Rattle.drawing.specs.declared.stated.Making.the-variants.{Placing, Moving, Removing}
+use Rattle.edits.specs.declared.stated.Making.the-variants.{Placing, Moving, Removing}
 use Rattle.drawing.specs.Pins.{holding}
 use Rattle.rows.specs.Calls.{closing, making, undoing, redoing}
 use Rattle.script.proofs.Rooms.{write-room, moving-room}

@@ -1,6 +1,6 @@
 -- `answer::drops` meets its contract. Assumes nothing.
-use Rattle.desk.specs.declared.Dropped.{Dropped}
-use Rattle.desk.specs.Desk.{droppedOf}
+use Rattle.asked.specs.declared.Dropped.{Dropped}
+use Rattle.asked.specs.Asked.{droppedOf}
 use Rattle.script.specs.Said.{sheetGiven, loadsGiven}
 use Rattle.printed.specs.Answers.{lostLine}
 use Rattle.answer.proofs.Telling.{asked}

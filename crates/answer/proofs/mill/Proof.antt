@@ -1,6 +1,6 @@
 -- `answer::mill` meets its contract. Assumes nothing.
-use Rattle.desk.specs.declared.Milled.{Milled}
-use Rattle.desk.specs.Desk.{milledOf}
+use Rattle.asked.specs.declared.Milled.{Milled}
+use Rattle.asked.specs.Asked.{milledOf}
 use Rattle.script.specs.Said.{favourGiven}
 use Rattle.shown.specs.Shown.{cutText}
 use Rattle.answer.proofs.Telling.{asked}

@@ -1,6 +1,6 @@
 -- `answer::wire` meets its contract. Assumes nothing.
-use Rattle.desk.specs.declared.Wired.{Wired}
-use Rattle.desk.specs.Desk.{wiredOf}
+use Rattle.asked.specs.declared.Wired.{Wired}
+use Rattle.asked.specs.Asked.{wiredOf}
 use Rattle.script.specs.Said.{favourGiven}
 use Rattle.shown.specs.Shown.{laidText}
 use Rattle.answer.proofs.Telling.{asked}

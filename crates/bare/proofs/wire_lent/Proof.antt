@@ -45,15 +45,15 @@ use Rattle.copper.proofs.Favour as K
 use Rattle.copper.proofs.Favour.Laws as K′
 use Rattle.copper.proofs.Leg as T
 use Rattle.wiring.specs.declared.Laid.{Laid}
-use Rattle.wiring.specs.declared.Strip.{Strip}
+use Rattle.laying.specs.declared.Strip.{Strip}
 use Rattle.wiring.specs.declared.Wiring.{Wiring}
 use Rattle.lent.specs.Lent.{stripOf, filledWith}
 use Rattle.bare.specs.Bare.{bareOf}
 use Rattle.bare.proofs.Fitting.{bare-fits}
 use Rattle.wiring.proofs.Laid as L
 use Rattle.wiring.proofs.Laid.Laws as L′
-use Rattle.wiring.proofs.Strip as S
-use Rattle.wiring.proofs.Strip.Laws as S′
+use Rattle.laying.proofs.Strip as S
+use Rattle.laying.proofs.Strip.Laws as S′
 use Rattle.wiring.proofs.Wiring as R
 use Rattle.wiring.proofs.Wiring.Laws as R′
 use Rattle.bare.proofs.wire_bare as wire

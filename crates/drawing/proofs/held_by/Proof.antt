@@ -1,6 +1,6 @@
 -- `drawing::held_by` meets its contract, by the pin's two cases. Assumes nothing.
 use borrow.Author.Needs.{needs}
-use Rattle.drawing.specs.Edits.{heldBy}
+use Rattle.drawing.specs.Pins.{heldBy}
 use Rattle.drawing.proofs.held_by.Statement.{statement}
 use Rattle.drawing.proofs.held_by.Tie as tie
 

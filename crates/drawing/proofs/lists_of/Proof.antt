@@ -11,7 +11,7 @@ use Rattle.basics.proofs.Lists.{overlaid, overlaid-none, mapped-turn, mapped-al
 use Rattle.board.specs.declared.Place.{Place}
 use Rattle.board.specs.Spots.{mostPins}
 use Rattle.drawing.specs.Pins.{absent, isThere}
-use Rattle.drawing.specs.Changes.{xOf, yOf}
+use Rattle.drawing.specs.Lists.{xOf, yOf}
 use Rattle.drawing.proofs.lists_of.Statement.{statement}
 use Rattle.drawing.proofs.lists_of.Tie as tie
 

@@ -1,6 +1,6 @@
 -- `drawing::stands_at` meets its contract, by the pin's two cases. Assumes nothing.
 use borrow.Author.Needs.{needs}
-use Rattle.drawing.specs.Edits.{standsAt}
+use Rattle.drawing.specs.Pins.{standsAt}
 use Rattle.drawing.proofs.stands_at.Statement.{statement}
 use Rattle.drawing.proofs.stands_at.Tie as tie
 

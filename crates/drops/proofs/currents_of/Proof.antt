@@ -8,9 +8,9 @@ use lib.Ieee.{ofBits}
 use borrow.Author.Needs.{needs}
 use Rattle.board.specs.Spots.{mostPins}
 use Rattle.tree.specs.Trees.{mostRuns}
-use Rattle.drops.specs.Loads.{ampsOf}
+use Rattle.loads.specs.Loads.{ampsOf}
 use Rattle.drops.specs.Passes.{runsBy, ampsAt}
-use Rattle.drops.proofs.Ranges.{load-read}
+use Rattle.loads.proofs.Ranges.{load-read}
 use Rattle.drops.proofs.Passes.{Chained, chained-none, Reckoned, reckoned-none, run-turn, reckoned-all}
 use Rattle.drops.proofs.currents_of.Statement.{statement}
 use Rattle.drops.proofs.currents_of.Tie as tie

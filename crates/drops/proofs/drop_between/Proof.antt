@@ -3,7 +3,7 @@ use mathlib.Core.Path.{_≡_}
 use borrow.Author.Needs.{needs}
 use Rattle.board.specs.Place.{distanceOf}
 use Rattle.board.specs.Spots.{placeAt, spotsFrom}
-use Rattle.drops.proofs.Ranges.{pins-near}
+use Rattle.drops.proofs.Distances.{pins-near}
 use Rattle.drops.proofs.drop_between.Statement.{statement}
 use Rattle.drops.proofs.drop_between.Tie as tie
 

@@ -9,7 +9,7 @@ use Rattle.refusal.specs.declared.Verdict.the-variants.{Accepted}
 use Rattle.board.specs.Spots.{spotsFrom}
 use Rattle.tree.specs.Growth.{runsOf}
 use Rattle.tree.specs.Trees.{treeWith}
-use Rattle.drops.specs.Loads.{sheetFits}
+use Rattle.loads.specs.Loads.{sheetFits}
 use Rattle.drops.specs.Passes.{PinNumbers}
 use Rattle.drops.proofs.Answering.{tree-refused, tree-taken, range-refused, drops-told, ends-low, currents-room, drops-are}
 use Rattle.drops.proofs.drops_of.Statement.{statement}

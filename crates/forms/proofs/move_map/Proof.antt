@@ -4,7 +4,7 @@ use borrow.Author.Needs.{needs}
 use borrow.Author.Tests.{not-true, not-false}
 use Rattle.drawing.proofs.Rules.{lawful-parts}
 use Rattle.pinmap.specs.declared.Form.{Form}
-use Rattle.pinmap.specs.Map.{underRows, readBy}
+use Rattle.readmap.specs.Map.{underRows, readBy}
 use Rattle.forms.specs.Moving.{otherThan}
 use Rattle.forms.proofs.Moving.{read-away, pins-keep, form-away, form-on}
 use Rattle.forms.proofs.move_map.Statement.{statement}

@@ -50,13 +50,13 @@ use Rattle.copper.specs.declared.Leg.{Leg}
 use Rattle.copper.proofs.Leg as T
 use Rattle.copper.proofs.Leg.Laws as T′
 use Rattle.basics.proofs.Lists.{overlaid, overlaid-none, overlaid-long}
-use Rattle.wiring.specs.declared.Strip.{Strip}
-use Rattle.wiring.specs.Answer.{mostLegs, noLeg}
+use Rattle.laying.specs.declared.Strip.{Strip}
+use Rattle.laying.specs.Entries.{mostLegs, noLeg}
 use Rattle.lent.proofs.Filling.{one-more, all-filled}
 use Rattle.lent.proofs.Fitting.{StripFits}
 use Rattle.lent.proofs.Calling.{Gives, Given-back, gives, one-gives, calls-giving}
-use Rattle.wiring.proofs.Strip as S
-use Rattle.wiring.proofs.Strip.Laws as S′
+use Rattle.laying.proofs.Strip as S
+use Rattle.laying.proofs.Strip.Laws as S′
 use Rattle.lent.proofs.count_of as count′
 use Rattle.lent.proofs.count_of.Symbol as count-def
 use Rattle.lent.proofs.count_of.Symbol.{name as #count-of}

@@ -2,7 +2,7 @@
 use Prim.Native.Nat.{_-_}
 use native.Mathlib.Omega.{arith}
 use borrow.Author.Needs.{needs}
-use Rattle.wiring.specs.Answer.{noLeg}
+use Rattle.laying.specs.Entries.{noLeg}
 use Rattle.mill.specs.Numbered.{isInside}
 use Rattle.mill.proofs.Filling.{first-passes, Filling, fill-none, fill-turn, fill-all}
 use Rattle.mill.proofs.fill_spans.Statement.{statement}

@@ -1,5 +1,5 @@
 -- `mill::refused` meets its contract: no entry is filled. Assumes nothing.
-use Rattle.wiring.specs.Answer.{legEntries}
+use Rattle.laying.specs.Entries.{legEntries}
 use Rattle.mill.specs.Answer.{cutWith}
 use borrow.Author.Needs.{needs}
 use Rattle.mill.proofs.refused.Statement.{statement}

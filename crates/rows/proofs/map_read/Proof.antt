@@ -4,7 +4,7 @@ use mathlib.Core.List.{List}
 use borrow.Author.Needs.{needs}
 use Rattle.refusal.specs.Rows.{Row}
 use Rattle.refusal.proofs.Rows.{Apart}
-use Rattle.pinmap.specs.Map.{mapRows, readMap}
+use Rattle.readmap.specs.Map.{mapRows, readMap}
 use Rattle.seats.specs.Seats.{jobsIn}
 use Rattle.rows.specs.Refusals.{takingRows}
 use Rattle.rows.proofs.Rows.{taking-apart, read-away, read-on}

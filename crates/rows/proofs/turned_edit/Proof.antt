@@ -1,5 +1,4 @@
 -- `rows::turned_edit` meets its contract. Assumes nothing.
-use mathlib.Core.Path.{_∙_}
 use borrow.Author.Needs.{needs}
 use Rattle.rows.proofs.turned_edit.Statement.{statement}
 use Rattle.rows.proofs.turned_edit.Tie as tie

@@ -8,9 +8,8 @@ use Rattle.refusal.specs.declared.Verdict.{Verdict}
 use Rattle.refusal.specs.Rows.{Row, firstOf}
 use Rattle.refusal.proofs.Rows.{hit, miss, no-row, stops, goes}
 use Rattle.drawing.specs.declared.Pin.{Pin}
-use Rattle.drawing.specs.declared.stated.Making.the-variants.{Removing}
-use Rattle.drawing.specs.Pins.{pinAt}
-use Rattle.drawing.specs.Edits.{standsAt}
+use Rattle.edits.specs.declared.stated.Making.the-variants.{Removing}
+use Rattle.drawing.specs.Pins.{pinAt, standsAt}
 use Rattle.rows.specs.Refusals.{makingRows}
 use Rattle.rows.proofs.Rows.{making-apart, refused, went}
 use Rattle.rows.proofs.turned_moving.Statement.{statement}

@@ -6,7 +6,6 @@ use borrow.Author.Tests.{le-leb, lt-leb}
 use Rattle.basics.proofs.Tests.{either-left, either-right}
 use Rattle.refusal.proofs.Rows.{hit, miss, no-row}
 use Rattle.drawing.specs.Pins.{isThere}
-use Rattle.drawing.specs.Pins.{pinAt}
 use Rattle.rows.specs.Refusals.{notThere}
 use Rattle.rows.proofs.turned_removing.Statement.{statement}
 use Rattle.rows.proofs.turned_removing.Tie as tie

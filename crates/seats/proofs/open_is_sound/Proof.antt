@@ -5,7 +5,7 @@ use mathlib.Core.Path.{sym, _∙_}
 use mathlib.Core.List.{List}
 use native.Mathlib.Omega.{arith}
 use lib.ListN.{take}
-use Rattle.drawing.specs.declared.Edit.{Edit}
+use Rattle.edits.specs.declared.Edit.{Edit}
 use Rattle.journal.specs.Journal.{own}
 use Rattle.seats.proofs.Tests.{job-missing, owns-too-few, breaks-rules, cannot-undo, can-redo}
 use Rattle.seats.proofs.open_is_sound.Statement.{statement}

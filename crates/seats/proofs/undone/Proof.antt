@@ -2,7 +2,7 @@
 use borrow.Author.Needs.{needs}
 use mathlib.Core.List.{List}
 use lib.ListN.{take}
-use Rattle.drawing.specs.declared.Edit.{Edit}
+use Rattle.edits.specs.declared.Edit.{Edit}
 use Rattle.journal.specs.Journal.{own}
 use Rattle.seats.proofs.Found.{undo-finds}
 use Rattle.seats.proofs.undone.Statement.{statement}

@@ -7,7 +7,7 @@ use Rattle.text.specs.Text.{textForEach}
 use Rattle.text.proofs.Printing.{Put, then-put, put-as, each-more}
 use Rattle.shown.proofs.Lines.{first-all}
 use Rattle.shown.specs.Shown.{legText}
-use Rattle.wiring.specs.Answer.{mostLegs, noLeg}
+use Rattle.laying.specs.Entries.{mostLegs, noLeg}
 use Rattle.printed.specs.Answers.{mostLegBytes}
 use borrow.Author.Needs.{needs}
 use Rattle.shown.proofs.put_legs.Statement.{statement}

@@ -9,7 +9,7 @@ use Rattle.shown.proofs.Lines.{first-all}
 use Rattle.shown.specs.Shown.{entryLine}
 use Rattle.copper.specs.declared.Shape.the-variants.{Straight}
 use Rattle.tree.specs.Trees.{mostRuns}
-use Rattle.wiring.specs.Answer.{runEntry}
+use Rattle.laying.specs.Entries.{runEntry}
 use Rattle.printed.specs.Answers.{mostRunBytes}
 use borrow.Author.Needs.{needs}
 use Rattle.shown.proofs.put_runs.Statement.{statement}

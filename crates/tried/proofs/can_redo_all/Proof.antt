@@ -2,8 +2,8 @@
 -- told by the lists. Assumes nothing.
 use borrow.Author.Needs.{needs, scaled-fits}
 use borrow.Author.Tests.{not-true, not-false}
-use Rattle.drawing.proofs.Making.{made-lawful}
-use Rattle.drawing.proofs.Stepping.{none-makeable, pin-put, made-test, told-put}
+use Rattle.edits.proofs.Making.{made-lawful}
+use Rattle.edits.proofs.Stepping.{none-makeable, pin-put, made-test, told-put}
 use Rattle.journal.proofs.Passing.{next-own, next-other, own-left}
 use Rattle.journal.proofs.Turns.{pass-skip, pass-step, pass-stop, pass-end}
 use mathlib.Core.Path.{_≡_, refl, sym, _∙_}
@@ -15,7 +15,7 @@ use lib.ListN.{length, take, drop}
 use Rattle.board.specs.Spots.{mostPins}
 use Rattle.board.proofs.Signed.{held}
 use Rattle.drawing.specs.Pins.{lawful}
-use Rattle.drawing.specs.Edits.{makeable, made}
+use Rattle.edits.specs.Edits.{makeable, made}
 use Rattle.drawing.proofs.Told.{Told, told-lists}
 use Rattle.journal.specs.Journal.{own, makeableAll}
 use Rattle.tried.proofs.can_redo_all.Statement.{statement}

@@ -2,8 +2,8 @@
 -- rules and are told by the lists. Assumes nothing.
 use borrow.Author.Needs.{needs, scaled-fits}
 use borrow.Author.Tests.{not-true, not-false}
-use Rattle.drawing.proofs.Making.{unmade-lawful}
-use Rattle.drawing.proofs.Stepping.{none-takeable, pin-put-back, taken-test, told-put}
+use Rattle.edits.proofs.Making.{unmade-lawful}
+use Rattle.edits.proofs.Stepping.{none-takeable, pin-put-back, taken-test, told-put}
 use Rattle.journal.proofs.Own.{own-nil}
 use Rattle.journal.proofs.Passing.{back-own, back-other, turned}
 use Rattle.journal.proofs.Turns.{pass-skip, pass-step, pass-stop, pass-end}
@@ -17,7 +17,7 @@ use lib.ListN.{length, take, drop}
 use Rattle.board.specs.Spots.{mostPins}
 use Rattle.board.proofs.Signed.{held}
 use Rattle.drawing.specs.Pins.{lawful}
-use Rattle.drawing.specs.Edits.{takeable, unmade}
+use Rattle.edits.specs.Edits.{takeable, unmade}
 use Rattle.drawing.proofs.Told.{Told, told-lists}
 use Rattle.journal.specs.Journal.{own, takeableAll}
 use Rattle.tried.proofs.can_take_back_all.Statement.{statement}

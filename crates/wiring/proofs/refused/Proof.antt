@@ -1,5 +1,6 @@
 -- `wiring::refused` meets its contract. Assumes nothing.
-use Rattle.wiring.specs.Answer.{turnedAway, runEntries, legEntries}
+use Rattle.wiring.specs.Answer.{turnedAway}
+use Rattle.laying.specs.Entries.{runEntries, legEntries}
 use borrow.Author.Needs.{needs}
 use Rattle.wiring.proofs.refused.Statement.{statement}
 use Rattle.wiring.proofs.refused.Tie as tie

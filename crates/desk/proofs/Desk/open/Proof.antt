@@ -5,7 +5,7 @@ use native.Mathlib.Omega.{arith}
 use Prim.Native.Nat.{_<_}
 use Rattle.journal.specs.Journal.{mostSeats}
 use Rattle.refusal.specs.Rows.{firstOf}
-use Rattle.pinmap.specs.declared.Reading.{Reading}
+use Rattle.readmap.specs.declared.Reading.{Reading}
 use Rattle.rows.specs.Calls.{opening}
 use Rattle.rows.specs.Refusals.{rowsOf}
 use Rattle.rows.proofs.Rows.{refused, went}

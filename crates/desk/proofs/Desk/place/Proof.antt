@@ -1,7 +1,7 @@
 -- `desk::Desk::place` meets its contract, by what is found. Assumes nothing.
 use mathlib.Core.Path.{_∙_}
 use borrow.Author.Needs.{needs}
-use Rattle.drawing.specs.declared.stated.Making.the-variants.{Placing}
+use Rattle.edits.specs.declared.stated.Making.the-variants.{Placing}
 use Rattle.drawing.specs.Pins.{holding}
 use Rattle.desk.proofs.Found.{found-own, found-making}
 use Rattle.desk.proofs.Desk.place.Statement.{statement}

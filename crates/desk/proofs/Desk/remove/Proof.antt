@@ -1,7 +1,7 @@
 -- `desk::Desk::remove` meets its contract, by what is found. Assumes nothing.
 use mathlib.Core.Path.{_∙_}
 use borrow.Author.Needs.{needs}
-use Rattle.drawing.specs.declared.stated.Making.the-variants.{Removing}
+use Rattle.edits.specs.declared.stated.Making.the-variants.{Removing}
 use Rattle.desk.proofs.Found.{found-own, found-making}
 use Rattle.desk.proofs.Desk.remove.Statement.{statement}
 use Rattle.desk.proofs.Desk.remove.Tie as tie

@@ -1,0 +1,4 @@
+-- The laws of what is asked of a desk.
+pub mod Writing
+pub mod Lent
+mod Lending

@@ -1,0 +1,2 @@
+-- The laws of what is asked of a drawing that is found.
+mod Fed

@@ -1,0 +1,5 @@
+-- The laws of edits that other crates cite, and worked cases.
+pub mod Making
+pub mod Changing
+pub mod Stepping
+mod Worked

@@ -1,0 +1,2 @@
+-- What is proved of laying runs beside the functions' contracts.
+pub mod Filling

@@ -1,0 +1,3 @@
+-- What the words of laying runs in copper mean.
+pub mod Entries
+pub mod Reaching

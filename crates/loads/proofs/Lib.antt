@@ -1,0 +1,2 @@
+-- What is proved of loads beside the functions' contracts.
+pub mod Ranges

@@ -1,0 +1,2 @@
+-- What reading a map means.
+pub mod Map

@@ -1,0 +1,2 @@
+-- The laws of a record that other crates cite.
+pub mod Faults

@@ -1,0 +1,2 @@
+-- What the words of a record mean.
+pub mod Record

@@ -1,0 +1,2 @@
+-- The laws of writing a map that other crates cite.
+pub mod Written

@@ -1,0 +1,3 @@
+-- What writing a map means.
+pub mod Record
+pub mod Map
