@@ -185,7 +185,7 @@ module _ (ask cut : Name) (back found held : Sym) (desk favour answer list : Ty)
           move ! (16 ∷ 17 ∷ []) $ free1 ! $ move ! (14 ∷ 15 ∷ []) $ free1 ! $ move ! (12 ∷ 13 ∷ []) $ free1 ! $ move ! (10 ∷ 11 ∷ []) $ free1 ! $
           move ! (8 ∷ 9 ∷ []) $ free1 ! $ move ! (6 ∷ 7 ∷ []) $ free1 ! $ move ! (4 ∷ 5 ∷ []) $ free1 ! $ move ! (2 ∷ 3 ∷ []) $ free1 ! $ free0 ! $ by ! (p .shown zs g l)))
 
-    -- THE METHOD, from its entry to its return: where asking gives what has such parts.
+    -- THE FUNCTION, from its entry to its return: where asking gives what has such parts.
     pub walk : (off : ℕ) → fieldAt zero (tcons desk (tcons (two held answer list) tnil)) 1 ≡ just (two held answer list, off) → (d : Val) (s n : ℕ) (k : Val)
         → OfType desk d → s < 2 ^ 64 → n < 2 ^ 32 → OfType favour k → (Φ : Val → Type 0)
         → Gives 𝓤 H C ask (d ∷ vint w64 s ∷ vint w32 n ∷ vint w64 (length (x .now)) ∷ k ∷ []) Φ
@@ -232,7 +232,7 @@ lending R = record {
   kept = (yes, (yes, (yes, (yes, (yes, tt)))));
 }
 
--- WHAT A METHOD THAT FILLS A LENT LIST IS MADE OF:
+-- WHAT A FUNCTION THAT FILLS A LENT LIST IS MADE OF:
 pub record Lends {M : Type 1} {𝓤 : URA M} {H : Heap 𝓤} {A : Atoms 𝓤} (W : Given 𝓤 H A) : Type 2 where
   -- the function that is asked, and the function that takes the strip;
   pub ask : Name
@@ -395,7 +395,7 @@ module _ {M : Type 1} {𝓤 : URA M} {H : Heap 𝓤} {A : Atoms 𝓤} {W : Given
 
   module _ (mem : Memory → SProp 𝓤) (run : Routine → Fun 𝓤) (𝓣 : Tables 𝓤 H) (known-ask : Triple 𝓤 (𝓣 .C (F .ask)) Ask) (known-cut : Triple 𝓤 (𝓣 .C (F .cut)) Cut)
       (known-fill : Triple 𝓤 (𝓣 .C #fill) (Fill 𝓤 H A mem run)) where
-    -- THE METHOD MEETS ITS CONTRACT, where the functions called meet theirs.
+    -- THE FUNCTION MEETS ITS CONTRACT, where those that it calls meet theirs.
     pub lends-meets : Meets 𝓤 H A (lending (F .Back) .signature) (WpFn 𝓤 H (𝓣 .C) (𝓣 .Λ) code-of) (closing 𝓤 H A (lending (F .Back)) clauses)
     lends-meets =
         walk-meets 𝓤 H A (lending (F .Back)) stayed W (

@@ -25,7 +25,7 @@ use Rattle.mill.specs.Answer.{copperOf, millRows, cutWith, cutBy}
 use Rattle.journal.specs.Journal.{mostSeats}
 use Rattle.seats.specs.declared.Seat.{Seat}
 use Rattle.rows.specs.declared.Found.{Found}
-use Rattle.rows.specs.Refusals.{netRow}
+use Rattle.pinrows.specs.PinRows.{netRow}
 use Rattle.rows.specs.Found.{namingFound, namingNet, wiredBy}
 use Rattle.desk.specs.declared.Desk.{Desk}
 use Rattle.asked.specs.declared.Written.{Written}

@@ -16,7 +16,7 @@ use Rattle.drawing.proofs.Feeds.{feed-long}
 use Rattle.journal.proofs.Cut.{stands-more}
 use Rattle.journal.proofs.Own.{own-length}
 use Rattle.journal.specs.Journal.{mostSeats, mostRecords, noEdit, seated, makeableAll, takeableAll}
-use Rattle.seats.proofs.Tests.{seat-among}
+use Rattle.sound.proofs.Tests.{seat-among}
 use Rattle.rows.proofs.Rows.{net-open}
 use Rattle.desk.specs.declared.Desk.{Desk}
 use Rattle.desk.specs.Desk.{seatOf, namingNetAt, feedAt, inUse, editsOf, standingOf, takenBackOf, jobsOf, jobsApart, soundOpen, soundClosed, soundSeat, sound}

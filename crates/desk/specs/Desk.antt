@@ -21,9 +21,9 @@ use Rattle.rows.specs.Refusals.{Look, namingRows, namingNetRows, rowsOf}
 use Rattle.desk.specs.declared.Desk.{Desk}
 use Rattle.desk.specs.declared.Answered.{Answered}
 pub use Rattle.seats.specs.Seats.{closedSeat, noSeat, openSeat, withPins, jobsIn, jobsApart}
-pub use Rattle.seats.specs.Sound.{standingAmong, takenBackAmong}
+pub use Rattle.sound.specs.Sound.{standingAmong, takenBackAmong}
 unfoldable pub use Rattle.seats.specs.Seats.{jobOf}
-unfoldable pub use Rattle.seats.specs.Sound.{soundOpen, soundClosed, soundSeat, soundTo, soundAll}
+unfoldable pub use Rattle.sound.specs.Sound.{soundOpen, soundClosed, soundSeat, soundTo, soundAll}
 
 -- The seat of that number.
 abbrev pub seatOf : Desk → ℕ → Seat

@@ -20,7 +20,8 @@ ghost use Rattle.drawing.specs.Pins.{holding};
 ghost use Rattle.journal.specs.Journal.{mostRecords, own, kept, compacted};
 ghost use Rattle.seats.specs.Seats.{takenBackCount};
 ghost use Rattle.rows.specs.Calls.{opening, closing, making, undoing, redoing};
-ghost use Rattle.rows.specs.Refusals.{makingRows, fullRow};
+ghost use Rattle.pinrows.specs.PinRows.{makingRows};
+ghost use Rattle.rows.specs.Refusals.{fullRow};
 ghost use Rattle.rows.specs.Found.{foundIn, namingFound};
 ghost use Rattle.desk.specs.Desk.{emptyDesk, inUse, sound, refused, step};
 
@@ -59,7 +60,7 @@ impl Desk {
     {
         let seats = self.seats;
         let records = self.journal;
-        seats::are_sound(seats, records, self.used)
+        sound::are_sound(seats, records, self.used)
     }
 
     // What a call finds at the seat that it names.

@@ -1,4 +1,4 @@
--- Drops are finite, where they are 0, and that they are what is demanded: theorems over the definitions of the crate drops.
+-- Drops are finite, where they are 0, and that they are what is demanded: theorems over the definitions of the crates loads and drops.
 pub mod Sizes
 pub mod Rounding
 pub mod Operations

@@ -23,7 +23,8 @@ use Rattle.desk.specs.declared.Desk.{Desk}
 use Rattle.seats.specs.declared.Seat.{Seat}
 use Rattle.seats.specs.Seats.{sameJob, openSeat}
 use Rattle.rows.specs.Calls.{opening}
-use Rattle.rows.specs.Refusals.{namingRows, netRow}
+use Rattle.rows.specs.Refusals.{namingRows}
+use Rattle.pinrows.specs.PinRows.{netRow}
 use Rattle.rows.specs.Found.{wiredBy}
 use Rattle.desk.specs.Desk.{jobOf, soundOpen, soundClosed, soundSeat, soundTo, sound, withSeat, namingNetAt, effect, answerOf, step, emptyDesk}
 use Rattle.asked.specs.Asked.{wiredOf}

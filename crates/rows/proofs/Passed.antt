@@ -27,7 +27,8 @@ use Rattle.readmap.specs.Map.{mapRows, readMap}
 use Rattle.journal.specs.Journal.{mostSeats, mostRecords}
 use Rattle.seats.specs.Seats.{jobAmong}
 use Rattle.rows.specs.Calls.{Call, opening, closing, making, undoing, redoing, asking}
-use Rattle.rows.specs.Refusals.{Look, namingRows, notThere, makingRows, fullRow, undoingRow, redoingRow, askingRows, rowsOf}
+use Rattle.rows.specs.Refusals.{Look, namingRows, fullRow, undoingRow, redoingRow, askingRows, rowsOf}
+use Rattle.pinrows.specs.PinRows.{notThere, makingRows}
 use Rattle.rows.proofs.Rows.{SeatOpen, seat-open, rows-apart}
 
 -- The rows 28, 1 and 2 are passed.

@@ -1,18 +1,16 @@
 -- The rows of every call are apart, what was read of them first, and what they decide. From the laws of rows; assumes nothing.
 use mathlib.Core.Path.{_≡_, refl, ap, sym, _∙_}
-use mathlib.Core.Bool.{Bool, true, false, not}
+use mathlib.Core.Bool.{Bool, true, false}
 use mathlib.Core.List.{List, [], _∷_, _++_}
 use Prim.Native.Nat.{ℕ, _<_}
 use lib.Dec.{leb}
-use borrow.Author.Tests.{not-true, not-false, leb-false}
+use borrow.Author.Tests.{not-false, leb-false}
 use Rattle.basics.specs.Tests.{both, choose, eachOf}
 use Rattle.refusal.specs.Refusals.{accepted}
 use Rattle.refusal.specs.Rows.{Row, given, firstOf, NoneHolds}
 use Rattle.refusal.specs.declared.Verdict.{Verdict}
 use Rattle.refusal.specs.declared.Verdict.the-variants.{SeatAbove, DeskBroken}
 use Rattle.refusal.proofs.Rows.{unlike, distinct, Apart, apart-by, apart-both, none-holds, none-before, stops, goes, decided-away, decided-on}
-use Rattle.drawing.specs.declared.Pin.{Pin}
-use Rattle.edits.specs.declared.stated.Making.{Making}
 use Rattle.edits.specs.declared.stated.Making.the-variants.{Placing, Moving, Removing}
 use lib.ListN.{length}
 use lib.Ieee.{Float}
@@ -30,7 +28,8 @@ use Rattle.journal.specs.Journal.{mostSeats}
 use Rattle.rows.specs.Calls.{Call, opening, closing, making, undoing, redoing, asking, writing, wiring, milling, dropping}
 use Rattle.rows.specs.declared.Found.{Found}
 use Rattle.rows.specs.Found.{namingFound}
-use Rattle.rows.specs.Refusals.{Look, namingRows, takingRows, netRow, namingNetRows, makingRows, rowsOf}
+use Rattle.rows.specs.Refusals.{Look, namingRows, takingRows, namingNetRows, rowsOf}
+use Rattle.pinrows.specs.PinRows.{netRow}
 
 -- ---- the rows are apart
 
@@ -48,13 +47,6 @@ taking-apart broken seat opened job jobs = apart-by (takingRows broken seat open
 pub net-apart : (broken : Bool) (seat : ℕ) (opened : Bool) (net : ℕ) → Apart (namingNetRows broken seat opened net)
 unfolding distinct unlike accepted both
 net-apart broken seat opened net = apart-by (namingNetRows broken seat opened net) refl
-
--- What the pins say of an edit is.
-pub making-apart : (l : List Pin) (m : Making) → Apart (makingRows l m)
-unfolding distinct unlike accepted both
-making-apart l (Placing p h) = apart-by (makingRows l (Placing p h)) refl
-making-apart l (Moving p to) = apart-by (makingRows l (Moving p to)) refl
-making-apart l (Removing p) = apart-by (makingRows l (Removing p)) refl
 
 -- THE ROWS OF EVERY CALL ARE APART.
 pub rows-apart : (l : Look) (c : Call) → Apart (rowsOf l c)
@@ -74,16 +66,6 @@ rows-apart l (asking s (milling net room favour)) = apart-by (rowsOf l (asking s
 rows-apart l (asking s (dropping net loads sheet)) = apart-by (rowsOf l (asking s (dropping net loads sheet))) refl
 
 -- ---- what was read first
-
--- What the test of a verdict says.
-module _ {r : Bool} (v : Verdict) (e : r ≡ accepted v) where
-  -- It was refused,
-  pub refused : not r ≡ true → accepted v ≡ false
-  refused t = sym e ∙ not-true _ t
-
-  -- or accepted.
-  pub went : not r ≡ false → accepted v ≡ true
-  went t = sym e ∙ not-false _ t
 
 -- Where 28, 1 and 2 are passed: the desk is sound, the seat is one of the desk's, and open.
 pub record SeatOpen (broken : Bool) (seat : ℕ) (opened : Bool) : Type 0 where

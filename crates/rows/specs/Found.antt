@@ -14,7 +14,7 @@ use Rattle.journal.specs.declared.Record.{Record}
 use Rattle.journal.specs.Journal.{mostSeats}
 use Rattle.seats.specs.declared.Seat.{Seat}
 use Rattle.seats.specs.Seats.{closedSeat, noSeat}
-use Rattle.seats.specs.Sound.{soundAll}
+use Rattle.sound.specs.Sound.{soundAll}
 use Rattle.rows.specs.declared.Found.{Found}
 use Rattle.rows.specs.Refusals.{namingRows, namingNetRows}
 use Rattle.copper.specs.declared.Favour.{Favour}

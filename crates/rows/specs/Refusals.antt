@@ -3,15 +3,10 @@ use mathlib.Core.Bool.{Bool, not}
 use mathlib.Core.List.{List, [], _∷_, _++_}
 use Prim.Native.Nat.{ℕ, _-_}
 use lib.Dec.{eqb, leb}
-use Rattle.basics.specs.Tests.{either}
 use Rattle.refusal.specs.Rows.{Row, given}
-use Rattle.refusal.specs.declared.Verdict.the-variants.{SeatAbove, NotOpen, OpenAlready, JobZero, JobElsewhere, NoSuchPin, PinThere, Outside, PinTooNear, NothingStands, NothingTakenBack, JournalFull, NoSuchNet, DeskBroken}
-use Rattle.board.specs.Place.{inside}
-use Rattle.board.specs.Spots.{mostPins, crowded}
+use Rattle.refusal.specs.declared.Verdict.the-variants.{SeatAbove, NotOpen, OpenAlready, JobZero, JobElsewhere, NothingStands, NothingTakenBack, JournalFull, DeskBroken}
 use Rattle.drawing.specs.declared.Pin.{Pin}
-use Rattle.edits.specs.declared.stated.Making.{Making}
-use Rattle.edits.specs.declared.stated.Making.the-variants.{Placing, Moving, Removing}
-use Rattle.drawing.specs.Pins.{isThere, isNet, spotsOf, feedOf, standsAt, pinAt}
+use Rattle.drawing.specs.Pins.{feedOf}
 use Rattle.pinmap.specs.declared.Form.the-variants.{New}
 use Rattle.readmap.specs.Map.{mapRows}
 use Rattle.writemap.specs.Map.{roomRows}
@@ -20,6 +15,7 @@ use Rattle.wiring.specs.Answer.{feedRows}
 use Rattle.mill.specs.Answer.{millRows}
 use Rattle.journal.specs.Journal.{mostSeats, mostRecords}
 use Rattle.seats.specs.Seats.{jobAmong}
+use Rattle.pinrows.specs.PinRows.{netRow, makingRows}
 use Rattle.rows.specs.Calls.{Call, opening, closing, making, undoing, redoing, asking, Asking, writing, wiring, milling, dropping}
 
 -- What a call looks at: whether the desk is broken; of the seat that it names whether it is open, its job, pins, standing and
@@ -49,33 +45,9 @@ takingRows broken seat opened job jobs =
     ∷ given (jobAmong job jobs) JobElsewhere
     ∷ []
 
--- The pin is above 31, or not there.
-abbrev pub notThere : List Pin → ℕ → Bool
-notThere l p = either (leb mostPins p) (not (isThere (pinAt l p)))
-
--- 21: the net is not 1 to 8.
-abbrev pub netRow : ℕ → Row
-netRow net = given (not (isNet net)) NoSuchNet
-
 -- Every call that asks for a net of a seat: 28, 1, 2, 21.
 abbrev pub namingNetRows : Bool → ℕ → Bool → ℕ → List Row
 namingNetRows broken seat opened net = namingRows broken seat opened ++ (netRow net ∷ [])
-
--- Placing: 6, 7, 21, 8, 9. Moving: 6, 8, 9; a move to the place where the pin already stands is 9. Removing: 6.
-abbrev pub makingRows : List Pin → Making → List Row
-makingRows l (Placing p h) =
-    given (leb mostPins p) NoSuchPin
-    ∷ given (isThere (pinAt l p)) PinThere
-    ∷ netRow (h .net)
-    ∷ given (not (inside (h .place))) Outside
-    ∷ given (crowded (spotsOf l) p (h .place)) PinTooNear
-    ∷ []
-makingRows l (Moving p to) =
-    given (notThere l p) NoSuchPin
-    ∷ given (not (inside to)) Outside
-    ∷ given (either (standsAt (pinAt l p) to) (crowded (spotsOf l) p to)) PinTooNear
-    ∷ []
-makingRows l (Removing p) = given (notThere l p) NoSuchPin ∷ []
 
 -- An edit takes a record. 12: used records, less this seat's taken-back ones, are 256.
 abbrev pub fullRow : ℕ → ℕ → List Row

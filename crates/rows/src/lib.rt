@@ -17,11 +17,11 @@ ghost use mathlib.Core.List.{_++_};
 ghost use Prim.Native.Nat.{_≤_};
 ghost use lib.ListN.{take};
 ghost use Rattle.refusal.specs.Rows.{firstOf};
-ghost use Rattle.edits.specs.declared.stated.Making.the-variants.{Placing, Moving, Removing};
 ghost use Rattle.readmap.specs.Map.{mapRows, readBy};
 ghost use Rattle.journal.specs.Journal.{mostRecords, own};
 ghost use Rattle.seats.specs.Seats.{takenBackCount, jobsIn};
-ghost use Rattle.rows.specs.Refusals.{takingRows, makingRows, fullRow, undoingRow, redoingRow};
+ghost use Rattle.rows.specs.Refusals.{takingRows, fullRow, undoingRow, redoingRow};
+ghost use Rattle.pinrows.specs.PinRows.{makingRows};
 ghost use Rattle.rows.specs.Found.{foundIn, namingFound};
 
 // What a call finds: whether the desk is broken, the seat that it names, and that seat's state, a closed one's where there is no such seat.
@@ -35,7 +35,7 @@ pub struct Found {
 pub fn find(seats: [Seat; SEATS], journal: [Record; RECORDS], used: usize, seat: usize) -> Found
     ensures { λ r. ⌜ r ≡ foundIn seats journal used seat ⌝ }
 {
-    let sound = seats::are_sound(seats, journal, used);
+    let sound = sound::are_sound(seats, journal, used);
     if SEATS <= seat {
         let state = seats::closed_seat();
         return Found {
@@ -70,79 +70,6 @@ pub fn turned_naming(found: Found) -> Verdict
     }
 }
 
-// Placing on these pins: 6, 7, 21, 8, 9.
-fn turned_placing(pins: [Pin; PINS], pin: usize, held: Held) -> Verdict
-    ensures { λ r. ⌜ r ≡ firstOf (makingRows pins (Placing pin held)) ⌝ }
-{
-    if PINS <= pin {
-        return Verdict::NoSuchPin;
-    }
-    let there = drawing::pin_at(pins, pin);
-    if drawing::is_there(there) {
-        return Verdict::PinThere;
-    }
-    if !drawing::is_net(held.net) {
-        return Verdict::NoSuchNet;
-    }
-    let at = held.place;
-    if !board::is_inside(at) {
-        return Verdict::Outside;
-    }
-    if drawing::is_crowded(pins, pin, at) {
-        Verdict::PinTooNear
-    } else {
-        Verdict::Accepted
-    }
-}
-
-// Removing from these pins, and what moving is turned away by first: 6.
-fn turned_removing(pins: [Pin; PINS], pin: usize) -> Verdict
-    ensures { λ r. ⌜ r ≡ firstOf (makingRows pins (Removing pin)) ⌝ }
-{
-    if PINS <= pin {
-        return Verdict::NoSuchPin;
-    }
-    let there = drawing::pin_at(pins, pin);
-    if drawing::is_there(there) {
-        Verdict::Accepted
-    } else {
-        Verdict::NoSuchPin
-    }
-}
-
-// Moving on these pins: 6, 8, 9.
-fn turned_moving(pins: [Pin; PINS], pin: usize, to: Place) -> Verdict
-    ensures { λ r. ⌜ r ≡ firstOf (makingRows pins (Moving pin to)) ⌝ }
-{
-    let verdict = turned_removing(pins, pin);
-    if !refusal::is_accepted(verdict) {
-        return verdict;
-    }
-    if !board::is_inside(to) {
-        return Verdict::Outside;
-    }
-    let there = drawing::pin_at(pins, pin);
-    if drawing::stands_at(there, to) {
-        return Verdict::PinTooNear;
-    }
-    if drawing::is_crowded(pins, pin, to) {
-        Verdict::PinTooNear
-    } else {
-        Verdict::Accepted
-    }
-}
-
-// Making an edit on these pins, by what the call states.
-fn turned_edit(pins: [Pin; PINS], making: Making) -> Verdict
-    ensures { λ r. ⌜ r ≡ firstOf (makingRows pins making) ⌝ }
-{
-    match making {
-        Making::Placing(pin, held) => turned_placing(pins, pin, held),
-        Making::Moving(pin, to) => turned_moving(pins, pin, to),
-        Making::Removing(pin) => turned_removing(pins, pin),
-    }
-}
-
 // An edit of the seat that is found takes a record: 12.
 fn turned_full(found: Found, journal: [Record; RECORDS], used: usize) -> Verdict
     requires { ⌜ used ≤ mostRecords ⌝ }
@@ -173,7 +100,7 @@ pub fn turned_making(
     }
     let s = found.state;
     let pins = s.pins;
-    let told = turned_edit(pins, making);
+    let told = pinrows::turned_edit(pins, making);
     if refusal::is_accepted(told) {
         turned_full(found, journal, used)
     } else {

@@ -1,3 +1,2 @@
 -- What the seats' words mean.
 pub mod Seats
-pub mod Sound

@@ -3,7 +3,8 @@ use mathlib.Core.Path.{ap, sym, _∙_}
 use mathlib.Core.Bool.{not}
 use borrow.Author.Needs.{needs}
 use Rattle.refusal.proofs.Rows.{hit, miss, no-row}
-use Rattle.rows.proofs.Rows.{refused, went, naming-stops, naming-goes}
+use Rattle.pinrows.proofs.Apart.{refused, went}
+use Rattle.rows.proofs.Rows.{naming-stops, naming-goes}
 use Rattle.asking.proofs.turned_asking.Statement.{statement}
 use Rattle.asking.proofs.turned_asking.Tie as tie
 

@@ -10,9 +10,11 @@ use Rattle.refusal.specs.Rows.{Row, firstOf}
 use Rattle.refusal.proofs.Rows.{stops, goes}
 use Rattle.journal.specs.Journal.{own}
 use Rattle.seats.specs.Seats.{takenBackCount}
-use Rattle.rows.specs.Refusals.{makingRows, fullRow}
+use Rattle.pinrows.specs.PinRows.{makingRows}
+use Rattle.rows.specs.Refusals.{fullRow}
 use Rattle.rows.specs.Found.{namingFound}
-use Rattle.rows.proofs.Rows.{making-apart, refused, went, naming-stops, naming-goes, naming-passed}
+use Rattle.pinrows.proofs.Apart.{making-apart, refused, went}
+use Rattle.rows.proofs.Rows.{naming-stops, naming-goes, naming-passed}
 use Rattle.rows.proofs.turned_making.Statement.{statement}
 use Rattle.rows.proofs.turned_making.Tie as tie
 

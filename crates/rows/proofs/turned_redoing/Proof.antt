@@ -3,7 +3,8 @@ use mathlib.Core.Path.{sym, _∙_}
 use borrow.Author.Needs.{needs}
 use borrow.Author.Tests.{eq-eqb, ne-eqb}
 use Rattle.refusal.proofs.Rows.{hit, miss, no-row}
-use Rattle.rows.proofs.Rows.{refused, went, naming-stops, naming-goes, naming-passed}
+use Rattle.pinrows.proofs.Apart.{refused, went}
+use Rattle.rows.proofs.Rows.{naming-stops, naming-goes, naming-passed}
 use Rattle.rows.proofs.turned_redoing.Statement.{statement}
 use Rattle.rows.proofs.turned_redoing.Tie as tie
 

@@ -2,7 +2,8 @@
 use borrow.Author.Needs.{needs}
 use borrow.Author.Tests.{eq-eqb, ne-eqb}
 use Rattle.refusal.proofs.Rows.{hit, miss, no-row}
-use Rattle.rows.proofs.Rows.{refused, went, naming-stops, naming-goes}
+use Rattle.pinrows.proofs.Apart.{refused, went}
+use Rattle.rows.proofs.Rows.{naming-stops, naming-goes}
 use Rattle.rows.proofs.turned_undoing.Statement.{statement}
 use Rattle.rows.proofs.turned_undoing.Tie as tie
 

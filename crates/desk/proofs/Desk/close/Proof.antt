@@ -5,7 +5,7 @@ use native.Mathlib.Omega.{arith}
 use Prim.Native.Nat.{_<_}
 use Rattle.journal.specs.Journal.{mostSeats}
 use Rattle.rows.specs.Calls.{closing}
-use Rattle.rows.proofs.Rows.{refused, went}
+use Rattle.pinrows.proofs.Apart.{refused, went}
 use Rattle.desk.specs.Desk.{effect}
 use Rattle.desk.proofs.Sound.{used-within}
 use Rattle.desk.proofs.Found.{found-answer, found-sound, found-low}

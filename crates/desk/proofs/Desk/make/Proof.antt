@@ -7,7 +7,7 @@ use borrow.Author.Needs.{needs}
 use lib.ListN.{length}
 use Rattle.journal.specs.Journal.{mostSeats, mostRecords, kept}
 use Rattle.rows.specs.Calls.{making}
-use Rattle.rows.proofs.Rows.{refused, went}
+use Rattle.pinrows.proofs.Apart.{refused, went}
 use Rattle.desk.specs.Desk.{seatOf, inUse, sound, effect}
 use Rattle.desk.proofs.Sound.{used-within, standing-small}
 use Rattle.desk.proofs.Found.{found-answer, used-fits, edit-fits, edit-low}

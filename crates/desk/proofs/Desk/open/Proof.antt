@@ -8,7 +8,7 @@ use Rattle.refusal.specs.Rows.{firstOf}
 use Rattle.readmap.specs.declared.Reading.{Reading}
 use Rattle.rows.specs.Calls.{opening}
 use Rattle.rows.specs.Refusals.{rowsOf}
-use Rattle.rows.proofs.Rows.{refused, went}
+use Rattle.pinrows.proofs.Apart.{refused, went}
 use Rattle.desk.specs.Desk.{effect}
 use Rattle.desk.proofs.Found.{lookFound, found-answer, found-low, open-read}
 use Rattle.desk.proofs.Steps.{step-refused, step-accepted}

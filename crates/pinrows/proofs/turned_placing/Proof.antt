@@ -1,4 +1,4 @@
--- `rows::turned_placing` meets its contract. Assumes nothing.
+-- `pinrows::turned_placing` meets its contract. Assumes nothing.
 use mathlib.Core.Path.{_≡_, ap, sym, _∙_}
 use mathlib.Core.Bool.{not}
 use mathlib.Core.List.{List, _∷_}
@@ -12,9 +12,9 @@ use Rattle.refusal.proofs.Rows.{hit, miss, no-row}
 use Rattle.drawing.specs.Pins.{isThere}
 use Rattle.drawing.specs.Pins.{pinAt}
 use Rattle.board.specs.Spots.{mostPins}
-use Rattle.rows.specs.Refusals.{netRow}
-use Rattle.rows.proofs.turned_placing.Statement.{statement}
-use Rattle.rows.proofs.turned_placing.Tie as tie
+use Rattle.pinrows.specs.PinRows.{netRow}
+use Rattle.pinrows.proofs.turned_placing.Statement.{statement}
+use Rattle.pinrows.proofs.turned_placing.Tie as tie
 
 -- Whether the pin is there.
 there : (c : tie.After-is-there) → c .is-there .result ≡ isThere (pinAt (c .before .before .before .args .pins) (c .before .before .before .args .pin))

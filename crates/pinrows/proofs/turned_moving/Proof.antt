@@ -1,4 +1,4 @@
--- `rows::turned_moving` meets its contract. Assumes nothing.
+-- `pinrows::turned_moving` meets its contract. Assumes nothing.
 use mathlib.Core.Path.{_≡_, ap, sym, _∙_}
 use mathlib.Core.Bool.{not}
 use mathlib.Core.List.{List, _++_}
@@ -10,10 +10,10 @@ use Rattle.refusal.proofs.Rows.{hit, miss, no-row, stops, goes}
 use Rattle.drawing.specs.declared.Pin.{Pin}
 use Rattle.edits.specs.declared.stated.Making.the-variants.{Removing}
 use Rattle.drawing.specs.Pins.{pinAt, standsAt}
-use Rattle.rows.specs.Refusals.{makingRows}
-use Rattle.rows.proofs.Rows.{making-apart, refused, went}
-use Rattle.rows.proofs.turned_moving.Statement.{statement}
-use Rattle.rows.proofs.turned_moving.Tie as tie
+use Rattle.pinrows.specs.PinRows.{makingRows}
+use Rattle.pinrows.proofs.Apart.{making-apart, refused, went}
+use Rattle.pinrows.proofs.turned_moving.Statement.{statement}
+use Rattle.pinrows.proofs.turned_moving.Tie as tie
 
 -- The row of 6 for these pins.
 abbrev six : tie.Start → List Row

@@ -1,8 +1,8 @@
--- `seats::closed_is_sound` meets its contract. Assumes nothing.
+-- `sound::closed_is_sound` meets its contract. Assumes nothing.
 use borrow.Author.Tests.{eq-eqb, ne-eqb}
 use Rattle.basics.specs.Tests.{both}
-use Rattle.seats.proofs.closed_is_sound.Statement.{statement}
-use Rattle.seats.proofs.closed_is_sound.Tie as tie
+use Rattle.sound.proofs.closed_is_sound.Statement.{statement}
+use Rattle.sound.proofs.closed_is_sound.Tie as tie
 
 returns : tie.Need-returns
 unfolding both

@@ -14,9 +14,9 @@ use Rattle.edits.specs.declared.Edit.{Edit}
 use Rattle.drawing.specs.Pins.{lawful}
 use Rattle.journal.specs.declared.Record.{Record}
 use Rattle.journal.specs.Journal.{mostSeats, mostRecords, own, seated, makeableAll, takeableAll}
 use Rattle.seats.specs.declared.Seat.{Seat}
 use Rattle.seats.specs.Seats.{noSeat, jobsIn, jobsApart}
-use Rattle.seats.specs.Sound.{standingAmong, takenBackAmong, soundOpen, soundClosed, soundSeat, soundTo, soundAll}
+use Rattle.sound.specs.Sound.{standingAmong, takenBackAmong, soundOpen, soundClosed, soundSeat, soundTo, soundAll}
 
 -- The journal: the used count, then each used record's seat.
 module _ (j : List Record) (u : ℕ) where

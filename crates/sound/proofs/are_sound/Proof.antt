@@ -1,13 +1,13 @@
--- `seats::are_sound` meets its contract. Assumes nothing.
+-- `sound::are_sound` meets its contract. Assumes nothing.
 use borrow.Author.Needs.{needs}
 use borrow.Author.Tests.{not-true, not-false}
 use mathlib.Core.Path.{ap, _∙_}
 use Prim.Native.Nat.{_≤_}
 use Rattle.journal.specs.Journal.{mostRecords}
 use Rattle.seats.specs.Seats.{jobsApart}
-use Rattle.seats.proofs.Tests.{journal-broken, jobs-broken, seats-decide, used-tested}
-use Rattle.seats.proofs.are_sound.Statement.{statement}
-use Rattle.seats.proofs.are_sound.Tie as tie
+use Rattle.sound.proofs.Tests.{journal-broken, jobs-broken, seats-decide, used-tested}
+use Rattle.sound.proofs.are_sound.Statement.{statement}
+use Rattle.sound.proofs.are_sound.Tie as tie
 
 journal-is-sound-requires : tie.Need-journal-is-sound-requires
 journal-is-sound-requires c κs = search needs

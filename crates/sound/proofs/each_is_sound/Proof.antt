@@ -1,4 +1,4 @@
--- `seats::each_is_sound` meets its contract. The loop's invariant: the first `i` seats are sound.
+-- `sound::each_is_sound` meets its contract. The loop's invariant: the first `i` seats are sound.
 -- The measure is how many are left. Assumes nothing.
 use borrow.Author.Needs.{needs}
 use borrow.Author.Tests.{not-true, not-false}
@@ -10,10 +10,10 @@ use native.Mathlib.Omega.{arith}
 use lib.ListN.{length, take, getD}
 use Rattle.journal.specs.Journal.{mostSeats, own}
 use Rattle.journal.proofs.Counts.{count-at}
-use Rattle.seats.specs.Sound.{soundTo}
-use Rattle.seats.proofs.Tests.{seat-open, seat-closed, seats-none, seats-next, seats-stop}
-use Rattle.seats.proofs.each_is_sound.Statement.{statement}
-use Rattle.seats.proofs.each_is_sound.Tie as tie
+use Rattle.sound.specs.Sound.{soundTo}
+use Rattle.sound.proofs.Tests.{seat-open, seat-closed, seats-none, seats-next, seats-stop}
+use Rattle.sound.proofs.each_is_sound.Statement.{statement}
+use Rattle.sound.proofs.each_is_sound.Tie as tie
 
 abbrev Inv-loop : tie.InvT-loop
 Inv-loop journal used l counts i₀ i = (i ≤ mostSeats) × (soundTo i l (take used journal) ≡ true)

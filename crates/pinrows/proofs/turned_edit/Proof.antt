@@ -1,7 +1,7 @@
--- `rows::turned_edit` meets its contract. Assumes nothing.
+-- `pinrows::turned_edit` meets its contract. Assumes nothing.
 use borrow.Author.Needs.{needs}
-use Rattle.rows.proofs.turned_edit.Statement.{statement}
-use Rattle.rows.proofs.turned_edit.Tie as tie
+use Rattle.pinrows.proofs.turned_edit.Statement.{statement}
+use Rattle.pinrows.proofs.turned_edit.Tie as tie
 
 enum-known-making : tie.Need-enum-known-making
 enum-known-making c = search needs

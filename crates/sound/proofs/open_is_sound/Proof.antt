@@ -1,4 +1,4 @@
--- `seats::open_is_sound` meets its contract. Assumes nothing.
+-- `sound::open_is_sound` meets its contract. Assumes nothing.
 use borrow.Author.Needs.{needs}
 use borrow.Author.Tests.{not-true, not-false}
 use mathlib.Core.Path.{sym, _∙_}
@@ -7,9 +7,9 @@ use native.Mathlib.Omega.{arith}
 use lib.ListN.{take}
 use Rattle.edits.specs.declared.Edit.{Edit}
 use Rattle.journal.specs.Journal.{own}
-use Rattle.seats.proofs.Tests.{job-missing, owns-too-few, breaks-rules, cannot-undo, can-redo}
-use Rattle.seats.proofs.open_is_sound.Statement.{statement}
-use Rattle.seats.proofs.open_is_sound.Tie as tie
+use Rattle.sound.proofs.Tests.{job-missing, owns-too-few, breaks-rules, cannot-undo, can-redo}
+use Rattle.sound.proofs.open_is_sound.Statement.{statement}
+use Rattle.sound.proofs.open_is_sound.Tie as tie
 
 -- The edits of the seat.
 abbrev edits : tie.Start → List Edit

@@ -1,4 +1,4 @@
--- `rows::turned_removing` meets its contract. Assumes nothing.
+-- `pinrows::turned_removing` meets its contract. Assumes nothing.
 use mathlib.Core.Path.{_≡_, ap, sym, _∙_}
 use mathlib.Core.Bool.{not}
 use borrow.Author.Needs.{needs}
@@ -6,9 +6,9 @@ use borrow.Author.Tests.{le-leb, lt-leb}
 use Rattle.basics.proofs.Tests.{either-left, either-right}
 use Rattle.refusal.proofs.Rows.{hit, miss, no-row}
 use Rattle.drawing.specs.Pins.{isThere}
-use Rattle.rows.specs.Refusals.{notThere}
-use Rattle.rows.proofs.turned_removing.Statement.{statement}
-use Rattle.rows.proofs.turned_removing.Tie as tie
+use Rattle.pinrows.specs.PinRows.{notThere}
+use Rattle.pinrows.proofs.turned_removing.Statement.{statement}
+use Rattle.pinrows.proofs.turned_removing.Tie as tie
 
 -- Whether the pin is not there, at most 31 as it is.
 there : (c : tie.After-is-there) → notThere (c .before .before .before .args .pins) (c .before .before .before .args .pin) ≡ not (c .is-there .result)

@@ -1,8 +1,8 @@
--- `seats::journal_is_sound` meets its contract. Assumes nothing.
+-- `sound::journal_is_sound` meets its contract. Assumes nothing.
 use borrow.Author.Needs.{needs}
-use Rattle.seats.proofs.Tests.{journal-over, journal-seated}
-use Rattle.seats.proofs.journal_is_sound.Statement.{statement}
-use Rattle.seats.proofs.journal_is_sound.Tie as tie
+use Rattle.sound.proofs.Tests.{journal-over, journal-seated}
+use Rattle.sound.proofs.journal_is_sound.Statement.{statement}
+use Rattle.sound.proofs.journal_is_sound.Tie as tie
 
 all-seated-requires : tie.Need-all-seated-requires
 all-seated-requires c κs = search needs

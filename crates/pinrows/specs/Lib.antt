@@ -1,0 +1,2 @@
+-- What the rows of refusals by the pins mean.
+pub mod PinRows

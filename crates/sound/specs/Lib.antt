@@ -1,0 +1,2 @@
+-- What it means that seats are sound.
+pub mod Sound
