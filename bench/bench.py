@@ -14,9 +14,9 @@ sys.dont_write_bytecode = True
 import random_log
 
 HERE = Path(__file__).resolve().parent
-BUILT = HERE.parent / "target" / "bin"
+CRATES = HERE.parent / "crates"
 KIT = Path(os.environ.get("RATTLE_HOME") or Path(os.path.realpath(shutil.which("rt") or "rt")).parent.parent)
-TOOLS = KIT / "on" / os.uname().machine / "toolchain"
+TOOLS = KIT / "toolchain"
 EMULATOR = TOOLS / "bin" / "qemu-x86_64"
 
 
@@ -40,11 +40,17 @@ def run(command, log, stack=None):
         return (wrote.read() if status == 0 else None), used.ru_utime + used.ru_stime
 
 
-def proved(name):
-    """The command of a proved program, as built by `rt check`."""
-    program = BUILT / name
+def built(name):
+    """A proved program, as `rt run` in its crate's folder builds it."""
+    program = CRATES / name / "out" / name
     if not program.exists():
-        sys.exit(f"{program} is not there: run rt check first")
+        sys.exit(f"{program} is not there: run rt run in {CRATES / name} first")
+    return program
+
+
+def proved(name):
+    """The command of a proved program."""
+    program = built(name)
     return [str(TOOLS / "lib" / "ld-linux-x86-64.so.2"), "--library-path", str(TOOLS / "lib"), str(program)]
 
 
@@ -227,7 +233,7 @@ DEEPEST = {"least::pin_best": 32, "least::weigh": 9, "text::put::put_decimal": 2
 def disassembled(program):
     """The frame of each function of a program, in bytes with its return address, and the functions that it calls."""
     dump = "objdump" if os.uname().machine == "x86_64" else "x86_64-linux-gnu-objdump"
-    text = subprocess.run([dump, "-d", "--no-show-raw-insn", BUILT / program], check=True, capture_output=True, text=True).stdout
+    text = subprocess.run([dump, "-d", "--no-show-raw-insn", built(program)], check=True, capture_output=True, text=True).stdout
     frames, callees, name, probing, entered = {}, {}, None, False, False
     for line in text.splitlines():
         if begun := re.match(r"[0-9a-f]+ <(.+)>:$", line):

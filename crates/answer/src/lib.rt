@@ -1,4 +1,6 @@
 // One line of a log answered on a desk: the desk that follows, and the text to be printed.
+#![tactic(auto)]
+
 ghost use Rattle.std.specs.Prelude.{◌≡◌, ◌≤◌, length};
 ghost use Rattle.bare.specs.Bare.{bare_of};
 ghost use Rattle.rows.specs.Calls.{opening};
@@ -19,7 +21,7 @@ use shown::{print_cut, print_drawn, print_laid};
 use text::{ANSWER_BYTES, MOST_NUMBERS, MOST_PAIRS, MOST_ROOM};
 
 // What a line is answered: the desk that follows, and how many bytes of the lent buffer are the text to be printed.
-#[derive(Drop)]
+#[derive(Clone, Copy)]
 pub struct Answer {
     pub desk: Desk,
     pub bytes: usize,

@@ -1,4 +1,3 @@
 -- The laws of what is asked of a desk.
 pub mod Writing
 pub mod Lent
-mod Lending

@@ -1,4 +1,6 @@
 // What is asked of a desk: writing the map of the drawing at a seat, and wiring a net of it, milling it, and the volts lost to its pins. The desk stays as it is.
+#![tactic(auto)]
+
 ghost use Rattle.std.specs.Prelude.{◌≡◌};
 ghost use Rattle.asked.specs.Asked.{written_of, buffer_of, wired_of, wired_seat_of, lent_of, milled_of, milled_seat_of, segments_lent_of, dropped_of};
 
@@ -12,7 +14,7 @@ use refusal::Verdict;
 use wiring::{Laid, Wiring};
 
 // What writing hands back: the desk as it is, the answer, and the number of bytes written.
-#[derive(Drop)]
+#[derive(Clone, Copy)]
 pub struct Written {
     pub desk: Desk,
     pub verdict: Verdict,
@@ -20,35 +22,35 @@ pub struct Written {
 }
 
 // What wiring hands back: the desk as it is, and the answer with its legs.
-#[derive(Drop)]
+#[derive(Clone, Copy)]
 pub struct Wired {
     pub desk: Desk,
     pub laid: Laid,
 }
 
 // What wiring into a lent list of legs hands back: the desk as it is, and the answer.
-#[derive(Drop)]
+#[derive(Clone, Copy)]
 pub struct WiredSeat {
     pub desk: Desk,
     pub wiring: Wiring,
 }
 
 // What milling hands back: the desk as it is, and the answer with its segments.
-#[derive(Drop)]
+#[derive(Clone, Copy)]
 pub struct Milled {
     pub desk: Desk,
     pub cut: Cut,
 }
 
 // What milling into a lent list of segments hands back: the desk as it is, and the answer.
-#[derive(Drop)]
+#[derive(Clone, Copy)]
 pub struct MilledSeat {
     pub desk: Desk,
     pub milling: Milling,
 }
 
 // What the call for volts lost hands back: the desk as it is, and the answer.
-#[derive(Drop)]
+#[derive(Clone, Copy)]
 pub struct Dropped {
     pub desk: Desk,
     pub lost: Lost,

@@ -1,4 +1,6 @@
 // Calls that ask, over what they find at the seat that they name: writing the map of its drawing, and wiring a net of it, milling it, and the volts lost to its pins.
+#![tactic(auto)]
+
 ghost use Rattle.std.specs.Prelude.{◌≡◌, true, false, ◌++◌, length};
 ghost use Rattle.refusal.specs.Rows.{first_of};
 ghost use Rattle.drawing.specs.Pins.{lawful, feed_of};

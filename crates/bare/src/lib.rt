@@ -1,4 +1,6 @@
 // Bare wiring: lists of x and y as a feed, what is turned away, and the wiring of the rest.
+#![tactic(auto)]
+
 ghost use Rattle.std.specs.Prelude.{◌≡◌, false, length};
 ghost use Rattle.lent.specs.Lent.{strip_of, filled_with};
 ghost use Rattle.bare.specs.Bare.{wrong_lengths, bare_of};
@@ -10,6 +12,7 @@ use refusal::Verdict;
 use wiring::{Laid, Wiring};
 
 // Whether x and y lists differ in length, or exceed 32.
+#[tactic(auto, unfolding(crate::specs::Bare::wrong_lengths, basics::specs::Tests::either, basics::specs::Tests::choose))]
 fn wrong_lengths(xs: &[i32], ys: &[i32]) -> bool
     ensures { result ≡ wrong_lengths xs.now ys.now }
 {

@@ -33,6 +33,7 @@ in_map f (later h) = later (in_map f h)
 
 -- and every image there comes from a member.
 pub from_map : {A B : Type 0} (f : A → B) {b : B} (l : List A) → Among b (map f l) → From f b l
+from_map {A = A} {B = B} f {b = b} [] x' = elim x' [ ]
 from_map f (a ∷ l) (first e) = record { source = a; among = first refl; is = sym e }
 from_map {A} f {b} (a ∷ l) (later h) = one_more (from_map f l h)
   where
@@ -46,6 +47,7 @@ pub data Every {A : Type 0} (P : A → Type 0) : List A → Type 0 where
 
 -- What holds of each holds of a member,
 pub every_one : {A : Type 0} {P : A → Type 0} {a : A} {l : List A} → Every P l → Among a l → P a
+every_one {A = A} {P = P} {a = a} none x3 = elim x3 [ ]
 every_one {P = P} (one p r) (first e) = subst P (sym e) p
 every_one (one p r) (later h) = every_one r h
 

@@ -1,4 +1,6 @@
 // What other crates share and no rule owns: tests joined by words, tests and counts of lists, lists of a fixed length, members, sums; and the smaller and the larger of two numbers.
+#![tactic(auto)]
+
 ghost use Rattle.std.specs.Prelude.{◌≡◌, min, max};
 
 // The smaller of two numbers.

@@ -11,9 +11,10 @@ use lib.Seq.{ext_get_or, get_or-set_same, get_or-set_other}
 use Rattle.basics.proofs.Tests.{choose_yes, choose_no}
 use Rattle.basics.proofs.Lists.{values_long, value_at}
 use Rattle.board.specs.Place.{middle}
+use Rattle.board.specs.declared.Place.{Place}
 use Rattle.board.specs.declared.Spot.{Spot}
 use Rattle.board.specs.declared.Spot.TheVariants.{Absent, At}
-use Rattle.board.specs.Spots.{most_pins, place_of, spot_at, place_at, place_in, spot_by, spots_from}
+use Rattle.board.specs.Spots.{most_pins, place_of, spot_at, place_at, place_in, spot_by, spots_from, spots_too_near}
 use Rattle.board.proofs.Flat.{same_or_not}
 
 module _ (xs ys : List ℤ) (ts : List Bool) where
@@ -81,3 +82,15 @@ module _ (xs ys : List ℤ) (ts : List Bool) (lx : length xs ≡ most_pins) (ly 
   spots_set =
       spots_are (set xs i x) (set ys i y) (set ts i t) (set (spots_from xs ys ts) i (spot_by t x y)) (simp length-set (spots_many xs ys ts))
       (λ j h. set_at_either j h (same_or_not i j))
+
+module _ (xs ys : List ℤ) (ts : List Bool) (at : Place) (p i : ℕ) where
+  -- Where a pin is taken away, none at its number is too near,
+  pub near_itself : i < most_pins → i ≡ p → false ≡ spots_too_near (At at) (spot_at (set (spots_from xs ys ts) p Absent) i)
+  unfolding spots_too_near
+  near_itself h e =
+      let m = spots_many xs ys ts in
+      rw (e, get_or-set_same (spots_from xs ys ts) p Absent Absent (omega arith))
+
+  -- and at another number one is too near if it was.
+  pub near_other : {t : Bool} → (i ≡ p → ⊥) → t ≡ spots_too_near (At at) (spot_at (spots_from xs ys ts) i) → t ≡ spots_too_near (At at) (spot_at (set (spots_from xs ys ts) p Absent) i)
+  near_other n e = rw (get_or-set_other (spots_from xs ys ts) p i Absent Absent n) e

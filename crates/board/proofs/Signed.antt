@@ -237,7 +237,7 @@ same_bits {a} {b} fa fb =
 
 -- A number that an i32 holds is read as it is.
 pub held : (z : ℤ) → I32 z → rd z ≡ z
-held z h = to_z-of_z (record { sfits = h })
+held z h = to_z-of_z {w = w32} (record { sfits = h })
 
 -- What the code's complement of a negative number comes to.
 pub flipped : (z : ℤ) → SFits w32 z → lt_z (rd z) (pos 0) ≡ true → to_z w32 (4294967295 - of_z w32 z) ≡ pos (4294967295 - of_z w32 z)

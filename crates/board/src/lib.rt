@@ -1,4 +1,6 @@
 // The board: places, its range, how far numbers are apart, when two places are too near, what stands at each pin number, and the rules that pins keep.
+#![tactic(auto)]
+
 pub mod spots;
 
 ghost use Rattle.std.specs.Prelude.{◌≡◌};
@@ -11,7 +13,7 @@ pub const LIMIT: i32 = 60000;
 pub const LEAST_GAP: u64 = 20;
 
 // A place on the grid, in grid steps; y grows upwards.
-#[derive(Drop)]
+#[derive(Clone, Copy)]
 pub struct Place {
     pub x: i32,
     pub y: i32,
@@ -84,7 +86,7 @@ pub fn same_place(a: Place, b: Place) -> bool
 pub const PINS: usize = 32;
 
 // What stands at a pin's number, as definitions speak of it: nothing, or a pin at a place. Code has it in three lists (`spots`).
-#[derive(Drop)]
+#[derive(Clone, Copy)]
 pub enum Spot {
     Absent,
     At(Place),

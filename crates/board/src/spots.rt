@@ -72,6 +72,7 @@ pub fn too_near_any(
 }
 
 // Whether a pin stands at this number, which is not `pin`, too near to a place.
+#[tactic(auto, using(crate::proofs::Lent::near_itself, crate::proofs::Lent::near_other))]
 fn is_near_other(
     xs: &[i32; PINS],
     ys: &[i32; PINS],

@@ -1,4 +1,6 @@
 // Tries 28 on desks broken by hand, one or more for each way that the rules list: every call on each of them, on the whole desk that they were made from, and on it with its unused parts changed.
+#![tactic(auto)]
+
 use board::{LIMIT, PINS, Place};
 use copper::Favour;
 use desk::{Answered, Desk};

@@ -1,4 +1,6 @@
 // The desk: its seats and its journal, whether it is broken, and the calls that change it: each takes it as it stands and hands back the desk that follows.
+#![tactic(auto)]
+
 ghost use Rattle.std.specs.Prelude.{◌≡◌, false, ◌++◌, ◌≤◌};
 ghost use Rattle.refusal.specs.Rows.{first_of};
 ghost use Rattle.edits.specs.declared.stated.Making.TheVariants.{Placing, Moving, Removing};
@@ -21,7 +23,7 @@ use rows::Found;
 use seats::Seat;
 
 // A desk: its seats, and the journal that they share, of which the first `used` records are in use.
-#[derive(Drop)]
+#[derive(Clone, Copy)]
 pub struct Desk {
     pub seats: [Seat; SEATS],
     pub journal: [Record; RECORDS],
@@ -29,7 +31,7 @@ pub struct Desk {
 }
 
 // What a call hands back: the desk that follows, and the answer.
-#[derive(Drop)]
+#[derive(Clone, Copy)]
 pub struct Answered {
     pub desk: Desk,
     pub verdict: Verdict,

@@ -1,4 +1,6 @@
 // Drawings: the pins of one, what stands at each pin number, the feed of each net, and the rules that they keep.
+#![tactic(auto)]
+
 ghost use Rattle.std.specs.Prelude.{◌≡◌, map};
 ghost use Rattle.basics.specs.Tests.{each_of};
 ghost use Rattle.board.specs.Spots.{crowded};
@@ -11,7 +13,7 @@ use board::{PINS, Place, spots};
 pub const NETS: u32 = 8;
 
 // What a pin holds: its place, its net and its part number.
-#[derive(Drop)]
+#[derive(Clone, Copy)]
 pub struct Held {
     pub place: Place,
     pub net: u32,
@@ -19,20 +21,20 @@ pub struct Held {
 }
 
 // A pin is absent, or there with what it holds.
-#[derive(Drop)]
+#[derive(Clone, Copy)]
 pub enum Stand {
     Absent,
     There(Held),
 }
 
 // What a drawing has at one pin number.
-#[derive(Drop)]
+#[derive(Clone, Copy)]
 pub struct Pin {
     pub stand: Stand,
 }
 
 // What stands at each pin number of a drawing, or of the feed of a net, told by lists of x, of y and of whether a pin is there.
-#[derive(Drop)]
+#[derive(Clone, Copy)]
 pub struct SpotLists {
     pub xs: [i32; PINS],
     pub ys: [i32; PINS],

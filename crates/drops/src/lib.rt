@@ -1,4 +1,6 @@
 // Volts lost on the way to each pin: the currents of the runs, the drops of the pins. Everything is f32, one rounding an operation.
+#![tactic(auto)]
+
 ghost use Rattle.std.specs.Prelude.{◌≡◌, true, ◌≤◌, ◌*◌, length, take};
 ghost use Rattle.basics.specs.Lists.{padded};
 ghost use Rattle.board.specs.Place.{limit, distance_of};
@@ -16,7 +18,7 @@ use refusal::Verdict;
 use tree::{RUNS, Run};
 
 // What is answered: the verdict, and the drop of each pin number.
-#[derive(Drop)]
+#[derive(Clone, Copy)]
 pub struct Lost {
     pub verdict: Verdict,
     pub drops: [f32; PINS],

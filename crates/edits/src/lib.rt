@@ -1,4 +1,6 @@
 // Edits of a drawing: what one makes of the pins, what taking it back makes of them, and whether one can be made or could have been.
+#![tactic(auto)]
+
 pub mod stated;
 
 ghost use Rattle.std.specs.Prelude.{◌≡◌};
@@ -11,7 +13,7 @@ use board::{PINS, Place, spots};
 use drawing::{Held, Pin, Stand};
 
 // An edit of a drawing, with what is needed to take it back. Its pin number takes a byte: the journal holds 256 edits.
-#[derive(Drop)]
+#[derive(Clone, Copy)]
 pub enum Edit {
     Placed(u8, Held),
     Moved(u8, Place, Place),

@@ -9,7 +9,7 @@ use board::{PINS, Place};
 use drawing::{Held, Pin};
 
 // What a call that makes an edit states: a pin placed with what it holds, moved to a place, or removed.
-#[derive(Drop)]
+#[derive(Clone, Copy)]
 pub enum Making {
     Placing(usize, Held),
     Moving(usize, Place),

@@ -124,6 +124,7 @@ currents_under amps (r ∷ runs) loads low =
 under_most : (currents : List Float) (bounds : List ℕ) → EachUnder currents bounds → each_of (λ (b : ℕ). leb b most_current) bounds ≡ true
     → (c : Float) → Among c currents → AtMost c most_current
 unfolding EachUnder
+under_most [] bounds h low c m = elim m [ ]
 under_most (d ∷ currents) [] h low c m = absurd h
 under_most (d ∷ currents) (b ∷ bounds) h low c (first e) =
     subst (λ (z : Float). AtMost z most_current) (sym e)

@@ -40,6 +40,7 @@ Parted reached left = (p : ℕ) → Among p reached → Among p left → ⊥
 
 -- The first pin is none of the others,
 pub parted_first : {f : ℕ} {left : List ℕ} → Distinct (f ∷ left) → Parted (f ∷ []) left
+parted_first {left = left} (also out d) p (later n) m = elim n [ ]
 parted_first {left = left} (also out d) p (first z) m = out (subst (λ (a : ℕ). Among a left) z m)
 
 -- and so it is after each run.

@@ -1,4 +1,6 @@
 // Moving a map from one form to the other: over, from the old to the new, and back. No desk is needed.
+#![tactic(auto)]
+
 ghost use Rattle.std.specs.Prelude.{◌≡◌};
 ghost use Rattle.basics.specs.Tests.{each_of};
 ghost use Rattle.refusal.specs.Rows.{first_of};

@@ -18,7 +18,7 @@ use Rattle.desk.specs.declared.Desk.{Desk}
 use Rattle.rows.specs.Calls.{Call}
 use Rattle.desk.specs.Desk.{seat_of, in_use, edits_of, standing_of, taken_back_of, sound, step}
 use Rattle.desk.proofs.Sound.{eight_seats, whole_journal, used_within, all_seated_lem, jobs_apart_lem, closed_owns_none, closed_stands_none, job_not_zero, standing_within, pins_lawful, standing_takeable, taken_back_replayable}
-use Rattle.history.specs.History.{Past, closed, opened, edits_in, past_of, used_in, past_after, history, after, answers, answers_in}
+use Rattle.history.specs.History.{Past, closed, edits_in, past_of, used_in, past_after, history, after, answers, answers_in}
 use Rattle.history.specs.AsPast.{DeskAsPast, open_past, past_at, pasts_below, history_of}
 use Rattle.history.proofs.Stood.{Traced, traced}
 use Rattle.history.proofs.Sane.{sane, Sane, sane_after, sane_history}

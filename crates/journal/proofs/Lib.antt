@@ -8,3 +8,4 @@ pub mod Cut
 pub mod Passing
 mod Dropping
 mod Worked
+mod Sought

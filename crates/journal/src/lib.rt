@@ -1,4 +1,6 @@
 // The journal: the records of all seats, counting and finding a seat's own, dropping and appending.
+#![tactic(auto)]
+
 ghost use Rattle.std.specs.Prelude.{◌≡◌, ◌<◌, ◌≤◌, reverse, get_or, length, set, take};
 ghost use Rattle.journal.specs.Journal.{most_records, no_edit, blank, own, counts_of, kept, compacted, seated};
 
@@ -12,14 +14,14 @@ pub const RECORDS: usize = 256;
 pub const SEATS: usize = 8;
 
 // A journal record: its seat and one edit of the drawing there.
-#[derive(Drop)]
+#[derive(Clone, Copy)]
 pub struct Record {
     pub seat: usize,
     pub edit: Edit,
 }
 
 // A journal with the number of its records in use.
-#[derive(Drop)]
+#[derive(Clone, Copy)]
 pub struct Compacted {
     pub journal: [Record; RECORDS],
     pub used: usize,
@@ -81,6 +83,7 @@ pub fn counts_of(journal: [Record; RECORDS], used: usize) -> [usize; SEATS]
 }
 
 // The seat's edit that has `later` of its edits after it: with none, the newest of that seat.
+#[tactic(auto, using(crate::proofs::Sought::sought_here, crate::proofs::Sought::sought_after, crate::proofs::Sought::sought_other))]
 pub fn edit_of(journal: [Record; RECORDS], used: usize, seat: usize, later: usize) -> Edit
     requires { used ≤ most_records }
     ensures { result ≡ get_or (reverse (own seat (take used journal))) later no_edit }

@@ -1,4 +1,6 @@
 // Laying runs in copper: what the best shapes of the runs cost, the run entries that a mask of shapes gives, and the legs of these.
+#![tactic(auto)]
+
 ghost use Rattle.std.specs.Prelude.{◌≡◌, ◌≤◌, ◌<◌, take};
 ghost use Rattle.board.specs.Spots.{place_in, spots_from};
 ghost use Rattle.tree.specs.Trees.{most_runs};
@@ -15,7 +17,7 @@ use tree::{RUNS, Run};
 pub const LEGS: usize = 2 * RUNS;
 
 // A run entry of the answer: near, far, shape.
-#[derive(Drop)]
+#[derive(Clone, Copy)]
 pub struct RunEntry {
     pub near: usize,
     pub far: usize,
@@ -23,7 +25,7 @@ pub struct RunEntry {
 }
 
 // A list of legs, with their number.
-#[derive(Drop)]
+#[derive(Clone, Copy)]
 pub struct Strip {
     pub count: usize,
     pub list: [Leg; LEGS],

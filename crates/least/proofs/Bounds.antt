@@ -32,15 +32,15 @@ pub lesser_low : (t : Bool) (x y : ℕ) → lesser_of t x y ≤ x
 lesser_low true x y = omega arith
 lesser_low false x y = omega arith
 
-module _ (at : ℕ → Place) (near : ℕ → ℕ) (favoured : Bool) (on_board_lem : (i : ℕ) → inside (at i) ≡ true) where
+module _ (at : ℕ → Place) (near : ℕ → ℕ) (favoured : Bool) (on_board : (i : ℕ) → inside (at i) ≡ true) where
   -- A pin costs at most so much for each run below it, and what it owes itself.
   pub cost_most : (k i next : ℕ) (t : Tally) → Modest t → pin_cost at near favoured k i next t ≤ size_from near k i next * each + most
   unfolding pin_cost best size_from
   cost_most zero i next t m = omega (arith, modest_owed m)
   cost_most (suc k) i next t m =
       go (eqb (near next) i) (size_from near k (suc next) (suc next)) (size_from near k i (suc next))
-      (cost_most k (suc next) (suc next) (first_tally at near (suc next) false) (modest_first at near on_board_lem (suc next) false))
-      (cost_most k i (suc next) (next_tally at near t next false) (modest_next at near on_board_lem t next false m))
+      (cost_most k (suc next) (suc next) (first_tally at near (suc next) false) (modest_first at near on_board (suc next) false))
+      (cost_most k i (suc next) (next_tally at near t next false) (modest_next at near on_board t next false m))
       (cost_most k i (suc next) t m)
     where
       b : Bool
@@ -58,13 +58,13 @@ module _ (at : ℕ → Place) (near : ℕ → ℕ) (favoured : Bool) (on_board_l
       go false p q e f g = unfold choose in g
 
 -- Where no more than so much is kept for a run, a pin costs at most so much for each run to come, and what it owes itself.
-module _ (at : ℕ → Place) (near : ℕ → ℕ) (on_board_lem : (i : ℕ) → inside (at i) ≡ true) (cost : ℕ → Bool → ℕ) (fits : (r : ℕ) (u : Bool) → cost r u ≤ most_kept) where
+module _ (at : ℕ → Place) (near : ℕ → ℕ) (on_board : (i : ℕ) → inside (at i) ≡ true) (cost : ℕ → Bool → ℕ) (fits : (r : ℕ) (u : Bool) → cost r u ≤ most_kept) where
   pub kept_most : (k i next : ℕ) (t : Tally) → Modest t → cost_kept at near cost k i next t ≤ k * most_kept + most
   unfolding cost_kept
   kept_most zero i next t m = omega (arith, modest_owed m)
   kept_most (suc k) i next t m =
       go (eqb (near next) i)
-      (kept_most k i (suc next) (next_tally at near t next false) (modest_next at near on_board_lem t next false m))
+      (kept_most k i (suc next) (next_tally at near t next false) (modest_next at near on_board t next false m))
       (kept_most k i (suc next) t m)
     where
       b : Bool

@@ -73,7 +73,7 @@ module _ (xs ys : List ℤ) (nears : List ℕ) (n i : ℕ) where
 
     -- The shapes of its runs can be weighed.
     pub weighs : (v : Bool) (s : Tally) → s ≡ first_tally at near i v → Weighable xs ys nears lower upper n s
-    weighs v s e = record { grown = c.grown; fits = c.fits; modest = rw e (modest_first at near c.grown.on_board_lem i v) }
+    weighs v s e = record { grown = c.grown; fits = c.fits; modest = rw e (modest_first at near c.grown.on_board i v) }
 
     module _ (f : Least) (s : Tally) (es : s ≡ first_tally at near i false) (ef : f ≡ least_kept at near cost n i i s) where
       -- A pin that a straight run reached, or none.
@@ -121,7 +121,7 @@ module _ (xs ys : List ℤ) (nears : List ℕ) (n i : ℕ) where
         omega (
           arith,
           a.small,
-          cost_most at near favoured a.grown.on_board_lem (n - i) i i (first_tally at near i v) (modest_first at near a.grown.on_board_lem i v),
+          cost_most at near favoured a.grown.on_board (n - i) i i (first_tally at near i v) (modest_first at near a.grown.on_board i v),
         )
 
     -- Before the first run of a pin nothing is asked yet.
@@ -197,7 +197,7 @@ module _ (xs ys : List ℤ) (nears : List ℕ) (n i : ℕ) where
               arith,
               z.small,
               mark_small favoured v r,
-              cost_most at near favoured z.grown.on_board_lem (n - (r + 1)) (r + 1) (r + 1) (first_tally at near (r + 1) v) (modest_first at near z.grown.on_board_lem (r + 1) v),
+              cost_most at near favoured z.grown.on_board (n - (r + 1)) (r + 1) (r + 1) (first_tally at near (r + 1) v) (modest_first at near z.grown.on_board (r + 1) v),
             )
 
         -- .. is kept for the run ..

@@ -77,14 +77,14 @@ pub modest_owed : {t : Tally} → Modest t → owed t ≤ 8 * limit
 unfolding owed spread
 modest_owed m = omega arith
 
-module _ (at : ℕ → Place) (near : ℕ → ℕ) (on_board_lem : (i : ℕ) → inside (at i) ≡ true) where
+module _ (at : ℕ → Place) (near : ℕ → ℕ) (on_board : (i : ℕ) → inside (at i) ≡ true) where
   -- What a pin of the board shows is modest, before any run leads on ..
   pub modest_first : (i : ℕ) (u : Bool) → Modest (first_tally at near i u)
   unfolding first_tally spread
   modest_first zero u = record { short = omega arith; paid = omega arith }
   modest_first (suc r) u =
-      let a = ours (at (near r)) (on_board_lem (near r)) in
-      let b = ours (at (suc r)) (on_board_lem (suc r)) in
+      let a = ours (at (near r)) (on_board (near r)) in
+      let b = ours (at (suc r)) (on_board (suc r)) in
       let shape = shape_of u (at (near r)) (at (suc r)) in
       bounded_reached u (at (near r)) (at (suc r)) (held a) (held b) (2 * limit)
       (arms_board (at (suc r)) (corner_of shape (at (suc r)) (at (near r))) b (corner_ours shape (at (suc r)) (at (near r)) b a))
@@ -93,8 +93,8 @@ module _ (at : ℕ → Place) (near : ℕ → ℕ) (on_board_lem : (i : ℕ) →
   pub modest_next : (t : Tally) (r : ℕ) (u : Bool) → Modest t → Modest (next_tally at near t r u)
   unfolding next_tally
   modest_next t r u m =
-      let a = ours (at (near r)) (on_board_lem (near r)) in
-      let b = ours (at (suc r)) (on_board_lem (suc r)) in
+      let a = ours (at (near r)) (on_board (near r)) in
+      let b = ours (at (suc r)) (on_board (suc r)) in
       let shape = shape_of u (at (near r)) (at (suc r)) in
       bounded_leading u (at (near r)) (at (suc r)) (held a) (held b) (2 * limit) t m
       (arms_board (at (near r)) (corner_of shape (at (near r)) (at (suc r))) a (corner_ours shape (at (near r)) (at (suc r)) a b))

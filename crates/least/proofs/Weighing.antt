@@ -115,7 +115,7 @@ module _ (xs ys : List ℤ) (nears lower upper : List ℕ) (n : ℕ) (t : Tally)
 
   -- With a run more in either shape the later runs can be weighed.
   pub asks_on : (r : ℕ) (u : Bool) (s : Tally) → s ≡ next_tally at near t r u → Weighable xs ys nears lower upper n s
-  asks_on r u s e = record { grown = w.grown; fits = w.fits; modest = rw e (modest_next at near w.grown.on_board_lem t r u w.modest) }
+  asks_on r u s e = record { grown = w.grown; fits = w.fits; modest = rw e (modest_next at near w.grown.on_board t r u w.modest) }
 
   -- What is found of the later runs.
   module _ (r : ℕ) (l : r < n) (i : ℕ) (f : Least) (s : Tally) (g : f ≡ least_kept at near cost n i (r + 1) s) where
@@ -124,7 +124,7 @@ module _ (xs ys : List ℤ) (nears lower upper : List ℕ) (n : ℕ) (t : Tally)
     unfolding least_kept KeptFits
     sum_fits u v e =
         let c : f.cost ≡ cost_kept at near cost (n - (r + 1)) i (r + 1) s = ap (λ (z : Least). z.cost) g in
-        let m = kept_most at near w.grown.on_board_lem cost w.fits (n - (r + 1)) i (r + 1) s (asks_on r v s e).modest in
+        let m = kept_most at near w.grown.on_board cost w.fits (n - (r + 1)) i (r + 1) s (asks_on r v s e).modest in
         omega (arith, c, m, w.fits r u, w.grown.few)
 
     -- With the run in one shape there are as many choices as without it, at most so many.

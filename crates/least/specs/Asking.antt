@@ -150,7 +150,7 @@ Modest tally = Bounded (2 * limit) tally
 pub record Grown (xs ys : List ℤ) (near : List ℕ) (count : ℕ) : Type 0 where
   pub few : count ≤ most_runs
   pub near_first : (r : ℕ) → r < count → near_pin near r ≤ r
-  pub on_board_lem : (i : ℕ) → inside (place_in xs ys i) ≡ true
+  pub on_board : (i : ℕ) → inside (place_in xs ys i) ≡ true
 
 -- So much, or less, is kept for a run: the costs of 31 runs, and what a pin owes, still fit a number together.
 abbrev pub most_kept : ℕ

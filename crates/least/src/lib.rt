@@ -1,5 +1,7 @@
 // The least cost of a tree's shapes: what a pin costs is asked of the runs below it, and what a run costs of the pin at its far end.
 // Pins are numbered by when they were reached: run r reaches pin r + 1 from pin near[r]. A shape is a bool: false is lower, true is upper.
+#![tactic(auto)]
+
 ghost use Rattle.std.specs.Prelude.{◌≡◌, ◌+◌, ◌-◌, ◌≤◌, ◌<◌};
 ghost use Rattle.board.specs.Spots.{most_pins, place_in};
 ghost use Rattle.tree.specs.Trees.{most_runs};
@@ -15,7 +17,7 @@ use tree::RUNS;
 pub const BASE: u64 = 2147483648;
 
 // What a pin, or a run, answers: the least cost for either shape, and the choices that were weighed for it.
-#[derive(Drop)]
+#[derive(Clone, Copy)]
 pub struct Asked {
     pub lower: u64,
     pub upper: u64,
@@ -23,21 +25,21 @@ pub struct Asked {
 }
 
 // What is found at a pin: the least cost, and the choices that were weighed there.
-#[derive(Drop)]
+#[derive(Clone, Copy)]
 pub struct Least {
     pub cost: u64,
     pub weighed: u64,
 }
 
 // Where a run begins, and where it ends.
-#[derive(Drop)]
+#[derive(Clone, Copy)]
 pub struct Ends {
     pub near: Place,
     pub far: Place,
 }
 
 // Where weighing stands: at a pin, with the runs from number `run` on to come, of so many in all.
-#[derive(Drop)]
+#[derive(Clone, Copy)]
 pub struct Below {
     pub pin: usize,
     pub run: usize,

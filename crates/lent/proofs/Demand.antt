@@ -21,4 +21,4 @@ filled_begins strip lent e = take_at (take strip.count strip.list) _ strip.count
 -- With the legs in such a list the answer is what is demanded.
 pub filled_best : {favoured : Bool} {feed : List Spot} {laid : Laid} → BestWiring favoured feed laid → (lent : List Leg)
     → BestWiring favoured feed (record { wiring = laid.wiring; list = filled_with (strip_of laid) lent })
-filled_best {laid = laid} b lent = best_in_list (filled_with (strip_of laid) lent) (filled_begins (strip_of laid) lent b.leg_count_lem) b
+filled_best {laid = laid} b lent = best_in_list (filled_with (strip_of laid) lent) (filled_begins (strip_of laid) lent b.leg_count) b

@@ -3,4 +3,3 @@ pub mod Filling
 pub mod Fitting
 pub mod Untouched
 pub mod Demand
-pub mod Calling

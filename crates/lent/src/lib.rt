@@ -1,4 +1,6 @@
 // The list that a host lends: filled with the legs of an answer or its segments, later entries unchanged.
+#![tactic(auto)]
+
 ghost use Rattle.std.specs.Prelude.{◌≡◌, ◌≤◌, ◌<◌, length, get_or};
 ghost use Rattle.laying.specs.Entries.{most_legs, no_leg};
 ghost use Rattle.lent.specs.Lent.{strip_of, filled_with};

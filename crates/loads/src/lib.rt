@@ -1,4 +1,6 @@
 // What pins draw and the board sheet that feeds them: loads, their ranges and what they are in amps. Everything is f32, one rounding an operation.
+#![tactic(auto)]
+
 ghost use Rattle.std.specs.Prelude.{◌≡◌, List, ℤ};
 ghost use Rattle.board.specs.Spots.{spots_from};
 ghost use Rattle.tree.specs.Growth.{pins_of};
@@ -7,14 +9,14 @@ ghost use Rattle.loads.specs.Loads.{is_from, sheet_fits, load_fits, loads_fit, a
 use board::PINS;
 
 // A board sheet: supply volts, and ohms per step.
-#[derive(Drop)]
+#[derive(Clone, Copy)]
 pub struct Sheet {
     pub volts: f32,
     pub ohms: f32,
 }
 
 // A load: so many amps, so many watts, or none.
-#[derive(Drop)]
+#[derive(Clone, Copy)]
 pub enum Load {
     Amps(f32),
     Watts(f32),
@@ -22,12 +24,13 @@ pub enum Load {
 }
 
 // The load of one pin number.
-#[derive(Drop)]
+#[derive(Clone, Copy)]
 pub struct Loaded {
     pub load: Load,
 }
 
 // Whether a number is from `low` to `high`, both included; a NaN is in no range.
+#[tactic(auto, unfolding(crate::specs::Loads::is_from, basics::specs::Tests::both))]
 fn is_from(low: f32, number: f32, high: f32) -> bool
     ensures { result ≡ is_from low number high }
 {

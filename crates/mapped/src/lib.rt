@@ -1,4 +1,6 @@
 // What the program wiremap answers to its input, as bytes in a lent buffer.
+#![tactic(auto)]
+
 ghost use Rattle.std.specs.Prelude.{◌≡◌, true, ◌≤◌, length, replicate};
 ghost use Rattle.drawing.specs.Pins.{lawful, feed_of};
 ghost use Rattle.copper.specs.declared.Favour.TheVariants.{Lower};

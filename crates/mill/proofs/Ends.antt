@@ -1,7 +1,7 @@
 -- A clean list that covers no steps but those of legs of the board lies on the board: its segments begin and end where such steps do. From legs on the board.
 use mathlib.Core.Path.{◌≡◌, refl, sym, ap, ap₂, ◌∙◌}
 use mathlib.Core.Bool.{Bool, true, false}
-use mathlib.Core.List.{List, ◌∷◌, map}
+use mathlib.Core.List.{List, [], ◌∷◌, map}
 use Prim.Native.Nat.{ℕ, zero, suc, ◌+◌, ◌-◌, ◌≤◌, ◌<◌}
 use native.Mathlib.Omega.{arith}
 use lib.IntN.{ℤ, pos, negsuc, ◌+ℤ◌, +ℤ_assoc, +ℤ_idr}
@@ -118,6 +118,7 @@ lined_step n {s} h (lined row line a b f e) =
 
 -- with one that the spans of legs of the board cover,
 covered_step : (n : ℕ) (legs : List Leg) → each_of is_inside legs ≡ true → Covered n (map span_of legs) → OnBoard (step_at n)
+covered_step n [] on h = elim h [ ]
 covered_step n (l ∷ ls) on (Spans.here h) = lined_step n h (leg_lined l (each_first is_inside l ls on) (omega (arith, h.from, h.below)))
 covered_step n (l ∷ ls) on (Spans.later h) = covered_step n ls (each_rest is_inside l ls on) h
 

@@ -16,3 +16,4 @@ pub mod Cutting
 pub mod Wired
 pub mod Answering
 pub mod Demand
+pub mod Room

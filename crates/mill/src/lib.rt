@@ -1,4 +1,6 @@
 // The copper of a wired feed as a clean list of segments for the mill.
+#![tactic(auto)]
+
 ghost use Rattle.std.specs.Prelude.{◌≡◌, true, [], map, ◌++◌, ◌*◌, ◌≤◌, ◌<◌, take, drop};
 ghost use Rattle.basics.specs.Tests.{each_of};
 ghost use Rattle.board.specs.Place.{on_board, inside};
@@ -22,14 +24,14 @@ const WIDTH: usize = 131072;
 const COLUMNS: usize = WIDTH * WIDTH;
 
 // The answer of milling: its verdict and the number of segments.
-#[derive(Drop)]
+#[derive(Clone, Copy)]
 pub struct Milling {
     pub verdict: Verdict,
     pub segments: usize,
 }
 
 // The answer with the list of its segments by value.
-#[derive(Drop)]
+#[derive(Clone, Copy)]
 pub struct Cut {
     pub milling: Milling,
     pub list: [Leg; LEGS],
@@ -187,6 +189,7 @@ pub fn strip_of(cut: Cut) -> Strip
 }
 
 // The copper as segments of a feed whose pins stand on the board, no two of them too near, with room for so many, where this is said of the shape to favour.
+#[tactic(auto, using(crate::proofs::Room::room_short))]
 pub fn mill_feed(
     xs: &[i32; PINS],
     ys: &[i32; PINS],

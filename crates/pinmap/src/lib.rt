@@ -1,4 +1,6 @@
 // What a pin map is: its two forms, how many bytes a record and a map of each have, and the numbers in a record.
+#![tactic(auto)]
+
 pub mod numbers;
 
 ghost use Rattle.std.specs.Prelude.{◌≡◌};
@@ -13,7 +15,7 @@ pub const OLD_BYTES: usize = 12;
 pub const NEW_BYTES: usize = 16;
 
 // The form of a map: the old, of pins without net and part number, or the new.
-#[derive(Drop)]
+#[derive(Clone, Copy)]
 pub enum Form {
     Old,
     New,

@@ -1,4 +1,6 @@
 // What the pins of a drawing say of an edit that a call states: whether one of the refusals 6, 7, 21, 8 and 9 turns it away.
+#![tactic(auto)]
+
 ghost use Rattle.std.specs.Prelude.{◌≡◌};
 ghost use Rattle.refusal.specs.Rows.{first_of};
 ghost use Rattle.edits.specs.declared.stated.Making.TheVariants.{Placing, Moving, Removing};

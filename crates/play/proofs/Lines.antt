@@ -12,6 +12,7 @@ use Rattle.answer.specs.Answered.{played, answered}
 use Rattle.answer.proofs.Answering.{long_played, long_answered}
 use Rattle.play.specs.Log.{Log, next_line, longer, heard, stopped, last_heard, log_after}
 use Rattle.play.specs.Lines.{lines_in, lines_of, played_all}
+use Rattle.play.specs.Answers.{line_answer, heard_answers, last_answers, answers_after, answers_of}
 use Rattle.play.proofs.Hearing.{cut_once}
 
 -- A line that is kept only as far as is enough to read it makes of the desk what the whole line does,
@@ -128,3 +129,69 @@ all_told ended input d out =
     let t = told ended input [] (start_of d out) 0 refl refl in
     let e : lines_in ended (grown [] (pieces newline input)) ≡ lines_of ended input = rw (some input).are in
     (t.desk ∙ ap (played_all d) e, t.count ∙ ap (λ (w : List (List ℕ)). (0 + length w) % 2 ^ 64) e ∙ ap (λ (x : ℕ). x % 2 ^ 64) (omega arith))
+
+-- ---- the answers
+
+-- The answer to the line that is kept is that to the whole line.
+answer_told : (part : List ℕ) (l : Log) (n : ℕ) → l.line ≡ take most_kept part → l.lines ≡ n % 2 ^ 64 → line_answer l ≡ answered l.desk ((n + 1) % 2 ^ 64) part
+answer_told part l n h k =
+    ap (λ (m : ℕ). answered l.desk m l.line) (counted n k) ∙ ap (answered l.desk ((n + 1) % 2 ^ 64)) h ∙ clipped_answer l.desk ((n + 1) % 2 ^ 64) part
+
+-- At the end of what there is.
+answers_end : (ended : Bool) (part : List ℕ) (l : Log) (n : ℕ) → l.line ≡ take most_kept part → l.lines ≡ n % 2 ^ 64
+    → choose ended (last_answers l) [] ≡ answers_of l.desk n (lines_in ended (part ∷ []))
+unfolding lines_in answers_of both choose last_answers
+answers_end false part l n h k = refl
+answers_end true [] l n h k = ap (λ (w : List ℕ). choose (eqb (length w) 0) [] (line_answer l)) h
+answers_end true (b ∷ p) l n h k =
+    let e : eqb (length l.line) 0 ≡ false = ap (λ (w : List ℕ). eqb (length w) 0) h ∙ eqb-suc-zero (length (take (most_kept - 1) p)) in
+    let f : lines_in true ((b ∷ p) ∷ []) ≡ (b ∷ p) ∷ [] = ap (λ (t : Bool). choose (not t) ((b ∷ p) ∷ []) []) (eqb-suc-zero (length p)) in
+    ap (λ (t : Bool). choose t [] (line_answer l)) e
+    ∙ answer_told (b ∷ p) l n h k
+    ∙ sym (append-nil (answered l.desk ((n + 1) % 2 ^ 64) (b ∷ p)))
+    ∙ sym (ap (answers_of l.desk n) f)
+
+-- At a newline.
+answers_newline : (ended : Bool) (part : List ℕ) (q : List (List ℕ)) (l : Log) (n : ℕ) {rest : List ℕ} → Some q → l.line ≡ take most_kept part → l.lines ≡ n % 2 ^ 64
+    → rest ≡ answers_of (played l.desk l.line) (n + 1) (lines_in ended (grown [] q))
+    → line_answer l ++ rest ≡ answers_of l.desk n (lines_in ended (grown part ([] ∷ q)))
+unfolding lines_in answers_of grown
+answers_newline ended part q l n {rest} s h k t =
+    let x : List (List ℕ) = lines_in ended (s.first ∷ s.rest) in
+    let e : lines_in ended (grown [] q) ≡ x = ap (λ (w : List (List ℕ)). lines_in ended (grown [] w)) s.are in
+    let f : lines_in ended (grown part ([] ∷ q)) ≡ part ∷ x =
+    ap (λ (w : List (List ℕ)). lines_in ended (grown part ([] ∷ w))) s.are ∙ ap (λ (w : List ℕ). w ∷ x) (append-nil part) in
+    let g : played l.desk l.line ≡ played l.desk part = ap (played l.desk) h ∙ clipped_played l.desk part in
+    ap (λ (w : List ℕ). w ++ rest) (answer_told part l n h k)
+    ∙ ap (λ (w : List ℕ). answered l.desk ((n + 1) % 2 ^ 64) part ++ w)
+    (t ∙ ap (answers_of (played l.desk l.line) (n + 1)) e ∙ ap (λ (d : Desk). answers_of d (n + 1) x) g)
+    ∙ sym (ap (answers_of l.desk n) f)
+
+-- Input taken in, byte by byte.
+answers_told : (ended : Bool) (v part : List ℕ) (l : Log) (n : ℕ) → l.line ≡ take most_kept part → l.lines ≡ n % 2 ^ 64
+    → answers_after l v ended ≡ answers_of l.desk n (lines_in ended (grown part (pieces newline v)))
+unfolding heard heard_answers answers_after pieces grown choose
+answers_told ended [] part l n h k =
+    rw (append-nil part) (answers_end ended part l n h k)
+answers_told ended (b ∷ v) part l n h k = by (eqb b newline) (answers_told ended v)
+  where
+    by : (t : Bool)
+        → ((part : List ℕ) (l : Log) (n : ℕ) → l.line ≡ take most_kept part → l.lines ≡ n % 2 ^ 64
+        → answers_after l v ended ≡ answers_of l.desk n (lines_in ended (grown part (pieces newline v))))
+        → choose t (line_answer l ++ heard_answers (next_line l) v) (heard_answers (longer l (b ∷ [])) v)
+        ++ choose ended (last_answers (heard (choose t (next_line l) (longer l (b ∷ []))) v)) []
+        ≡ answers_of l.desk n (lines_in ended (grown part (choose t ([] ∷ pieces newline v) (before_first b (pieces newline v)))))
+    by true step =
+        append_assoc (line_answer l) (heard_answers (next_line l) v) (choose ended (last_answers (heard (next_line l) v)) [])
+        ∙ answers_newline ended part (pieces newline v) l n (some v) h k (step [] (next_line l) (n + 1) refl (counted n k))
+    by false step =
+        rw (← grown_more part b (pieces newline v) (some v))
+        (step (part ++ (b ∷ [])) (longer l (b ∷ [])) n (ap (λ (w : List ℕ). take most_kept (w ++ (b ∷ []))) h ∙ cut_once most_kept part (b ∷ [])) k)
+
+-- From the start on.
+pub all_answers : (ended : Bool) (input : List ℕ) (d : Desk) (out : List ℕ)
+    → answers_after (start_of d out) input ended ≡ answers_of d 0 (lines_of ended input)
+unfolding lines_of grown
+all_answers ended input d out =
+    answers_told ended input [] (start_of d out) 0 refl refl
+    ∙ ap (λ (w : List (List ℕ)). answers_of d 0 (lines_in ended w)) (rw (some input).are)

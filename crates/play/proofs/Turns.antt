@@ -1,5 +1,5 @@
 -- What the steps of a session make of its log. Assumes nothing.
-use Rattle.std.proofs.Common.{◌≡◌, ℕ, ◌+◌, ◌-◌, ◌%◌, ◌^◌, ◌<◌, ◌≤◌, min, Bool, true, false, eqb, ltb, List, [], ◌∷◌, length, take, drop, set, sym, refl, ap, ◌∙◌, arith, drop_of_length-le, length-take, le-ltb, lt-ltb}
+use Rattle.std.proofs.Common.{◌≡◌, ℕ, ◌+◌, ◌-◌, ◌%◌, ◌^◌, ◌<◌, ◌≤◌, min, Bool, true, false, eqb, ltb, List, [], ◌∷◌, ◌++◌, length, take, drop, set, sym, refl, ap, ◌∙◌, arith, append_assoc, append-nil, drop_of_length-le, length-take, le-ltb, lt-ltb, eqb-true, subst}
 use lib.Seq.{sets, length-sets}
 use Rattle.basics.specs.Tests.{choose}
 use Rattle.text.specs.Text.{over}
@@ -10,8 +10,13 @@ use Rattle.desk.specs.declared.Desk.{Desk}
 use Rattle.answer.specs.Answered.{played, answered}
 use Rattle.play.specs.declared.Session.{Session}
 use Rattle.play.specs.Log.{Log, log_of, next_line, longer, stretched, heard, bytes_heard, window_heard, last_heard, ComesOf}
-use Rattle.play.proofs.Hearing.{stretch_at}
-use Rattle.play.proofs.Coming.{by_window, by_end}
+use Rattle.std.specs.Prelude.{Result, Ok, Err, IfOk, OnErr}
+use Rattle.std.specs.declared.option.Option.{Option}
+use Rattle.std.specs.Io.KnownBytes.{Keeps, Consumes, Appends, IsAtEnd}
+use Rattle.play.specs.Answers.{line_answer, stretched_answers, heard_answers, last_answers, answers_after, AppendsFront, Writes, Streamed, Failed}
+use Rattle.play.proofs.Passing.{takes_kept, adds_none, adds_both, front_none, front_longer, front_after}
+use Rattle.play.proofs.Hearing.{stretch_at, stretch_answers_at}
+use Rattle.play.proofs.Coming.{by_window, by_end, streamed_window, streamed_end}
 
 module _ (s : Session) (line out : List ℕ) where
   -- A line was played and the next begins.
@@ -84,3 +89,162 @@ stretch_ended l bytes {to} {n} h e = rw (lt-ltb to n h) e
 pub stretch_open : (l : Log) (bytes : List ℕ) {to n : ℕ} {m : Log} → n ≤ to → m ≡ longer l bytes → m ≡ stretched l bytes (ltb to n)
 unfolding choose
 stretch_open l bytes {to} {n} h e = rw (le-ltb to n h) e
+
+-- ---- what is written
+
+-- While a window is taken in: the answers so far, and those that are to come, are the answers to the window.
+pub record Answering (l₀ : Log) (window : List ℕ) (l : Log) (at : ℕ) (held holds : Option (List ℕ)) : Type 0 where
+  pub so_far : List ℕ
+  pub written : Appends held holds so_far
+  pub whole : so_far ++ heard_answers l (drop at window) ≡ heard_answers l₀ window
+
+-- At its start none.
+pub answering_none : (l : Log) (window : List ℕ) (held : Option (List ℕ)) → Answering l window l 0 held held
+answering_none l window held = record { so_far = []; written = adds_none held; whole = refl }
+
+module _ (s : Session) (line out window : List ℕ) (at to : ℕ) (l₀ : Log) (held mid holds : Option (List ℕ))
+    (h : s.kept ≤ most_kept) (k : at ≤ length window) (e : to ≡ stop_at newline window at) (a : Answering l₀ window (log_of s line out) at held mid) where
+  -- A stretch more was taken in, and its line answered if it ended.
+  pub answering_more : {m : Log} → m ≡ stretched (log_of s line out) (take (to - at) (drop at window)) (ltb to (length window))
+      → Appends mid holds (stretched_answers (log_of s line out) (take (to - at) (drop at window)) (ltb to (length window)))
+      → Answering l₀ window m (to + 1) held holds
+  answering_more {m} p q =
+      let short : length (take s.kept line) ≤ most_kept = omega (arith, length-take s.kept line) in
+      record {
+        so_far = a.so_far ++ stretched_answers (log_of s line out) (take (to - at) (drop at window)) (ltb to (length window));
+        written = adds_both held mid holds a.so_far (stretched_answers (log_of s line out) (take (to - at) (drop at window)) (ltb to (length window))) a.written q;
+        whole =
+            ap
+            (λ (n : Log). (a.so_far ++ stretched_answers (log_of s line out) (take (to - at) (drop at window)) (ltb to (length window))) ++ heard_answers n (drop (to + 1) window))
+            p
+            ∙ append_assoc
+            a.so_far
+            (stretched_answers (log_of s line out) (take (to - at) (drop at window)) (ltb to (length window)))
+            (heard_answers (stretched (log_of s line out) (take (to - at) (drop at window)) (ltb to (length window))) (drop (to + 1) window))
+            ∙ ap (λ (w : List ℕ). a.so_far ++ w) (stretch_answers_at window at to (log_of s line out) short k e)
+            ∙ a.whole;
+      }
+
+  -- Its answer was not written whole.
+  pub answering_failed : AppendsFront mid holds (stretched_answers (log_of s line out) (take (to - at) (drop at window)) (ltb to (length window)))
+      → AppendsFront held holds (heard_answers l₀ window)
+  answering_failed q =
+      let short : length (take s.kept line) ≤ most_kept = omega (arith, length-take s.kept line) in
+      let u : List ℕ = stretched_answers (log_of s line out) (take (to - at) (drop at window)) (ltb to (length window)) in
+      let v : List ℕ = heard_answers (stretched (log_of s line out) (take (to - at) (drop at window)) (ltb to (length window))) (drop (to + 1) window) in
+      let is : a.so_far ++ (u ++ v) ≡ heard_answers l₀ window =
+      ap (λ (w : List ℕ). a.so_far ++ w) (stretch_answers_at window at to (log_of s line out) short k e) ∙ a.whole in
+      rw is at (front_after held mid holds a.so_far (u ++ v) a.written (front_longer mid holds u v q))
+
+-- At the window's end all are written.
+pub answering_all : (l₀ l : Log) (window : List ℕ) {at : ℕ} {held holds : Option (List ℕ)} → length window ≤ at → Answering l₀ window l at held holds
+    → Appends held holds (heard_answers l₀ window)
+unfolding heard_answers
+answering_all l₀ l window {at} h a =
+    let is : a.so_far ≡ heard_answers l₀ window =
+    sym (append-nil a.so_far) ∙ sym (ap (λ (w : List ℕ). a.so_far ++ heard_answers l w) (drop_of_length-le window h)) ∙ a.whole in
+    rw is at a.written
+
+-- ---- a turn, with what was taken from the reader and written
+
+-- What a turn comes to.
+pub record Turn {E : Type 0} (before : Log) (line out : List ℕ) (r : Result Session E) (left still held holds : Option (List ℕ)) : Type 0 where
+  pub comes : IfOk r (λ n. ComesOf before (log_of n line out))
+  pub streamed : IfOk r (λ n. Streamed before (log_of n line out) left still held holds)
+  pub failed : OnErr r (Failed before left still held holds)
+
+module _ {E : Type 0} (s : Session) (line out window line' out' : List ℕ) (left still held holds : Option (List ℕ)) where
+  -- The input has ended.
+  turned_end : (r : Result Session E) (t : Bool) → eqb (length (take s.kept line)) 0 ≡ t
+      → choose t 0 1 ≤ length (set window 0 newline)
+      → IfOk r (λ n. log_of n line' out' ≡ heard (log_of (ended_if s true) line out) (take (choose t 0 1) (set window 0 newline)))
+      → Writes r held holds (heard_answers (log_of (ended_if s true) line out) (take (choose t 0 1) (set window 0 newline)))
+      → Consumes left still [] → IsAtEnd still
+      → Turn (log_of s line out) line' out' r left still held holds
+  unfolding choose last_answers heard_answers answers_after heard
+  turned_end (Ok n) t e k q w c g =
+      let u = streamed_end (log_of s line out) (turn_ended s line out window t e k q) c g (last_written t e k w) in
+      record { comes = u.comes; streamed = u; failed = tt }
+    where
+      last_written : (t : Bool) → eqb (length (take s.kept line)) 0 ≡ t → choose t 0 1 ≤ length (set window 0 newline)
+          → Appends held holds (heard_answers (log_of (ended_if s true) line out) (take (choose t 0 1) (set window 0 newline)))
+          → Appends held holds (last_answers (log_of s line out))
+      last_written true e k w = rw e w
+      last_written false e k w = rw e (rw (first_newline window k, append-nil (line_answer (log_of s line out))) at w)
+  turned_end (Err x) t e k q w c g =
+      record { comes = tt; streamed = tt; failed = record { input = []; taken = c; written = last_written t e k w } }
+    where
+      last_written : (t : Bool) → eqb (length (take s.kept line)) 0 ≡ t → choose t 0 1 ≤ length (set window 0 newline)
+          → AppendsFront held holds (heard_answers (log_of (ended_if s true) line out) (take (choose t 0 1) (set window 0 newline)))
+          → AppendsFront held holds (last_answers (log_of s line out))
+      last_written true e k w = rw e w
+      last_written false e k w = rw e (rw (first_newline window k, append-nil (line_answer (log_of s line out))) at w)
+
+  -- Bytes came.
+  turned_window : (r : Result Session E) (came : ℕ) → s.ended ≡ false
+      → IfOk r (λ n. log_of n line' out' ≡ heard (log_of (ended_if s false) line out) (take came window))
+      → Writes r held holds (heard_answers (log_of (ended_if s false) line out) (take came window))
+      → Consumes left still (take came window)
+      → Turn (log_of s line out) line' out' r left still held holds
+  unfolding answers_after choose
+  turned_window (Ok n) came g q w c =
+      let to : Log → Log = λ l. heard l (take came window) in
+      let is : log_of (ended_if s false) line out ≡ log_of s line out = ap (λ (b : Bool). log_of (ended_if s b) line out) (sym g) in
+      let u = streamed_window (log_of s line out) (take came window) g (q ∙ ap to is) c (rw is at w) in
+      record { comes = u.comes; streamed = u; failed = tt }
+  turned_window (Err x) came g q w c =
+      let is : log_of (ended_if s false) line out ≡ log_of s line out = ap (λ (b : Bool). log_of (ended_if s b) line out) (sym g) in
+      record {
+        comes = tt;
+        streamed = tt;
+        failed =
+            record {
+              input = take came window;
+              taken = c;
+              written =
+                  front_longer held holds (heard_answers (log_of s line out) (take came window)) (last_answers (heard (log_of s line out) (take came window))) (rw is at w);
+            };
+      }
+
+  -- One or the other.
+  turned_by : (r : Result Session E) (came : ℕ) (t : Bool) → s.ended ≡ false
+      → choose t (choose (eqb (length (take s.kept line)) 0) 0 1) came ≤ length (choose t (set window 0 newline) window)
+      → IfOk r
+      (λ n. log_of n line' out'
+      ≡ heard (log_of (ended_if s t) line out) (take (choose t (choose (eqb (length (take s.kept line)) 0) 0 1) came) (choose t (set window 0 newline) window)))
+      → Writes r held holds
+      (heard_answers (log_of (ended_if s t) line out) (take (choose t (choose (eqb (length (take s.kept line)) 0) 0 1) came) (choose t (set window 0 newline) window)))
+      → (t ≡ true → Consumes left still [] × IsAtEnd still) → Consumes left still (take came window)
+      → Turn (log_of s line out) line' out' r left still held holds
+  unfolding choose
+  turned_by r came true g k q w f c = turned_end r (eqb (length (take s.kept line)) 0) refl k q w (f refl).0 (f refl).1
+  turned_by r came false g k q w f c = turned_window r came g q w c
+
+-- ---- a stretch that was taken in, with what was written
+
+-- A stretch ended at a newline: the answer to its line.
+pub answer_ended : (l : Log) (bytes : List ℕ) {to n : ℕ} {m : Log} → to < n → m ≡ longer l bytes → line_answer m ≡ stretched_answers l bytes (ltb to n)
+unfolding choose
+answer_ended l bytes {to} {n} h e = rw (lt-ltb to n h) (ap line_answer e)
+
+-- It ended with the window: no answer.
+pub answer_open : (l : Log) (bytes : List ℕ) {to n : ℕ} → n ≤ to → [] ≡ stretched_answers l bytes (ltb to n)
+unfolding choose
+answer_open l bytes {to} {n} h = rw (le-ltb to n h)
+
+-- One turn.
+pub turned : {E : Type 0} (s : Session) (line out window line' out' : List ℕ) (left still held holds : Option (List ℕ)) (r : Result Session E) {w : List ℕ} (came : ℕ) {m : ℕ}
+    → s.ended ≡ false → m ≡ bytes_heard came (take s.kept line) → w ≡ window_heard came window → m ≤ length w
+    → IfOk r (λ n. log_of n line' out' ≡ heard (log_of (ended_if s (eqb came 0)) line out) (take m w))
+    → Writes r held holds (heard_answers (log_of (ended_if s (eqb came 0)) line out) (take m w))
+    → Consumes left still (take came window) → (came ≡ 0 → 0 < length window → IsAtEnd still) → 0 < length window
+    → Turn (log_of s line out) line' out' r left still held holds
+turned s line out window line' out' left still held holds r came g p q k f w c a h =
+    turned_by s line out window line' out' left still held holds r came (eqb came 0) g (rw (p, q) at k) (rw (p, q) at f) (rw (p, q) at w)
+    (λ t. let z = eqb-true came 0 t in (subst (λ (n : ℕ). Consumes left still (take n window)) z c, a z h))
+    c
+
+-- A read that failed.
+pub failed_read : {A E : Type 0} (r : Result A E) (l : Log) (left still held : Option (List ℕ)) → Keeps left still → OnErr r (Failed l left still held held)
+failed_read (Ok x) l left still held h = tt
+failed_read (Err e) l left still held h = record { input = []; taken = takes_kept left still h; written = front_none held (answers_after l [] true) }

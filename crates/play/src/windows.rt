@@ -1,7 +1,6 @@
 // Input of any length taken in window by window: where a line ends in a window, and the line so far kept in a lent buffer.
 ghost use Rattle.std.specs.Prelude.{◌≡◌, ◌+◌, ◌-◌, ◌<◌, ◌≤◌, min, length, take};
 ghost use Rattle.std.proofs.lemmas.List.Edits.{sets};
-ghost use Rattle.io.specs.Counts.{IsPrefixLen};
 ghost use Rattle.text.specs.Words.{newline as newlineByte, stop_at};
 ghost use Rattle.play.specs.Log.{most_kept, bytes_heard, window_heard};
 
@@ -39,10 +38,12 @@ pub(crate) fn keep(line: &mut [u8; MOST_KEPT], kept: usize, bytes: &[u8]) -> usi
 }
 
 // Where no byte came, the input has ended: the window gets the newline that the last line lacks, if one was begun. Says how many bytes are to be taken in.
+#[tactic(auto, using(crate::proofs::Ended::ended_before, crate::proofs::Ended::ended_window))]
 pub(crate) fn to_hear(window: &mut [u8], came: usize, line: &[u8]) -> usize
     requires { (came ≤ length window.old) × (0 < length window.old) }
     ensures value { result ≡ bytes_heard came line.now }
-    ensures window_after { (window.new ≡ window_heard came window.old) × IsPrefixLen result window.new }
+    ensures window_after { window.new ≡ window_heard came window.old }
+    ensures in_bounds { (result ≤ length window.new) × (result ≡ length (take result window.new)) }
 {
     if came != 0 {
         return came;

@@ -1,4 +1,6 @@
 // Reading a pin map in either form under a job: its length, then record after record, up to the first faulty one.
+#![tactic(auto)]
+
 ghost use Rattle.std.specs.Prelude.{◌≡◌, false};
 ghost use Rattle.drawing.specs.Pins.{no_pins};
 ghost use Rattle.readmap.specs.Map.{wrong_length, under_rows, read_by, read_map};
@@ -9,7 +11,7 @@ use pinmap::Form;
 use refusal::Verdict;
 
 // What reading a map comes to: accepted, with the drawing's pins, or refused, with no pin.
-#[derive(Drop)]
+#[derive(Clone, Copy)]
 pub struct Reading {
     pub verdict: Verdict,
     pub pins: [Pin; PINS],

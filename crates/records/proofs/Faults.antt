@@ -34,7 +34,7 @@ pub record Faultless (form : Form) (job next : ℕ) (earlier : List Pin) (r : Ma
   pub own_job : r.job ≡ job
   pub pin_low : r.pin < most_pins
   pub byte : wrong_byte form r.byte3 ≡ false
-  pub on_board_lem : inside r.place ≡ true
+  pub on_board : inside r.place ≡ true
   pub above : next ≤ r.pin
   pub free : too_near_any (At r.place) (spots_of earlier) ≡ false
 
@@ -52,7 +52,7 @@ module _ (form : Form) (job number next : ℕ) (earlier : List Pin) (r : MapReco
         own_job = eqb-true _ _ (not-false _ n.0);
         pin_low = leb-false _ _ f1.0;
         byte = f3.0;
-        on_board_lem = not-false _ f4.0;
+        on_board = not-false _ f4.0;
         above = ltb-false _ _ f2.0;
         free = f4.1;
       }
@@ -65,7 +65,7 @@ module _ (form : Form) (job number next : ℕ) (earlier : List Pin) (r : MapReco
         ap not (eq-eqb _ _ h.own_job),
         (
           either_no (lt-leb _ _ h.pin_low)
-              (either_no (le-ltb _ _ h.above) (either_no h.byte (either_no (ap not h.on_board_lem) h.free))),
+              (either_no (le-ltb _ _ h.above) (either_no h.byte (either_no (ap not h.on_board) h.free))),
           tt,
         ),
       )

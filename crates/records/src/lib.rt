@@ -1,4 +1,6 @@
 // A record of a pin map: what it says in its own part of the map, what it gives its pin, and whether it is faulty.
+#![tactic(auto)]
+
 ghost use Rattle.std.specs.Prelude.{◌≡◌, ◌≤◌, length};
 ghost use Rattle.board.specs.Spots.{spots_from};
 ghost use Rattle.refusal.specs.Rows.{first_of};
@@ -11,7 +13,7 @@ use pinmap::Form;
 use refusal::Verdict;
 
 // What a record says: its job, its pin number, its byte 3, its place, and its part number, 0 in the old form.
-#[derive(Drop)]
+#[derive(Clone, Copy)]
 pub struct MapRecord {
     pub job: u16,
     pub pin: usize,

@@ -1,4 +1,9 @@
 // Plays the log of calls on standard input on one desk, and prints each answer.
-fn main() {
-    play::play_log(0);
+#![tactic(auto)]
+
+use std::io;
+
+fn main(rt: HostRuntime) -> io::Result<()> {
+    play::play_log(&mut rt.stdin(), &mut rt.stdout())?;
+    Ok(())
 }

@@ -82,7 +82,7 @@ kept_next form job next earlier bytes s f =
     let r : MapRecord = record_of form bytes in
     let q : Pin = there (held_of form r) in
     record {
-      rules = lawful-set earlier r.pin q s.rules (net_given_lem form r.byte3 f.byte) f.on_board_lem
+      rules = lawful-set earlier r.pin q s.rules (net_given_lem form r.byte3 f.byte) f.on_board
           (clear_other (At r.place) (spots_of earlier) r.pin f.free);
       held = each_set (holds form) earlier r.pin q s.held (holds-given form bytes);
       clear = λ k h. get_or-set_other earlier r.pin k q absent (λ g. omega arith) ∙ s.clear k (omega (arith, f.above));

@@ -157,7 +157,7 @@ module _ (form : Form) (job : ℕ) (l : List Pin) (e : lawful l ≡ true) (g : e
         own_job = refl;
         pin_low = n;
         byte = right_byte form held.net (place_net l i held e q);
-        on_board_lem = p;
+        on_board = p;
         above = h;
         free = place_free l i earlier u (lawful_parts l e).apart held q;
       } in

@@ -1,3 +1,4 @@
 -- The laws of the rows that other crates cite.
 pub mod Rows
+pub mod Turned
 pub mod Passed

@@ -1,4 +1,6 @@
 // Rows of refusals: what a call finds at the seat that it names, and over that, for each call that changes a desk, its row in the order of documents 01 and 02; and what opening reads.
+#![tactic(auto)]
+
 ghost use Rattle.std.specs.Prelude.{◌≡◌, false, ◌++◌, ◌≤◌, take};
 ghost use Rattle.refusal.specs.Rows.{first_of};
 ghost use Rattle.readmap.specs.Map.{map_rows, read_by};
@@ -18,7 +20,7 @@ use refusal::Verdict;
 use seats::Seat;
 
 // What a call finds: whether the desk is broken, the seat that it names, and that seat's state, a closed one's where there is no such seat.
-#[derive(Drop)]
+#[derive(Clone, Copy)]
 pub struct Found {
     pub broken: bool,
     pub seat: usize,
@@ -65,6 +67,7 @@ pub fn turned_naming(found: Found) -> Verdict
 }
 
 // An edit of the seat that is found takes a record: 12.
+#[tactic(auto, using(crate::proofs::Turned::full_hit, crate::proofs::Turned::full_missed))]
 fn turned_full(found: Found, journal: [Record; RECORDS], used: usize) -> Verdict
     requires { used ≤ most_records }
     ensures { result ≡ first_of (full_row used (taken_back_count found.state (own found.seat (take used journal)))) }
@@ -103,6 +106,7 @@ pub fn turned_making(
 }
 
 // Undo: 28, 1, 2, 10.
+#[tactic(auto, using(crate::proofs::Turned::undone_none, crate::proofs::Turned::undone_some))]
 pub fn turned_undoing(found: Found) -> Verdict
     ensures { result ≡ first_of (naming_found found ++ undoing_row found.state.standing) }
 {
@@ -119,6 +123,7 @@ pub fn turned_undoing(found: Found) -> Verdict
 }
 
 // Redo: 28, 1, 2, 11.
+#[tactic(auto, using(crate::proofs::Turned::redone_none, crate::proofs::Turned::redone_some))]
 pub fn turned_redoing(found: Found, journal: [Record; RECORDS], used: usize) -> Verdict
     requires { found.broken ≡ false → used ≤ most_records }
     ensures { result ≡ first_of (naming_found found ++ redoing_row (taken_back_count found.state (own found.seat (take used journal)))) }

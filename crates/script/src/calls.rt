@@ -1,6 +1,6 @@
 // What the words of a line say: a small reader for each call.
 ghost use Rattle.std.specs.Prelude.{◌≡◌, ◌≤◌};
-ghost use Rattle.text.specs.Text.{same as sameBytes, most_room};
+ghost use Rattle.text.specs.Text.{same as same_bytes, most_room};
 ghost use Rattle.text.specs.Words.{words_of};
 ghost use Rattle.text.specs.Numbers.{most_number, value_of, is_number};
 ghost use Rattle.basics.specs.Tests.{both, either, choose};
@@ -94,7 +94,7 @@ pub(crate) fn favour_in(name: &[u8]) -> Favour
 
 // Whether a word is one of two.
 fn is_either(name: &[u8], one: &[u8], other: &[u8]) -> bool
-    ensures { result ≡ either (sameBytes name.now one.now) (sameBytes name.now other.now) }
+    ensures { result ≡ either (same_bytes name.now one.now) (same_bytes name.now other.now) }
 {
     same(name, one) || same(name, other)
 }

@@ -1,4 +1,6 @@
 // The lines of a log read into calls, over bytes.
+#![tactic(auto)]
+
 mod calls;
 mod load_words;
 
@@ -21,21 +23,21 @@ use text::{MOST_NUMBERS, MOST_PAIRS};
 const MOST_LINE: usize = 16384;
 
 // Two words read as numbers.
-#[derive(Drop)]
+#[derive(Clone, Copy)]
 pub enum Pair {
     Unread,
     Of(usize, usize),
 }
 
 // Words read as a seat, a pin and a place.
-#[derive(Drop)]
+#[derive(Clone, Copy)]
 pub enum Placing {
     Unread,
     Of(usize, usize, Place),
 }
 
 // Words read as a seat, a net and the room that is lent.
-#[derive(Drop)]
+#[derive(Clone, Copy)]
 pub enum Lending {
     Unread,
     Of(usize, u32, usize),
@@ -43,7 +45,7 @@ pub enum Lending {
 
 // What a line says: nothing, no call, or a call with its numbers. The map of an opening or of a moving, the lists of a bare wiring, the shape to
 // favour and what drops are asked for are read from the line by functions of their own, map and lists into lent buffers.
-#[derive(Drop)]
+#[derive(Clone, Copy)]
 pub enum Said {
     Skip,
     NotACall,
@@ -109,6 +111,7 @@ pub enum Said {
 }
 
 // Reads a line, without its newline.
+#[tactic(auto, using(crate::proofs::Asking::line_long, crate::proofs::Asking::line_skipped, crate::proofs::Asking::line_call))]
 pub fn read_line(line: &[u8]) -> Said
     ensures { result ≡ said_by line.now }
 {

@@ -1,4 +1,6 @@
 // Seats: the drawing at one and how many of its edits stand, the jobs that are open, and what undo, redo and a new edit make of a seat.
+#![tactic(auto)]
+
 ghost use Rattle.std.specs.Prelude.{◌≡◌, ◌<◌, ◌≤◌, length, take, drop};
 ghost use Rattle.journal.specs.Journal.{most_records, most_seats, own};
 ghost use Rattle.seats.specs.Seats.{closed_seat, open_seat, taken_back_count, edited_seat, undone_seat, redone_seat, job_of, jobs_in, same_job, job_among, jobs_apart};
@@ -9,7 +11,7 @@ use edits::Edit;
 use journal::{RECORDS, Record, SEATS};
 
 // A seat: whether it is open, and if so its drawing's job and pins, and how many of its edits stand.
-#[derive(Drop)]
+#[derive(Clone, Copy)]
 pub struct Seat {
     pub opened: bool,
     pub job: u16,

@@ -1,6 +1,6 @@
 -- Pins printed one by one come to their text, counted one by one to their number, and the parts of an answer to the answer. Assumes nothing.
 use mathlib.Core.Path.{◌≡◌, sym, ◌∙◌, ap}
-use mathlib.Core.Bool.{true, false}
+use mathlib.Core.Bool.{Bool, true, false}
 use mathlib.Core.List.{List, [], ◌∷◌, ◌++◌, append_assoc, append-nil}
 use Prim.Native.Nat.{ℕ, suc, ◌+◌, ◌<◌, min}
 use native.Mathlib.Nat.{add-zero, zero-add}
@@ -89,6 +89,16 @@ cut_accepted cut h = sym (choose_yes (milled_text cut.milling cut.list) (verdict
 pub map-refused : (job : ℕ) (wiring : Wiring) → accepted wiring.verdict ≡ false → verdict_line wiring.verdict ≡ map_text job wiring
 unfolding map_text
 map-refused job wiring h = sym (choose_no (job_text job wiring) (verdict_line wiring.verdict) h)
+
+-- so that its line is as long as its answer,
+pub map_told : (job : ℕ) (wiring : Wiring) {b : Bool} {n : ℕ} → b ≡ accepted wiring.verdict → b ≡ false → n ≡ length (verdict_line wiring.verdict)
+    → n ≡ length (map_text job wiring)
+map_told job wiring e f h = h ∙ ap length (map-refused job wiring (sym e ∙ f))
+
+-- and stands printed as its answer;
+pub map_over : (job : ℕ) (wiring : Wiring) (out : List ℕ) {b : Bool} {after : List ℕ} → b ≡ accepted wiring.verdict → b ≡ false
+    → after ≡ over (verdict_line wiring.verdict) out → after ≡ over (map_text job wiring) out
+map_over job wiring out e f h = h ∙ ap (λ (t : List ℕ). over t out) (map-refused job wiring (sym e ∙ f))
 
 -- and where it is accepted.
 pub map-accepted : (job : ℕ) (wiring : Wiring) → accepted wiring.verdict ≡ true

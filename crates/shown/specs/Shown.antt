@@ -1,5 +1,5 @@
 -- Answers of several lines: a wiring with its runs and legs, a milling with its segments, the wiring of a map, and a drawing with its pins.
-use Rattle.std.specs.Prelude.{List, [], ◌∷◌, ◌++◌, ℕ, suc, ◌+◌, take}
+use Rattle.std.specs.Prelude.{List, [], ◌∷◌, ◌++◌, ℕ, suc, take}
 use Rattle.basics.specs.Sums.{how_many}
 use Rattle.basics.specs.Tests.{choose}
 use Rattle.refusal.specs.Refusals.{accepted}

@@ -1,4 +1,6 @@
 // Answers of several lines printed into a lent buffer: a wiring, a milling, the wiring of a map, a drawing.
+#![tactic(auto)]
+
 ghost use Rattle.std.specs.Prelude.{◌≡◌, ◌+◌, ◌*◌, ◌≤◌, length, take};
 ghost use Rattle.std.proofs.lemmas.List.Edits.{sets};
 ghost use Rattle.board.specs.Spots.{most_pins};
@@ -120,6 +122,7 @@ fn put_pins(pins: [Pin; PINS], out: &mut [u8; ANSWER_BYTES], at: usize) -> usize
 }
 
 // How many pins of a drawing are there.
+#[tactic(auto, using(crate::proofs::Lines::count_there, crate::proofs::Lines::count_absent))]
 fn pins_there(pins: [Pin; PINS]) -> usize
     ensures { result ≡ pins_there pins }
 {
@@ -168,6 +171,7 @@ pub fn print_cut(cut: Cut, out: &mut [u8; ANSWER_BYTES]) -> usize
 }
 
 // Prints the answer of the wiring of a map, and answers how many bytes that is.
+#[tactic(auto, using(crate::proofs::Lines::map_told, crate::proofs::Lines::map_over))]
 pub fn print_map(job: u16, wiring: Wiring, out: &mut [u8; ANSWER_BYTES]) -> usize
     ensures { ((result ≡ length (map_text job wiring)) × (result ≤ answer_bytes)) × (out.new ≡ over (map_text job wiring) out.old) }
 {

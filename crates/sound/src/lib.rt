@@ -1,4 +1,6 @@
 // Whether seats and the journal that they share are sound: each part of the test of a desk.
+#![tactic(auto)]
+
 ghost use Rattle.std.specs.Prelude.{◌≡◌, ◌<◌, ◌≤◌, eqb, leb, length, take};
 ghost use Rattle.basics.specs.Tests.{both};
 ghost use Rattle.journal.specs.Journal.{most_records, most_seats, own, counts_of, seated};
@@ -41,6 +43,7 @@ fn open_is_sound(
 }
 
 // Whether a closed seat with so many records and standing edits is sound: it has none of either.
+#[tactic(auto, unfolding(basics::specs::Tests::both))]
 fn closed_is_sound(owned: usize, standing: usize) -> bool
     ensures { result ≡ both (eqb owned 0) (eqb standing 0) }
 {

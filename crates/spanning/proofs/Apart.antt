@@ -50,6 +50,7 @@ use Rattle.spanning.proofs.Boxes.{Shared, shared_point}
 -- Of two runs not each hangs from the other.
 not-both : {There : ℕ → Type 0} {o : ℕ} {rs : List Run} → Branching There o rs → (s t s' t' : ℕ) → HasRun s t rs → HasRun s' t' rs → (t ≡ t' → ⊥)
     → hangs rs t t' ≡ true → hangs rs t' t ≡ false
+not-both {There = There} {o = o} Rattle.tree.proofs.Branches.trunk s t s' t' x9 _ ne b = elim x9 [ ]
 not-both (branch {r = r} {rs = rs} j w) s t s' t' (here e f) (here e' f') ne b = absurd (ne (f ∙ sym f'))
 not-both {o = o} (branch {r = r} {rs = rs} j w) s t s' t' (here e f) (further h') ne b =
     absurd (differ b (hangs_none r rs t t' (fresh o t' r.far (far_reached o s' t' h') j.unmet) f) refl)

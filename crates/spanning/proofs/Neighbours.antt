@@ -20,6 +20,7 @@ pub data Joined (i j : ℕ) : List Run → Type 0 where
 module _ {There : ℕ → Type 0} {o : ℕ} where
   -- Both ends of a run are reached.
   pub joined_reached : {rs : List Run} → Branching There o rs → (i j : ℕ) → Joined i j rs → IsReached o i rs × IsReached o j rs
+  joined_reached trunk i j x3 = elim x3 [ ]
   joined_reached (branch {rs = rs} z w) i j (onward e f) = (old (subst (λ (y : ℕ). IsReached o y rs) (sym e) z.from), new f)
   joined_reached (branch {rs = rs} z w) i j (backward e f) = (new e, old (subst (λ (y : ℕ). IsReached o y rs) (sym f) z.from))
   joined_reached (branch z w) i j (beyond h) = let k = joined_reached w i j h in (old k.0, old k.1)
@@ -27,6 +28,7 @@ module _ {There : ℕ → Type 0} {o : ℕ} where
 module _ (key : ℕ → ℕ → ℕ) {There : ℕ → Type 0} {o : ℕ} where
   -- A run is the whole way between its ends.
   run_whole : {rs : List Run} → Branching There o rs → (s t : ℕ) → HasRun s t rs → widest key rs s t ≡ key s t
+  run_whole trunk s t x3 = elim x3 [ ]
   run_whole (branch {r = r} {rs = rs} j w) s t (here e f) =
       rw (widest_right key r rs s t (λ z. j.unmet (subst (λ (y : ℕ). IsReached o y rs) (sym e ∙ z) j.from)) f, e, f)
       (omega (arith, widest_self key rs r.near))
@@ -56,6 +58,7 @@ module _ (key : ℕ → ℕ → ℕ) (swap : (a b : ℕ) → key a b ≡ key b a
   -- The way between two pins that runs join to i holds both runs.
   fork : {rs : List Run} → Branching There o rs → (i j k : ℕ) → Joined i j rs → Joined i k rs → (j ≡ k → ⊥)
       → max (key i j) (key i k) ≤ widest key rs j k
+  fork trunk i j k x7 _ ne = elim x7 [ ]
   fork (branch {r = r} {rs = rs} z w) i j k (onward e f) (onward e' f') ne = absurd (ne (f ∙ sym f'))
   fork (branch {r = r} {rs = rs} z w) i j k (onward e f) (backward e' f') ne = absurd (fresh o r.near r.far z.from z.unmet (sym e ∙ e'))
   fork (branch {r = r} {rs = rs} z w) i j k (onward e f) (beyond h) ne =

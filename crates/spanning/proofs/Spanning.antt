@@ -27,6 +27,7 @@ use Rattle.spanning.proofs.Ways.{ends_turn, way_then, way_back, way_more, way_sa
 -- ---- between the two orders of a list
 -- What stands in one of two lists stands in the two joined, the first turned round,
 pub in_turned : {r : Run} (l : List Run) {m : List Run} → Among r l ⊎ Among r m → Among r (reverse_aux l m)
+in_turned {r = r} [] {m = m} (inl x'') = elim x'' [ ]
 in_turned [] (inr h) = h
 in_turned (q ∷ l) (inl (first e)) = in_turned l (inr (first e))
 in_turned (q ∷ l) (inl (later h)) = in_turned l (inl h)
@@ -66,12 +67,14 @@ way_home (branch j w) a (old h) = way_more (λ q k. later k) (way_home w a h)
 
 -- The far end of a run is one of the pins left.
 pub far_among : {key : ℕ → ℕ → ℕ} {reached left : List ℕ} {rs : List Run} → Listed key reached left rs → (q : Run) → Among q rs → Among q.far left
+far_among {key = key} (Rattle.tree.proofs.Listing.done {reached = reached}) q x5 = elim x5 [ ]
 far_among (taking {left = left} {r = r} e l) q (first p) = subst (λ (z : Run). Among z.far left) (sym p) e.to
 far_among (taking {left = left} {r = r} e l) q (later h) = (without_in r.far left (far_among l q h)).0
 
 -- No other run has the same far end.
 other_far : {key : ℕ → ℕ → ℕ} {reached left : List ℕ} {rs : List Run} → Listed key reached left rs → {r : Run} {rest : List Run} → Out r rs rest
     → (q : Run) → Among q rest → r.far ≡ q.far → ⊥
+other_far {key = key} (Rattle.tree.proofs.Listing.done {reached = reached}) {r = r} {rest = rest} x13 q h p = elim x13 [ ]
 other_far (taking {left = left} {r = s} e l) top q h p = (without_in s.far left (far_among l q h)).1 (sym p)
 other_far (taking {left = left} {r = s} e l) {r = r} (under o) q (first f) p =
     (without_in s.far left (far_among l r (out_in o))).1 (p ∙ ap (λ (z : Run). z.far) f)
@@ -338,6 +341,7 @@ module _ (feed : List Spot) (full : length feed ≡ most_pins) (ok : all_within 
       }
     where
       back : (q : Run) → Among q (runs_of feed) ⊎ Among q [] → Among q (runs_of feed)
+      back q (inr x') = elim x' [ ]
       back q (inl k) = k
 
       far : (r : ℕ) → r < length (runs_of feed) → IsReached f (run_at (runs_of feed) r).far (reverse_aux (runs_of feed) [])

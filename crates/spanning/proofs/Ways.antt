@@ -200,6 +200,7 @@ module _ (f : ℕ → Bool) where
 
   -- Without runs there is no way to another group.
   nowhere : {s t : ℕ} → Way [] s t → (f s ≡ f t → ⊥) → ⊥
+  nowhere {s = s} {t = t} (along r m x8 _ _) ne = elim x8 [ ]
   nowhere (stay e) ne = ne (ap f e)
 
   -- A way between pins of two groups crosses on a run, without which each end of the way still reaches an end of the run.

@@ -16,6 +16,7 @@ use Rattle.spans.proofs.Insert.{Lie, before, after, touching, lie, insert-none, 
 
 -- Each span of a clean list begins where the list is clean.
 pub begins_from : {b : ℕ} {s : Span} {l : List Span} → CleanFrom b l → Among s l → b ≤ s.low
+begins_from {s = s} (done {b = b}) m = elim m [ ]
 begins_from {s = s} (next {s = t} p q c) (first e) = let low : s.low ≡ t.low = ap (λ (x : Span). x.low) e in omega arith
 begins_from (next p q c) (later h) = omega (arith, begins_from c h)
 

@@ -61,6 +61,7 @@ alike_swap = record { there = λ n h. swap h; back = λ n h. swap h }
 
 -- What is covered lies where the list is clean.
 pub covered_from : {b n : ℕ} {l : List Span} → CleanFrom b l → Covered n l → b ≤ n
+covered_from {n = n} (done {b = b}) h = elim h [ ]
 covered_from (next p q c) (here h) = omega arith
 covered_from (next p q c) (later h) = omega (arith, covered_from c h)
 

@@ -53,6 +53,7 @@ up_in a (suc k) n h m = by_test (ℕ_discrete n a) (λ v. up_in (suc a) k n v (o
 -- and no other number is.
 pub up_only : {n : ℕ} (a k : ℕ) → Among n (up_from a k) → (a ≤ n) × (n < a + k)
 unfolding up_from
+up_only {n = n} a zero h = elim h [ ]
 up_only a (suc k) (first e) = omega arith
 up_only a (suc k) (later h) = omega (arith, up_only (suc a) k h)
 
@@ -65,6 +66,7 @@ covered_in (Lists.later {s = s} h) = in_back (numbers_of s) (covered_in h)
 -- and each of their numbers is covered.
 pub in_covered : {n : ℕ} (l : List Span) → Among n (numbers_of_all l) → Covered n l
 unfolding numbers_of_all
+in_covered {n = n} [] h = elim h [ ]
 in_covered {n} (s ∷ l) h = by_part (in_either (numbers_of s) h) (λ k. in_covered l k)
   where
     by_part : Among n (numbers_of s) ⊎ Among n (numbers_of_all l) → (Among n (numbers_of_all l) → Covered n l) → Covered n (s ∷ l)

@@ -1,4 +1,6 @@
 // Spans of numbers: spans that overlap or touch are joined, and all put in order, in place, in two lent lists of their low and their high ends.
+#![tactic(auto)]
+
 ghost use Rattle.std.specs.Prelude.{◌≡◌, ◌+◌, ◌≤◌, ◌<◌, length, take, drop};
 ghost use Rattle.basics.specs.Lists.{padded};
 ghost use Rattle.spans.specs.Spans.{most_spans, between_of, spans_from, Long, lows_of, highs_of, hull, left, behind, carried, insert, add, cleaned};
@@ -10,7 +12,7 @@ use tree::RUNS;
 pub const SPANS: usize = 2 * RUNS;
 
 // The numbers from low up to, not including, high.
-#[derive(Drop)]
+#[derive(Clone, Copy)]
 pub struct Span {
     pub low: usize,
     pub high: usize,
@@ -66,9 +68,9 @@ fn carried_of(s: Span, t: Span) -> Span
 // Puts a span into the clean list of the first `count` spans, and says how many they are then: what is left behind is written over entries already read.
 fn put_in(lows: &mut [usize; SPANS], highs: &mut [usize; SPANS], count: usize, span: Span) -> usize
     requires { (count < most_spans) × Long lows.old highs.old }
-    ensures value { (result ≡ length (insert span (take count (spans_from lows.old highs.old)))) × (result ≤ count + 1) }
-    ensures highs_after { take result (spans_from lows.new highs.new) ≡ insert span (take count (spans_from lows.old highs.old)) }
-    ensures highs_unchanged { drop (count + 1) (spans_from lows.new highs.new) ≡ drop (count + 1) (spans_from lows.old highs.old) }
+    ensures number { (result ≡ length (insert span (take count (spans_from lows.old highs.old)))) × (result ≤ count + 1) }
+    ensures list_after { take result (spans_from lows.new highs.new) ≡ insert span (take count (spans_from lows.old highs.old)) }
+    ensures rest_unchanged { drop (count + 1) (spans_from lows.new highs.new) ≡ drop (count + 1) (spans_from lows.old highs.old) }
     ensures long { Long lows.new highs.new }
 {
     let mut carry = span;
@@ -94,9 +96,9 @@ fn put_in(lows: &mut [usize; SPANS], highs: &mut [usize; SPANS], count: usize, s
 // Adds a span to the clean list of the first `count` spans: puts it in where it has a number.
 fn add_to(lows: &mut [usize; SPANS], highs: &mut [usize; SPANS], count: usize, span: Span) -> usize
     requires { (count < most_spans) × Long lows.old highs.old }
-    ensures value { (result ≡ length (add span (take count (spans_from lows.old highs.old)))) × (result ≤ count + 1) }
-    ensures highs_after { take result (spans_from lows.new highs.new) ≡ add span (take count (spans_from lows.old highs.old)) }
-    ensures highs_unchanged { drop (count + 1) (spans_from lows.new highs.new) ≡ drop (count + 1) (spans_from lows.old highs.old) }
+    ensures number { (result ≡ length (add span (take count (spans_from lows.old highs.old)))) × (result ≤ count + 1) }
+    ensures list_after { take result (spans_from lows.new highs.new) ≡ add span (take count (spans_from lows.old highs.old)) }
+    ensures rest_unchanged { drop (count + 1) (spans_from lows.new highs.new) ≡ drop (count + 1) (spans_from lows.old highs.old) }
     ensures long { Long lows.new highs.new }
 {
     if span.low < span.high {

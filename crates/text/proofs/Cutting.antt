@@ -8,13 +8,12 @@ use native.Mathlib.Nat.{le_refl, add-zero}
 use native.Mathlib.Omega.{arith}
 use lib.Dec.{eqb}
 use lib.ListN.{length, take, drop, get_or, get_or-eq_default, length-drop, drop_of_length-le}
-use lib.Seq.{drop-drop, take-length, length-take-le, get_or-drop}
+use lib.Seq.{drop-drop, length-take-le, get_or-drop}
 use borrow.Author.Tests.{eqb-true, eq-eqb, ne_eqb}
-use Rattle.bytes.specs.Bytes.{index_of, index_after, slice}
 use Rattle.basics.specs.Tests.{choose, both}
 use Rattle.basics.proofs.Tests.{opposite, fails_if, both_left, both_right, choose_yes, choose_no}
 use Rattle.text.specs.Text.{same}
-use Rattle.text.specs.Words.{return, space, end_of, without_return, before_first, pieces, non_empty, words_of, word, spaces_of, start_at, stop_at, after_words}
+use Rattle.text.specs.Words.{return, space, end_of, without_return, before_first, pieces, non_empty, words_of, word, spaces_of, index_after, index_of, start_at, stop_at, after_words}
 use Rattle.text.proofs.Steps.{front}
 
 module _ (l : List ℕ) where
@@ -65,6 +64,21 @@ module _ (l : List ℕ) where
   unfolding start_at spaces_of
   start_end i h = rw (drop_of_length-le l h) (omega arith)
 
+  -- A separator that stands at a position is found there,
+  pub stop_here : (s i : ℕ) → i < length l → get_or l i 0 ≡ s → i ≡ stop_at s l i
+  unfolding stop_at index_of index_after
+  stop_here s i h e = rw (front 0 l i h, eq-eqb (get_or l i 0) s e) (omega arith)
+
+  -- at any other byte it is found where it is found after that byte,
+  pub stop_next : (s i : ℕ) → i < length l → (get_or l i 0 ≡ s → ⊥) → stop_at s l i ≡ stop_at s l (i + 1)
+  unfolding stop_at index_of index_after
+  stop_next s i h e = rw (front 0 l i h, ne_eqb (get_or l i 0) s e) (omega arith)
+
+  -- and at the end of the text it is found nowhere else.
+  pub stop_end : (s i : ℕ) → length l ≤ i → i ≡ stop_at s l i
+  unfolding stop_at index_of
+  stop_end s i h = rw (drop_of_length-le l h) (omega arith)
+
 -- Texts that pass for the same are equal,
 pub same_is : (u v : List ℕ) → same u v ≡ true → u ≡ v
 unfolding same
@@ -92,11 +106,6 @@ module _ (u v : List ℕ) (i : ℕ) where
   pub same_end : length u ≤ i → length v ≤ i → same (drop i u) (drop i v) ≡ true
   unfolding same
   same_end hu hv = rw (drop_of_length-le u hu, drop_of_length-le v hv)
-
--- A separator found in what is left of a line is the one that ends a piece.
-pub stop_found : (s : ℕ) (l : List ℕ) (at : ℕ) → at + index_of s (slice at (length l) l) ≡ stop_at s l at
-unfolding stop_at slice
-stop_found s l at = rw (take-length l)
 
 -- One byte more, and at most one more counted:
 count_within : (t : Bool) {m n : ℕ} → m ≤ n → choose t (suc m) 0 ≤ suc n

@@ -9,13 +9,12 @@ use lib.Dec.{leb}
 use lib.ListN.{length, take, drop, get_or, set, length-drop, length-map}
 use lib.Seq.{drop-drop}
 use borrow.Author.Tests.{lt-leb, le-leb, leb-true}
-use Rattle.bytes.specs.Bytes.{index_of}
 use Rattle.basics.specs.Tests.{both, choose, each_of}
 use Rattle.basics.proofs.Tests.{both_left, both_right}
 use Rattle.basics.proofs.Anyone.{each_first, each_rest}
 use Rattle.board.proofs.Flat.{order}
 use Rattle.text.specs.Text.{over}
-use Rattle.text.specs.Words.{comma, pieces, stop_at}
+use Rattle.text.specs.Words.{index_of, comma, pieces, stop_at}
 use Rattle.text.specs.Numbers.{is_row_of}
 use Rattle.text.proofs.Steps.{front, fill_more, fill_done}
 use Rattle.text.proofs.Cutting.{first_piece, after_piece, last_piece, some_piece}

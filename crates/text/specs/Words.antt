@@ -1,6 +1,5 @@
 -- A line cut into its words.
-use Rattle.std.specs.Prelude.{List, [], ◌∷◌, ℕ, zero, suc, ◌+◌, ◌-◌, eqb, length, take, drop, get_or}
-use Rattle.bytes.specs.Bytes.{index_of}
+use Rattle.std.specs.Prelude.{Bool, true, false, List, [], ◌∷◌, ℕ, zero, suc, ◌+◌, ◌-◌, eqb, length, take, drop, get_or}
 use Rattle.basics.specs.Tests.{choose}
 
 -- The byte of a space.
@@ -67,6 +66,16 @@ spaces_of (b ∷ rest) = choose (eqb b space) (suc (spaces_of rest)) 0
 -- Where the next word begins, from a position on.
 unfoldable pub start_at : List ℕ → ℕ → ℕ
 start_at line at = at + spaces_of (drop at line)
+
+-- Where a separator is found: here, or one after where it is found in what follows.
+unfoldable pub index_after : Bool → ℕ → ℕ
+index_after true n = 0
+index_after false n = suc n
+
+-- Where a separator first stands in a text, or the text's length where it stands nowhere.
+unfoldable pub index_of : ℕ → List ℕ → ℕ
+index_of s [] = 0
+index_of s (b ∷ rest) = index_after (eqb b s) (index_of s rest)
 
 -- Where the next separator stands, from a position on.
 unfoldable pub stop_at : ℕ → List ℕ → ℕ → ℕ

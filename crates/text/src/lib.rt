@@ -1,4 +1,6 @@
 // Words, numbers and digits over bytes: a line cut into words, words read, and numbers put into a lent buffer.
+#![tactic(auto)]
+
 pub mod numbers;
 pub mod put;
 pub mod words;
@@ -16,14 +18,14 @@ pub const MOST_ROOM: usize = 1024;
 pub const ANSWER_BYTES: usize = 8192;
 
 // A word read as a number.
-#[derive(Drop)]
+#[derive(Clone, Copy)]
 pub enum Number {
     Unread,
     Of(usize),
 }
 
 // A word read as x or y.
-#[derive(Drop)]
+#[derive(Clone, Copy)]
 pub enum Coordinate {
     Unread,
     At(i32),

@@ -4,7 +4,7 @@ ghost use Rattle.std.specs.Float.Ieee.{of_bits};
 ghost use Rattle.std.specs.Float.{binary32};
 ghost use Rattle.text.specs.Text.{over};
 ghost use Rattle.text.specs.Words.{comma, pieces};
-ghost use Rattle.text.specs.Numbers.{most_number, most_pairs, most_numbers, most_below, beyond, between as isBetween, is_digit, is_small, is_capital, all_digits, value_of, number_of, has_minus, is_coordinate, signed, coordinate_of, is_row, listed, is_list, is_hex, hex_value, all_pairs, bytes_of, is_spelled, is_map, spelled, float_digits, all_hex, is_bits, hex_from, float_of};
+ghost use Rattle.text.specs.Numbers.{most_number, most_pairs, most_numbers, most_below, beyond, between as is_between, is_digit, is_small, is_capital, all_digits, value_of, number_of, has_minus, is_coordinate, signed, coordinate_of, is_row, listed, is_list, is_hex, hex_value, all_pairs, bytes_of, is_spelled, is_map, spelled, float_digits, all_hex, is_bits, hex_from, float_of};
 
 use crate::words::{same, stop_at};
 use crate::{Coordinate, MOST_NUMBERS, MOST_PAIRS, Number};
@@ -36,7 +36,7 @@ const INFINITY: u32 = 2139095040;
 
 // Whether a byte lies from one to another.
 fn between(low: u8, high: u8, b: u8) -> bool
-    ensures { result ≡ isBetween low high b }
+    ensures { result ≡ is_between low high b }
 {
     low <= b && b <= high
 }

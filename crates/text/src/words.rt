@@ -1,6 +1,6 @@
 // A line cut into words.
 ghost use Rattle.std.specs.Prelude.{◌≡◌, ◌≤◌, length};
-ghost use Rattle.text.specs.Text.{same as sameBytes};
+ghost use Rattle.text.specs.Text.{same as same_bytes};
 ghost use Rattle.text.specs.Words.{end_of, without_return, start_at, stop_at, after_words, words_of, word as word_in};
 
 // Where a line ends without a carriage return.
@@ -45,7 +45,14 @@ pub fn stop_at(text: &[u8], at: usize, separator: u8) -> usize
     requires { at ≤ length text.now }
     ensures { result ≡ stop_at separator text.now at }
 {
-    bytes::scan::find(text, at, text.len(), separator)
+    let mut i = at;
+    while i < text.len() {
+        if text[i] == separator {
+            return i;
+        }
+        i += 1;
+    }
+    i
 }
 
 // Where a text has been read to after so many words.
@@ -87,7 +94,7 @@ pub fn count_words(text: &[u8]) -> usize
 
 // Whether two texts are the same.
 pub fn same(a: &[u8], b: &[u8]) -> bool
-    ensures { result ≡ sameBytes a.now b.now }
+    ensures { result ≡ same_bytes a.now b.now }
 {
     if a.len() != b.len() {
         return false;

@@ -154,6 +154,7 @@ module _ {There : ℕ → Type 0} {o : ℕ} where
 
   -- The near end of a run is reached too.
   pub near_reached : (s t : ℕ) {rs : List Run} → Branching There o rs → HasRun s t rs → IsReached o s rs
+  near_reached s t trunk x3 = elim x3 [ ]
   near_reached s t (branch {rs = rs} j w) (here e f) = old (subst (λ (z : ℕ). IsReached o z rs) (sym e) j.from)
   near_reached s t (branch j w) (further h) = old (near_reached s t w h)
 
@@ -165,6 +166,7 @@ module _ {There : ℕ → Type 0} {o : ℕ} where
 
   -- The ends of a run are different pins.
   pub ends_differ : {rs : List Run} → Branching There o rs → (s t : ℕ) → HasRun s t rs → s ≡ t → ⊥
+  ends_differ trunk s t x5 z = elim x5 [ ]
   ends_differ (branch {r = r} j w) s t (here e f) z = fresh o r.near r.far j.from j.unmet (sym e ∙ z ∙ f)
   ends_differ (branch j w) s t (further h) z = ends_differ w s t h z
 
@@ -252,6 +254,7 @@ module _ (key : ℕ → ℕ → ℕ) {There : ℕ → Type 0} {o : ℕ} where
   -- A run lies on every way between the pins that hang from it and the others.
   pub lies_on : {rs : List Run} → Branching There o rs → (s t a b : ℕ) → HasRun s t rs → IsReached o a rs → IsReached o b rs
       → (hangs rs t a ≡ hangs rs t b → ⊥) → key s t ≤ widest key rs a b
+  lies_on trunk s t a b x9 _ _ ne = elim x9 [ ]
   lies_on (branch {r = r} {rs = rs} j w) s t a b (here e f) (new p) (new q) ne =
       absurd (ne (hangs_self r rs t a p f ∙ sym (hangs_self r rs t b q f)))
   lies_on (branch {r = r} {rs = rs} j w) s t a b (here e f) (new p) (old q) ne =
@@ -343,6 +346,7 @@ module _ (key : ℕ → ℕ → ℕ) (swap : (a b : ℕ) → key a b ≡ key b a
 module _ {There : ℕ → Type 0} {o : ℕ} where
   -- The far end of a run hangs from it.
   pub far_hangs : {rs : List Run} → Branching There o rs → (s t : ℕ) → HasRun s t rs → hangs rs t t ≡ true
+  far_hangs trunk s t x3 = elim x3 [ ]
   far_hangs (branch {r = r} {rs = rs} j w) s t (here e f) = hangs_self r rs t t f f
   far_hangs (branch {r = r} {rs = rs} j w) s t (further h) =
       let ft = fresh o t r.far (far_reached o s t h) j.unmet in
@@ -350,6 +354,7 @@ module _ {There : ℕ → Type 0} {o : ℕ} where
 
   -- The near end of a run does not hang from it.
   pub near_stays : {rs : List Run} → Branching There o rs → (s t : ℕ) → HasRun s t rs → hangs rs t s ≡ false
+  near_stays trunk s t x3 = elim x3 [ ]
   near_stays (branch {r = r} {rs = rs} j w) s t (here e f) =
       hangs_none r rs t s (λ z. fresh o r.near r.far j.from j.unmet (sym e ∙ z)) f
   near_stays (branch {r = r} {rs = rs} j w) s t (further h) =
@@ -359,6 +364,7 @@ module _ {There : ℕ → Type 0} {o : ℕ} where
   -- Both ends of another run hang from it, or neither.
   pub run_hangs : {rs : List Run} → Branching There o rs → (s t s' t' : ℕ) → HasRun s t rs → HasRun s' t' rs → (t ≡ t' → ⊥)
       → hangs rs t t' ≡ hangs rs t s'
+  run_hangs trunk s t s' t' x7 _ ne = elim x7 [ ]
   run_hangs (branch {r = r} {rs = rs} j w) s t s' t' (here e f) (here e' f') ne = absurd (ne (f ∙ sym f'))
   run_hangs (branch {r = r} {rs = rs} j w) s t s' t' (here e f) (further h') ne =
       hangs_none r rs t t' (fresh o t' r.far (far_reached o s' t' h') j.unmet) f

@@ -83,6 +83,7 @@ module _ {feed : List Spot} {key : ℕ → ℕ → ℕ} (k : Keyed feed key) whe
   earliest_least r [] h = record { one = first refl; least = λ s m. only s m }
     where
       only : (s : Run) → Among s (r ∷ []) → key_of key r ≤ key_of key s
+      only s (later x4) = elim x4 [ ]
       only s (first e) = rw e (omega arith)
   earliest_least r (s ∷ others) h = go kept (earliest_least (choose (sooner feed s r) s r) others (λ t m. ends t m))
     where
@@ -112,6 +113,7 @@ module _ {feed : List Spot} {key : ℕ → ℕ → ℕ} (k : Keyed feed key) whe
       → (r : Run) (l : List Run) → Among r l → ((s : Run) → Among s l → Among s.near reached × Among s.far left)
       → ((c d : ℕ) → Among c reached → Among d left → Among (run c d) l) → Earliest key reached left (earliest_of feed l)
   unfolding earliest_of
+  earliest_of_lem reached left low low' r [] m f g = elim m [ ]
   earliest_of_lem reached left low low' r (s ∷ others) m f g =
       let z = earliest_least s others (λ t n. record { near = low t.near (f t n).0; far = low' t.far (f t n).1 }) in
       record {

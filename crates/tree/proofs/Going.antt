@@ -86,6 +86,7 @@ module _ (feed : List Spot) (full : length feed ≡ most_pins) (ts : List Bool) 
       out (also n k) m = n m
 
       only : (a : ℕ) → Among a (f ∷ []) → a ≡ f
+      only a (later x3) = elim x3 [ ]
       only a (first q) = q
 
       at_first : (a : ℕ) → Among a (f ∷ []) → at a ≡ place_at feed a

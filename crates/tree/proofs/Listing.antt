@@ -77,6 +77,7 @@ module _ {key : ℕ → ℕ → ℕ} where
 
   -- Every pin left is the far pin of a run.
   all_reached : {reached left : List ℕ} {rs : List Run} → Listed key reached left rs → (p : ℕ) → Among p left → (r : ℕ) × (r < length rs) × (p ≡ (run_at rs r).far)
+  all_reached (done {reached = reached}) p m = elim m [ ]
   all_reached (taking {left = left} {r = s} {rs = rs} e l) p m = go (same_or_not p s.far) (all_reached l p)
     where
       go : (p ≡ s.far) ⊎ (p ≡ s.far → ⊥) → (Among p (without s.far left) → (r : ℕ) × (r < length rs) × (p ≡ (run_at rs r).far))
@@ -118,6 +119,7 @@ listed_rooted {f = f} {left = left} {runs = runs} (also out d) l =
   where
     near : (r : ℕ) → Among (run_at runs r).near (f ∷ []) ⊎ ((q : ℕ) × (q < r) × ((run_at runs r).near ≡ (run_at runs q).far))
         → ((run_at runs r).near ≡ f) ⊎ ((q : ℕ) × (q < r) × ((run_at runs r).near ≡ (run_at runs q).far))
+    near r (inl (later x9)) = elim x9 [ ]
     near r (inl (first q)) = inl q
     near r (inr z) = inr z
 
@@ -185,6 +187,7 @@ module _ (feed : List Spot) (full : length feed ≡ most_pins) (ok : all_within 
       rw e (grown-listed (keyed feed ok) (length left) (f ∷ []) left f (first refl) low (λ b m. pins_low b (later m)) (distinct_rest distinct) refl)
     where
       low : (b : ℕ) → Among b (f ∷ []) → b < most_pins
+      low b (later x3) = elim x3 [ ]
       low b (first q) = omega (arith, pins_low f (first refl))
 
   -- THE RUNS JOIN ALL PINS, one run fewer than pins, each from a pin reached before to one that is not.
@@ -196,6 +199,7 @@ module _ (feed : List Spot) (full : length feed ≡ most_pins) (ok : all_within 
   runs_grown = listed-grown runs_listed [] seed to from out into
     where
       to : (a : ℕ) → Among a (f ∷ []) → IsReached f a []
+      to a (later x3) = elim x3 [ ]
       to a (first q) = start q
 
       from : (a : ℕ) → IsReached f a [] → Among a (f ∷ [])

@@ -72,6 +72,7 @@ another_yes m n q = ap not (ne_eqb m n q)
 -- What is left without a pin stood there before, and is another.
 pub without_in : {a : ℕ} (n : ℕ) (l : List ℕ) → Among a (without n l) → Among a l × (a ≡ n → ⊥)
 unfolding without
+without_in {a = a} n [] h = elim h [ ]
 without_in {a} n (m ∷ l) h = go (in_kept (not (eqb m n)) h) (without_in n l)
   where
     go : ((not (eqb m n) ≡ true) × (a ≡ m)) ⊎ Among a (without n l) → (Among a (without n l) → Among a l × (a ≡ n → ⊥)) → Among a (m ∷ l) × (a ≡ n → ⊥)
@@ -94,6 +95,7 @@ without-none n (m ∷ l) h =
 -- Without a pin that is there one fewer is left.
 pub length_without : (n : ℕ) {l : List ℕ} → Distinct l → Among n l → length l ≡ suc (length (without n l))
 unfolding without
+length_without n none h = elim h [ ]
 length_without n (also {a = m} {l = l} d ds) h = go (same_or_not m n) h (length_without n ds)
   where
     go : (m ≡ n) ⊎ (m ≡ n → ⊥) → Among n (m ∷ l) → (Among n l → length l ≡ suc (length (without n l)))
@@ -119,6 +121,7 @@ distinct_without n (also {a = m} {l = l} d ds) = distinct_kept m (not (eqb m n))
 pub pins_there_lem : {a : ℕ} (i : ℕ) (feed : List Spot) → Among a (pins_from i feed)
     → (k : ℕ) × (a ≡ i + k) × (k < length feed) × (present (get_or feed k Absent) ≡ true)
 unfolding pins_from
+pins_there_lem {a = a} i [] h = elim h [ ]
 pins_there_lem {a} i (s ∷ feed) h = go (in_kept (present s) h) (pins_there_lem (suc i) feed)
   where
     go : ((present s ≡ true) × (a ≡ i)) ⊎ Among a (pins_from (suc i) feed)
@@ -186,6 +189,7 @@ pins_few i (s ∷ feed) = few_kept i (present s) (pins_from (suc i) feed) (lengt
 -- A run from a near pin goes from it to one of the far ones,
 from_in : {r : Run} (near : ℕ) (fars : List ℕ) → Among r (runs_from near fars) → (r.near ≡ near) × Among r.far fars
 unfolding runs_from
+from_in {r = r} near [] x' = elim x' [ ]
 from_in near (b ∷ fars) (first e) = (ap (λ (z : Run). z.near) e, first (ap (λ (z : Run). z.far) e))
 from_in near (b ∷ fars) (later h) = let z = from_in near fars h in (z.0, later z.1)
 
@@ -198,6 +202,7 @@ in_from near (later h) = later (in_from near h)
 -- A run between goes from one of the near pins to one of the far ones,
 pub between_in : {r : Run} (nears fars : List ℕ) → Among r (runs_between nears fars) → Among r.near nears × Among r.far fars
 unfolding runs_between
+between_in {r = r} [] fars h = elim h [ ]
 between_in {r} (n ∷ nears) fars h = go (in_either (runs_from n fars) h) (between_in nears fars)
   where
     go : Among r (runs_from n fars) ⊎ Among r (runs_between nears fars) → (Among r (runs_between nears fars) → Among r.near nears × Among r.far fars)

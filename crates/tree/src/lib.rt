@@ -1,4 +1,6 @@
 // The runs of a feed: the tree that joins its pins, grown from the lowest-numbered pin, or why there is none.
+#![tactic(auto)]
+
 mod weights;
 
 ghost use Rattle.std.specs.Prelude.{◌≡◌, true, [], ◌<◌};
@@ -13,7 +15,7 @@ use board::{PINS, Place};
 use refusal::Verdict;
 
 // The weight of a pair of pins: the distance, minus the difference in y, minus the larger x.
-#[derive(Drop)]
+#[derive(Clone, Copy)]
 pub struct Weight {
     pub distance: i32,
     pub rise: i32,
@@ -21,7 +23,7 @@ pub struct Weight {
 }
 
 // A pair of pins: its weight, its smaller and its larger pin number.
-#[derive(Drop)]
+#[derive(Clone, Copy)]
 pub struct Pair {
     pub weight: Weight,
     pub low: usize,
@@ -32,14 +34,14 @@ pub struct Pair {
 pub const RUNS: usize = PINS - 1;
 
 // A run: the pin that was reached before it, and the pin that it reaches.
-#[derive(Drop)]
+#[derive(Clone, Copy)]
 pub struct Run {
     pub near: usize,
     pub far: usize,
 }
 
 // The runs of a feed in the order in which they are taken, or a refusal. Entries after the last are 0, 0.
-#[derive(Drop)]
+#[derive(Clone, Copy)]
 pub struct Tree {
     pub verdict: Verdict,
     pub count: usize,
@@ -47,7 +49,7 @@ pub struct Tree {
 }
 
 // An offer while the tree grows: whether its far pin waits to be reached, the reached pin that would reach it, and their pair.
-#[derive(Drop)]
+#[derive(Clone, Copy)]
 pub struct Offer {
     pub waits: bool,
     pub near: usize,
@@ -203,6 +205,7 @@ fn refused(verdict: Verdict) -> Tree
 }
 
 // The runs of these pins, or 17.
+#[tactic(auto, using(crate::proofs::Result::no_pins, crate::proofs::Result::first_low, crate::proofs::Result::the_runs))]
 pub fn tree_of(xs: &[i32; PINS], ys: &[i32; PINS], there: &[bool; PINS]) -> Tree
     requires { all_within (spots_from xs.now ys.now there.now) ≡ true }
     ensures { result ≡ tree_of (spots_from xs.now ys.now there.now) }

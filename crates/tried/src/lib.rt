@@ -1,4 +1,6 @@
 // A seat's edits tried on its pins: whether those taken back can be redone, and those that stand taken back.
+#![tactic(auto)]
+
 ghost use Rattle.std.specs.Prelude.{◌≡◌, true, reverse, ◌≤◌, drop, length, take};
 ghost use Rattle.drawing.specs.Pins.{lawful};
 ghost use Rattle.journal.specs.Journal.{most_records, own, makeable_all, takeable_all};

@@ -1,23 +1,41 @@
 // Plays the logs that its arguments name, each on a desk of its own, and prints the answers.
+#![tactic(auto)]
 
-// Plays the log that one argument names.
-fn play_file(number: usize) {
-    let mut path = io::buffer();
-    let length = os::arg(number, &mut path);
-    let fd = os::open_read(&path[..length]);
-    if fd < 0 {
-        os::fail(&path[..length]);
-        return;
+use std::env::{Env, FillError};
+use std::fs::File;
+use std::io::{self, ErrorKind};
+use std::str;
+
+// An argument has at most so many bytes.
+const NAME_BYTES: usize = 4096;
+
+// Plays the log of that name, or says on standard error why it cannot be opened.
+fn play_file(rt: &HostRuntime, name: &str) -> io::Result<()> {
+    match File::open(rt, name) {
+        Ok(mut file) => {
+            play::play_log(&mut file, &mut rt.stdout())?;
+            Ok(())
+        }
+        Err(e) => eprintln!(rt; "{name}: {e}"),
     }
-    play::play_log(fd);
-    libc::close(fd);
 }
 
-fn main() {
-    let count = os::arg_count();
-    let mut i = 1;
-    while i < count {
-        play_file(i);
-        i += 1;
+// Plays the log that one argument names. One that is too long or no text names no file.
+fn play_named(rt: &HostRuntime, name: &[u8]) -> io::Result<()> {
+    match str::from_utf8(name) {
+        Ok(text) => play_file(rt, text),
+        Err(_) => eprintln!(rt; ": {}", io::Error::from(ErrorKind::InvalidFilename)),
     }
+}
+
+fn main(rt: HostRuntime) -> io::Result<()> {
+    let mut name = [0u8; NAME_BYTES];
+    for number in 1..usize::MAX {
+        match rt.arg(number, &mut name) {
+            Ok(length) => play_named(&rt, &name[..length])?,
+            Err(FillError::TooLong) => play_named(&rt, b"")?,
+            Err(FillError::NotPresent) => break,
+        }
+    }
+    Ok(())
 }

@@ -1,4 +1,6 @@
 // Wires the pin map on standard input, and prints the answer.
+#![tactic(auto)]
+
 use text::ANSWER_BYTES;
 
 // Reads as much of a map as is enough, and prints what is answered.

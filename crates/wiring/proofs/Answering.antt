@@ -202,7 +202,7 @@ module _ (feed : List Spot) (full : length feed ≡ most_pins) (ok : all_within 
       record {
         few = few;
         near_first = λ r l. rw (near_is r l) (before r l);
-        on_board_lem = λ i. go i (ltb i most_pins) refl;
+        on_board = λ i. go i (ltb i most_pins) refl;
       }
     where
       go : (i : ℕ) (b : Bool) → ltb i most_pins ≡ b → inside (place_in xs ys i) ≡ true

@@ -154,7 +154,7 @@ module _ (favoured : Bool) (feed : List Spot) (full : length feed ≡ most_pins)
         blank_after = after_are feed best;
         shapes = rw (r, s) (best_first feed (runs_of feed) favoured);
         legs = rw (r, s) (legs_are feed best);
-        leg_count_lem = legs_many feed best;
+        leg_count = legs_many feed best;
         covered = long;
         least = rw r shortest;
         weighed = rw r many;
@@ -195,7 +195,7 @@ best_in_list list e b =
       blank_after = b.blank_after;
       shapes = b.shapes;
       legs = rw e b.legs;
-      leg_count_lem = rw e b.leg_count_lem;
+      leg_count = rw e b.leg_count;
       covered = rw e b.covered;
       least = b.least;
       weighed = b.weighed;

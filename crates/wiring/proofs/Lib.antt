@@ -11,3 +11,4 @@ pub mod Lines
 pub mod Demand
 pub mod Either
 pub mod Few
+pub mod Room

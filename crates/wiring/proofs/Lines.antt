@@ -165,11 +165,13 @@ corner_long a c b k =
 -- Two legs, each in line.
 both_in : (l m n : Leg) → InLine m → InLine n → Among l (m ∷ n ∷ []) → InLine l
 both_in l m n p q (first e) = subst InLine (sym e) p
+both_in l m n p q (later (later x6)) = elim x6 [ ]
 both_in l m n p q (later (first e)) = subst InLine (sym e) q
 
 -- The legs of a run in a shape that it may have lie in one row or in one column each,
 shape_in_line : (s : Shape) (a b : Place) → May s a b → (l : Leg) → Among l (legs_of s a b) → InLine l
 unfolding legs_of
+shape_in_line Straight a b m l (later x5) = elim x5 [ ]
 shape_in_line Straight a b m l (first e) = subst InLine (sym e) (straight_line a b (m refl))
 shape_in_line Lower a b m l i = both_in l _ _ (lower_corner_lem a b).to (lower_corner_lem a b).on i
 shape_in_line Upper a b m l i = both_in l _ _ (upper_corner_lem a b).to (upper_corner_lem a b).on i
@@ -203,6 +205,8 @@ unfolding shapes_of bent bent_shapes
 shape_may favoured feed r s i e = by (is_straight (near_end feed r) (far_end feed r)) favoured i
   where
     not-bent : {A : Type 0} → Among Straight (Lower ∷ Upper ∷ []) ⊎ Among Straight (Upper ∷ Lower ∷ []) → A
+    not-bent {A = A} (inl (later (later x7))) = elim x7 [ ]
+    not-bent {A = A} (inr (later (later x8))) = elim x8 [ ]
     not-bent (inl (first q)) = bent_may false (unfold choose in sym q)
     not-bent (inl (later (first q))) = bent_may true (unfold choose in sym q)
     not-bent (inr (first q)) = bent_may true (unfold choose in sym q)

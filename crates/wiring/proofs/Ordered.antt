@@ -30,12 +30,14 @@ use Rattle.wiring.proofs.Masks.{is_upper, bends, mask_from, mark_next, mask_most
 -- One of the choices with a shape in front.
 with_in : {d : List Shape} (s : Shape) (cs : List (List Shape)) → Among d (with_shape s cs) → (c : List Shape) × (d ≡ s ∷ c) × Among c cs
 unfolding with_shape
+with_in {d = d} s [] x' = elim x' [ ]
 with_in s (c ∷ cs) (first e) = (c, e, first refl)
 with_in s (c ∷ cs) (later m) = let z = with_in s cs m in (z.0, z.1, later z.2)
 
 -- And the other way round.
 in_with : {c : List Shape} (s : Shape) (cs : List (List Shape)) → Among c cs → Among (s ∷ c) (with_shape s cs)
 unfolding with_shape
+in_with {c = c} s [] x' = elim x' [ ]
 in_with s (c ∷ cs) (first e) = first (ap (λ (z : List Shape). s ∷ z) e)
 in_with s (c ∷ cs) (later m) = later (in_with s cs m)
 
@@ -43,6 +45,7 @@ in_with s (c ∷ cs) (later m) = later (in_with s cs m)
 shapes_in_lem : {d : List Shape} (ss : List Shape) (cs : List (List Shape)) → Among d (with_shapes ss cs)
     → (s : Shape) × (c : List Shape) × (d ≡ s ∷ c) × Among s ss × Among c cs
 unfolding with_shapes
+shapes_in_lem {d = d} [] cs m = elim m [ ]
 shapes_in_lem (s ∷ ss) cs m = go (in_either (with_shape s cs) m) (λ n. shapes_in_lem ss cs n)
   where
     go : {d : List Shape} → Among d (with_shape s cs) ⊎ Among d (with_shapes ss cs)
@@ -54,17 +57,21 @@ shapes_in_lem (s ∷ ss) cs m = go (in_either (with_shape s cs) m) (λ n. shapes
 -- And the other way round.
 in_shapes : {s : Shape} {c : List Shape} (ss : List Shape) (cs : List (List Shape)) → Among s ss → Among c cs → Among (s ∷ c) (with_shapes ss cs)
 unfolding with_shapes
+in_shapes {s = a} {c = c} [] cs x'' m = elim x'' [ ]
 in_shapes {s = a} {c = c} (s ∷ ss) cs (first e) m =
     in_front {l = with_shape s cs} (with_shapes ss cs) (subst (λ (z : Shape). Among (z ∷ c) (with_shape s cs)) (sym e) (in_with s cs m))
 in_shapes (s ∷ ss) cs (later n) m = in_back (with_shape s cs) (in_shapes ss cs n m)
 
 -- The one shape of a straight run does not bend upwards.
 only_straight : (s : Shape) → Among s (Straight ∷ []) → (s ≡ Straight) × (is_upper s ≡ false)
+only_straight s (later x3) = elim x3 [ ]
 only_straight s (first e) = (e, ap is_upper e)
 
 -- The two shapes of a bent run, in either order.
 either_bend : (s : Shape) → Among s (Upper ∷ Lower ∷ []) ⊎ Among s (Lower ∷ Upper ∷ []) → s ≡ choose (is_upper s) Upper Lower
 unfolding choose
+either_bend s (inl (later (later x7))) = elim x7 [ ]
+either_bend s (inr (later (later x8))) = elim x8 [ ]
 either_bend s (inl (first e)) = rw e
 either_bend s (inl (later (first e))) = rw e
 either_bend s (inr (first e)) = rw e
@@ -102,6 +109,7 @@ module _ (favoured : Bool) (feed : List Spot) (r : Run) where
 -- A choice is told by how its runs bend ..
 pub choice_told : (favoured : Bool) (feed : List Spot) (runs : List Run) (c : List Shape) → Among c (choices_of favoured feed runs) → c ≡ shapes_by feed (bends c) runs
 unfolding choices_of shapes_by
+choice_told favoured feed [] c (later x4) = elim x4 [ ]
 choice_told favoured feed [] c (first e) = e
 choice_told favoured feed (r ∷ runs) d m =
     let z = shapes_in_lem (shapes_of favoured feed r) (choices_of favoured feed runs) m in
@@ -179,6 +187,7 @@ module _ (favoured : Bool) (j : ℕ) where
       (λ c d m n. go c d (with_in s cs m) (in_either (with_shape t cs) n))
     where
       go : (c d : List Shape) → (e : List Shape) × (c ≡ s ∷ e) × Among e cs → Among d (with_shape t cs) ⊎ Among d [] → mask_from favoured j c < mask_from favoured j d
+      go c d x (inr x'') = elim x'' [ ]
       go c d x (inl n) =
           let y = with_in t cs n in
           rw (x.1, y.1) (unfold mask_from in omega (arith, low x.0 x.2, es, et))
@@ -204,6 +213,7 @@ rising_run false j true low q = rising_two false j Lower Upper (mark_off false f
 -- A choice has a shape for each run.
 pub choice_long : (favoured : Bool) (feed : List Spot) (runs : List Run) (c : List Shape) → Among c (choices_of favoured feed runs) → length c ≡ length runs
 unfolding choices_of
+choice_long favoured feed [] c (later x4) = elim x4 [ ]
 choice_long favoured feed [] c (first e) = ap length e
 choice_long favoured feed (r ∷ runs) d m =
     let z = shapes_in_lem (shapes_of favoured feed r) (choices_of favoured feed runs) m in
@@ -258,6 +268,7 @@ module _ (feed : List Spot) (runs : List Run) (mask : List Shape → ℕ) (best 
   found : (c : List Shape) (cs : List (List Shape)) → long best < long c → Among best cs → Rising mask cs → ((d : List Shape) → Among d cs → Ahead d)
       → shortest feed runs c cs ≡ best
   unfolding shortest
+  found c [] l x4 _ h = elim x4 [ ]
   found c (d ∷ cs) l (first e) (more up q) h =
       rw (moves c d (sym e) l) (kept cs (λ x m. h x (later m)))
   found c (d ∷ cs) l (later m) (more up q) h =
@@ -270,5 +281,6 @@ module _ (feed : List Spot) (runs : List Run) (mask : List Shape → ℕ) (best 
   -- So the best is the first of the shortest.
   pub first_found : (cs : List (List Shape)) → Among best cs → Rising mask cs → ((d : List Shape) → Among d cs → Ahead d) → shortest_of feed runs cs ≡ best
   unfolding shortest_of
+  first_found [] x3 _ h = elim x3 [ ]
   first_found (c ∷ cs) (first e) (more up q) h = rw (sym e) (kept cs (λ x m. h x (later m)))
   first_found (c ∷ cs) (later m) (more up q) h = found c cs (ahead_lt c (up best m) (h c (first refl))) m q (λ x n. h x (later n))

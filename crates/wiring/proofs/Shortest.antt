@@ -73,6 +73,7 @@ module _ (feed : List Spot) (runs : List Run) where
         where
           by : long c ≤ long d → (x : List Shape) → Among x h.after ⊎ Among x (d ∷ []) → long c ≤ long x
           by l x (inl p) = h.as_long x p
+          by l x (inr (later x6)) = elim x6 [ ]
           by l x (inr (first q)) = rw q l
 
   -- And so on to the last.
@@ -86,6 +87,7 @@ module _ (feed : List Spot) (runs : List Run) where
   -- So the first of the shortest is found among any choices.
   of_some : (choices : List (List Shape)) (c : List Shape) → Among c choices → First long choices (shortest_of feed runs choices)
   unfolding shortest_of
+  of_some [] d m = elim m [ ]
   of_some (c ∷ left) d m =
       walk c (c ∷ []) left (record { before = []; after = []; listed = refl; longer = λ x n. absurd (none-among refl n); as_long = λ x n. absurd (none-among refl n) })
 

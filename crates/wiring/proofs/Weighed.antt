@@ -40,6 +40,7 @@ use Rattle.wiring.proofs.Laying.{near_place, far_place, grown}
 -- One pin taken out of it.
 sum-without : (g : ℕ → ℕ) (t : ℕ) (l : List ℕ) → Distinct l → Among t l → sum (map g l) ≡ g t + sum (map g (without t l))
 unfolding without sum kept_if
+sum-without g t [] _ x3 = elim x3 [ ]
 sum-without g t (a ∷ l) (also out d) (first e) =
     rw (eq-eqb a t (sym e))
     (ap₂ (λ (x y : ℕ). x + y) (ap g (sym e)) (ap (λ (k : List ℕ). sum (map g k)) (sym (without-none t l (λ m. out (subst (λ (z : ℕ). Among z l) e m))))))

@@ -78,7 +78,7 @@ pub record BestWiring (favoured : Bool) (feed : List Spot) (laid : Laid) : Type 
   -- its legs are those of its runs in these shapes, run by run, near to far,
   pub legs : legs_in laid ≡ legs_of_choice feed (runs_in laid.wiring) (shapes_in laid.wiring)
   -- and so many;
-  pub leg_count_lem : laid.wiring.legs ≡ length (legs_in laid)
+  pub leg_count : laid.wiring.legs ≡ length (legs_in laid)
   -- its length is the number of unit grid steps that at least one of them covers,
   pub covered : laid.wiring.length ≡ length_of (legs_in laid)
   -- at most that of every choice of shapes of these runs;

@@ -1,4 +1,6 @@
 // Wiring: the best shapes of the runs, the answer with its legs, and the choices weighed.
+#![tactic(auto)]
+
 ghost use Rattle.std.specs.Prelude.{◌≡◌, true};
 ghost use Rattle.board.specs.Spots.{spots_from, all_within, all_apart};
 ghost use Rattle.wiring.specs.Answer.{turned_away, wiring_favouring, wiring_of};
@@ -10,7 +12,7 @@ use refusal::Verdict;
 use tree::RUNS;
 
 // The answer of a wiring: its verdict, the length, the number of runs, the run entries, the number of legs, and the choices weighed.
-#[derive(Drop)]
+#[derive(Clone, Copy)]
 pub struct Wiring {
     pub verdict: Verdict,
     pub length: u64,
@@ -21,7 +23,7 @@ pub struct Wiring {
 }
 
 // The answer with the list of its legs by value.
-#[derive(Drop)]
+#[derive(Clone, Copy)]
 pub struct Laid {
     pub wiring: Wiring,
     pub list: [Leg; LEGS],
@@ -47,6 +49,7 @@ pub fn refused(verdict: Verdict) -> Laid
 }
 
 // The wiring of a feed, where one shape is favoured: false for lower, true for upper.
+#[tactic(auto, using(crate::proofs::Room::room_short))]
 fn wire_favouring(
     xs: &[i32; PINS],
     ys: &[i32; PINS],

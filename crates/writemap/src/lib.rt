@@ -1,4 +1,6 @@
 // Writing the map of a drawing in either form into a lent buffer: the record of each pin, and how many bytes they are.
+#![tactic(auto)]
+
 ghost use Rattle.std.specs.Prelude.{◌≡◌, true, ◌++◌, ℕ, ◌+◌, ◌<◌, ◌≤◌, length, take};
 ghost use Rattle.std.proofs.lemmas.List.Edits.{sets};
 ghost use Rattle.basics.specs.Tests.{each_of};
@@ -14,7 +16,7 @@ use pinmap::Form;
 use refusal::Verdict;
 
 // What writing a map comes to, and how many bytes were written.
-#[derive(Drop)]
+#[derive(Clone, Copy)]
 pub struct Writing {
     pub verdict: Verdict,
     pub bytes: usize,

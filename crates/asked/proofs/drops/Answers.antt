@@ -1,0 +1,11 @@
+-- `asked::drops` meets its contract, by what is found. Assumes nothing.
+use Rattle.asked.proofs.Writing.{found_lawful, drops_told}
+use Rattle.asked.proofs.drops.Goals as goal
+
+pub feed_dropped-lost-requires : goal.feed_dropped-lost-requires
+feed_dropped-lost-requires c = found_lawful c.args.desk c.args.seat c.find-found.ensures
+
+pub returns : goal.returns
+returns c =
+    let a = c.args in
+    drops_told a.desk a.seat c.find-found.ensures a.net a.loads a.sheet c.feed_dropped-lost.ensures

@@ -1,0 +1,14 @@
+-- `desk::Desk::place` meets its contract, by what is found. Assumes nothing.
+use mathlib.Core.Path.{◌∙◌}
+use Rattle.edits.specs.declared.stated.Making.TheVariants.{Placing}
+use Rattle.drawing.specs.Pins.{holding}
+use Rattle.desk.proofs.Found.{found_own, found_making}
+use Rattle.desk.proofs.Desk.place.Goals as goal
+
+pub make-requires : goal.make-requires
+make-requires c = found_own c.args.self c.args.seat c.find-found.ensures
+
+pub returns : goal.returns
+returns c =
+    let a = c.args in
+    c.make.ensures ∙ found_making a.self a.seat c.find-found.ensures (Placing a.pin (holding a.at a.net a.part))
