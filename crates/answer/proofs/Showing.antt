@@ -6,7 +6,7 @@ use Prim.Native.Nat.{ℕ, ◌≤◌}
 use native.Mathlib.Omega.{arith}
 use Rattle.refusal.specs.Refusals.{accepted}
 use Rattle.refusal.specs.Rows.{first_of}
-use Rattle.refusal.specs.declared.Verdict.{Verdict}
+use Rattle.refusal.specs.Refusals.{Verdict}
 use Rattle.basics.proofs.Tests.{choose_yes, choose_no}
 use Rattle.journal.specs.Journal.{most_records}
 use Rattle.seats.specs.Seats.{taken_back_count}
@@ -31,7 +31,7 @@ module _ (d : Desk) (s : ℕ) {f : Found} (g : f ≡ found_at d s) {v : Verdict}
 
   module _ (y : accepted v ≡ true) where
     -- Accepted, the records in use are at most 256.
-    pub few_used : d.used ≤ most_records
+    pub few_used : d.journal.used ≤ most_records
     few_used = used_within d (found_sound d (closing s) g e y)
 
   module _ (old : List ℕ) {n : ℕ} {new : List ℕ} where

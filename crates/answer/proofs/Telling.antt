@@ -1,22 +1,18 @@
 -- From what a call of the desk answers, and what is printed of it, to what its line prints. Assumes nothing.
 use mathlib.Core.Path.{◌≡◌, refl, ◌∙◌, ap}
-use mathlib.Core.Bool.{true, false}
 use mathlib.Core.List.{List, ◌∷◌}
 use Prim.Native.Nat.{ℕ, zero, suc, ◌≤◌}
 use native.Mathlib.Omega.{arith}
 use lib.ListN.{take, replicate}
-use Rattle.basics.specs.Tests.{choose}
-use Rattle.refusal.specs.Refusals.{accepted}
-use Rattle.refusal.specs.declared.Verdict.{Verdict}
+use Rattle.refusal.specs.declared.Refusal.{Refusal}
+use Rattle.std.specs.Prelude.{Result, Ok, Err}
 use Rattle.pinmap.specs.declared.Form.{Form}
-use Rattle.writemap.specs.declared.Writing.{Writing}
 use Rattle.forms.specs.Moving.{moved_of, buffer_moved}
 use Rattle.desk.specs.declared.Desk.{Desk}
 use Rattle.desk.specs.declared.Answered.{Answered}
-use Rattle.asked.specs.declared.Written.{Written}
 use Rattle.rows.specs.Calls.{Call}
 use Rattle.desk.specs.Desk.{step}
-use Rattle.asked.specs.Asked.{written_of, buffer_of}
+use Rattle.asked.specs.Asked.{Written, written_of, buffer_of}
 use Rattle.text.specs.Text.{most_room, answer_bytes, Holds}
 use Rattle.text.proofs.Printing.{held}
 use Rattle.printed.specs.Answers.{most_line_bytes, verdict_line, written_line}
@@ -31,27 +27,27 @@ module _ (d : Desk) (old : List ℕ) {n : ℕ} {new : List ℕ} where
 
   -- A writing: how many bytes it wrote and the whole buffer are printed, or its verdict.
   pub written_so : (s : ℕ) (buffer : List ℕ) {w : Written} {after : List ℕ} → w ≡ written_of d s buffer → after ≡ buffer_of d s buffer
-      → Holds answer_bytes (written_text w.verdict w.bytes after) old n new → Holds answer_bytes (writing_text d s buffer) old n new
+      → Holds answer_bytes (written_text w.answer after) old n new → Holds answer_bytes (writing_text d s buffer) old n new
   unfolding writing_text
   written_so s buffer e f h = rw (← e, ← f) h
 
 module _ (old : List ℕ) {n : ℕ} {new : List ℕ} where
   -- A moving: likewise.
-  pub moved_so : (to : Form) (job : ℕ) (map buffer : List ℕ) {w : Writing} {after : List ℕ} → w ≡ moved_of to job map buffer → after ≡ buffer_moved to job map buffer
-      → Holds answer_bytes (written_text w.verdict w.bytes after) old n new → Holds answer_bytes (moving_text to job map buffer) old n new
+  pub moved_so : (to : Form) (job : ℕ) (map buffer : List ℕ) {w : Result ℕ Refusal} {after : List ℕ} → w ≡ moved_of to job map buffer → after ≡ buffer_moved to job map buffer
+      → Holds answer_bytes (written_text w after) old n new → Holds answer_bytes (moving_text to job map buffer) old n new
   unfolding moving_text
   moved_so to job map buffer e f h = rw (← e, ← f) h
 
-  module _ (v : Verdict) (bytes : ℕ) (buffer : List ℕ) where
+  module _ (buffer : List ℕ) where
     -- What was accepted prints how many bytes were written and the whole buffer,
-    pub lent_done : accepted v ≡ true → Holds answer_bytes (written_line bytes buffer) old n new → Holds answer_bytes (written_text v bytes buffer) old n new
-    unfolding written_text choose
-    lent_done a h = rw a h
+    pub lent_done : (bytes : ℕ) → Holds answer_bytes (written_line bytes buffer) old n new → Holds answer_bytes (written_text (Ok bytes) buffer) old n new
+    unfolding written_text
+    lent_done bytes h = h
 
     -- and what was refused its verdict.
-    pub lent_refused : accepted v ≡ false → Holds most_line_bytes (verdict_line v) old n new → Holds answer_bytes (written_text v bytes buffer) old n new
-    unfolding written_text choose
-    lent_refused a h = rw a (held old most_line_bytes {p = verdict_line v} (omega arith) refl h)
+    pub lent_refused : (r : Refusal) → Holds most_line_bytes (verdict_line (Err r)) old n new → Holds answer_bytes (written_text (Err r) buffer) old n new
+    unfolding written_text
+    lent_refused r h = held old most_line_bytes {p = verdict_line (Err r)} (omega arith) refl h
 
 -- A wiring, a milling and drops are printed as they are answered.
 pub asked : {A : Type 0} (print : A → List ℕ) (answer : A) (old : List ℕ) {n : ℕ} {new : List ℕ} {a : A} → a ≡ answer

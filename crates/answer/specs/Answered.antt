@@ -1,10 +1,12 @@
 -- One line of a log on a desk: the desk that follows, and the text that is printed.
-use Rattle.std.specs.Prelude.{Bool, List, [], ℕ, eqb, replicate}
+use Rattle.std.specs.Prelude.{Bool, List, [], ℕ, eqb, replicate, Result}
 use Rattle.basics.specs.Tests.{choose}
 use Rattle.refusal.specs.Refusals.{accepted, told_of}
 use Rattle.refusal.specs.Rows.{first_of}
-use Rattle.refusal.specs.declared.Verdict.{Verdict}
-use Rattle.refusal.specs.declared.Verdict.TheVariants.{NotOpen}
+use Rattle.refusal.specs.Refusals.{Verdict}
+use Rattle.refusal.specs.declared.Refusal.{Refusal}
+use Rattle.refusal.specs.declared.Refusal.TheVariants.{NotOpen}
+use Rattle.std.specs.Prelude.{Ok, Err}
 use Rattle.edits.specs.declared.stated.Making.TheVariants.{Placing, Moving, Removing}
 use Rattle.drawing.specs.Pins.{holding}
 use Rattle.bare.specs.Bare.{bare_of}
@@ -52,20 +54,21 @@ abbrev pub lent_bytes : ℕ → List ℕ
 lent_bytes room = replicate room 0xEE
 
 -- What writes into a lent buffer prints the number of bytes written and the whole buffer after the call; where it is refused, its verdict.
-unfoldable pub written_text : Verdict → ℕ → List ℕ → List ℕ
-written_text verdict bytes buffer = choose (accepted verdict) (written_line bytes buffer) (verdict_line verdict)
+unfoldable pub written_text : Result ℕ Refusal → List ℕ → List ℕ
+written_text (Ok bytes) buffer = written_line bytes buffer
+written_text (Err r) buffer = verdict_line (Err r)
 
 -- Writing prints so,
 unfoldable pub writing_text : Desk → ℕ → List ℕ → List ℕ
-writing_text d s buffer = written_text (written_of d s buffer).verdict (written_of d s buffer).bytes (buffer_of d s buffer)
+writing_text d s buffer = written_text (written_of d s buffer).answer (buffer_of d s buffer)
 
 -- and so does moving a map to a form.
 unfoldable pub moving_text : Form → ℕ → List ℕ → List ℕ → List ℕ
-moving_text to job map buffer = written_text (moved_of to job map buffer).verdict (moved_of to job map buffer).bytes (buffer_moved to job map buffer)
+moving_text to job map buffer = written_text (moved_of to job map buffer) (buffer_moved to job map buffer)
 
 -- A verdict is 2: the seat is not open.
 abbrev pub is_not_open : Verdict → Bool
-is_not_open v = eqb (told_of v).number (told_of NotOpen).number
+is_not_open v = eqb (told_of v).number (told_of (Err NotOpen)).number
 
 -- `pins SEAT`, by 28, 1 and 2 as every call naming a seat: `closed` where it is 2, else the drawing, or the refusal.
 unfoldable pub seat_text : Desk → ℕ → List ℕ
@@ -86,10 +89,10 @@ printed d number line (Said.Remove s p) = call_text d (making s (Removing p))
 printed d number line (Said.Undo s) = call_text d (undoing s)
 printed d number line (Said.Redo s) = call_text d (redoing s)
 printed d number line (Said.Write s room) = writing_text d s (lent_bytes room)
-printed d number line (Said.Wire s net room) = laid_text (wired_of d s net room (favour_given line)).laid
-printed d number line (Said.Mill s net room) = cut_text (milled_of d s net room (favour_given line)).cut
+printed d number line (Said.Wire s net room) = laid_text (wired_of d s net room (favour_given line)).answer
+printed d number line (Said.Mill s net room) = cut_text (milled_of d s net room (favour_given line)).answer
 printed d number line (Said.Bare room) = laid_text (bare_of (xs_given line) (ys_given line) room (favour_given line))
-printed d number line (Said.Drops s net) = lost_line (dropped_of d s net (loads_given line) (sheet_given line)).lost
+printed d number line (Said.Drops s net) = lost_line (dropped_of d s net (loads_given line) (sheet_given line)).answer
 printed d number line (Said.Moved to job room) = moving_text to job (map_given 3 line) (lent_bytes room)
 printed d number line (Said.Pins s) = seat_text d s
 

@@ -15,7 +15,7 @@ ghost use Rattle.answer.specs.Answered.{played, call_text, lent_bytes, written_t
 use desk::{Answered, Desk};
 use pinmap::Form;
 use printed::{print_closed, print_drops, print_not_a_call, print_verdict, print_written};
-use refusal::Verdict;
+use refusal::{Refusal, Verdict};
 use script::Said;
 use shown::{print_cut, print_drawn, print_laid};
 use text::{ANSWER_BYTES, MOST_NUMBERS, MOST_PAIRS, MOST_ROOM};
@@ -32,10 +32,11 @@ fn told(call: Answered, out: &mut [u8; ANSWER_BYTES]) -> Answer
     ensures desk_value { result.desk ≡ call.desk }
     ensures holds { Holds answer_bytes (verdict_line call.verdict) out.old result.bytes out.new }
 {
-    let desk = call.desk;
-    let verdict = call.verdict;
-    let bytes = print_verdict(verdict, out);
-    Answer { desk, bytes }
+    let bytes = print_verdict(call.verdict, out);
+    Answer {
+        desk: call.desk,
+        bytes,
+    }
 }
 
 // Opens a seat with the map that the line gives, of the form that it says.
@@ -56,22 +57,21 @@ fn open(
 }
 
 // Prints what was written into a lent buffer, or why nothing was.
-fn print_lent(verdict: Verdict, bytes: usize, buffer: &[u8], out: &mut [u8; ANSWER_BYTES]) -> usize
-    ensures { Holds answer_bytes (written_text verdict bytes buffer.now) out.old result out.new }
+fn print_lent(written: Result<usize, Refusal>, buffer: &[u8], out: &mut [u8; ANSWER_BYTES]) -> usize
+    ensures { Holds answer_bytes (written_text written buffer.now) out.old result out.new }
 {
-    if refusal::is_accepted(verdict) {
-        return print_written(bytes, buffer, out);
+    match written {
+        Ok(bytes) => print_written(bytes, buffer, out),
+        Err(refusal) => print_verdict(Err(refusal), out),
     }
-    print_verdict(verdict, out)
 }
 
 // Writes a map into a lent buffer.
-fn write_into(desk: Desk, seat: usize, buffer: &mut [u8], out: &mut [u8; ANSWER_BYTES]) -> usize
-    ensures { Holds answer_bytes (writing_text desk seat buffer.old) out.old result out.new }
+fn write_into(desk: &Desk, seat: usize, buffer: &mut [u8], out: &mut [u8; ANSWER_BYTES]) -> usize
+    ensures { Holds answer_bytes (writing_text desk.now seat buffer.old) out.old result out.new }
 {
-    let written = asked::write(desk, seat, buffer);
-    let verdict = written.verdict;
-    print_lent(verdict, written.bytes, buffer, out)
+    let written = asked::write(*desk, seat, buffer);
+    print_lent(written.answer, buffer, out)
 }
 
 // The most room that is lent, each byte holding EE.
@@ -82,9 +82,9 @@ fn lent_bytes() -> [u8; MOST_ROOM]
 }
 
 // Writes a map into lent room.
-fn write(desk: Desk, seat: usize, room: usize, out: &mut [u8; ANSWER_BYTES]) -> usize
+fn write(desk: &Desk, seat: usize, room: usize, out: &mut [u8; ANSWER_BYTES]) -> usize
     requires { room ≤ most_room }
-    ensures { Holds answer_bytes (writing_text desk seat (lent_bytes room)) out.old result out.new }
+    ensures { Holds answer_bytes (writing_text desk.now seat (lent_bytes room)) out.old result out.new }
 {
     let mut buffer = lent_bytes();
     write_into(desk, seat, &mut buffer[..room], out)
@@ -101,8 +101,7 @@ fn move_into(
     ensures { Holds answer_bytes (moving_text to job map.now buffer.old) out.old result out.new }
 {
     let moved = forms::move_map(to, job, map, buffer);
-    let verdict = moved.verdict;
-    print_lent(verdict, moved.bytes, buffer, out)
+    print_lent(moved, buffer, out)
 }
 
 // Moves the map that the line gives to a form, into lent room.
@@ -118,36 +117,32 @@ fn move_map(to: Form, job: u16, room: usize, line: &[u8], out: &mut [u8; ANSWER_
 
 // Wires a net of a seat, as the line says of the shape to favour.
 fn wire(
-    desk: Desk,
+    desk: &Desk,
     seat: usize,
     net: u32,
     room: usize,
     line: &[u8],
     out: &mut [u8; ANSWER_BYTES],
 ) -> usize
-    ensures { Holds answer_bytes (laid_text (wired_of desk seat net room (favour_given line.now)).laid) out.old result out.new }
+    ensures { Holds answer_bytes (laid_text (wired_of desk.now seat net room (favour_given line.now)).answer) out.old result out.new }
 {
-    let favour = script::given_favour(line);
-    let wired = asked::wire(desk, seat, net, room, favour);
-    let laid = wired.laid;
-    print_laid(laid, out)
+    let wired = asked::wire(*desk, seat, net, room, script::given_favour(line));
+    print_laid(&wired.answer, out)
 }
 
 // Mills a net of a seat, as the line says of the shape to favour.
 fn mill(
-    desk: Desk,
+    desk: &Desk,
     seat: usize,
     net: u32,
     room: usize,
     line: &[u8],
     out: &mut [u8; ANSWER_BYTES],
 ) -> usize
-    ensures { Holds answer_bytes (cut_text (milled_of desk seat net room (favour_given line.now)).cut) out.old result out.new }
+    ensures { Holds answer_bytes (cut_text (milled_of desk.now seat net room (favour_given line.now)).answer) out.old result out.new }
 {
-    let favour = script::given_favour(line);
-    let milled = asked::mill(desk, seat, net, room, favour);
-    let cut = milled.cut;
-    print_cut(cut, out)
+    let milled = asked::mill(*desk, seat, net, room, script::given_favour(line));
+    print_cut(&milled.answer, out)
 }
 
 // Wires the x and y that the line gives, as it says of the shape to favour.
@@ -160,48 +155,46 @@ fn wire_bare(line: &[u8], room: usize, out: &mut [u8; ANSWER_BYTES]) -> usize
     let up = script::given_ys(line, &mut ys);
     let favour = script::given_favour(line);
     let laid = bare::wire_bare(&xs[..across], &ys[..up], room, favour);
-    print_laid(laid, out)
+    print_laid(&laid, out)
 }
 
 // Asks for the drops of a net of a seat, with the sheet and the loads that the line gives.
-fn drops(desk: Desk, seat: usize, net: u32, line: &[u8], out: &mut [u8; ANSWER_BYTES]) -> usize
-    ensures { Holds answer_bytes (lost_line (dropped_of desk seat net (loads_given line.now) (sheet_given line.now)).lost) out.old result out.new }
+fn drops(desk: &Desk, seat: usize, net: u32, line: &[u8], out: &mut [u8; ANSWER_BYTES]) -> usize
+    ensures { Holds answer_bytes (lost_line (dropped_of desk.now seat net (loads_given line.now) (sheet_given line.now)).answer) out.old result out.new }
 {
     let loads = script::given_loads(line);
     let sheet = script::given_sheet(line);
-    let dropped = asked::drops(desk, seat, net, loads, sheet);
-    let lost = dropped.lost;
-    print_drops(lost, out)
+    let dropped = asked::drops(*desk, seat, net, &loads, sheet);
+    print_drops(dropped.answer, out)
 }
 
 // Whether a verdict is 2: the seat is not open.
 fn is_not_open(verdict: Verdict) -> bool
     ensures { result ≡ is_not_open verdict }
 {
-    let told = refusal::tell(verdict);
-    let closed = refusal::tell(Verdict::NotOpen);
-    told.number == closed.number
+    verdict == Err(Refusal::NotOpen)
 }
 
 // Shows the drawing at a seat; 28 comes first, as for every call.
-fn show_pins(desk: Desk, seat: usize, out: &mut [u8; ANSWER_BYTES]) -> usize
-    ensures { Holds answer_bytes (seat_text desk seat) out.old result out.new }
+fn show_pins(desk: &Desk, seat: usize, out: &mut [u8; ANSWER_BYTES]) -> usize
+    ensures { Holds answer_bytes (seat_text desk.now seat) out.old result out.new }
 {
-    let seats = desk.seats;
-    let records = desk.journal;
-    let used = desk.used;
-    let found = rows::find(seats, records, used, seat);
-    let verdict = rows::turned_naming(found);
+    let found = desk.find(seat);
+    let verdict = rows::turned_naming(&found);
     if is_not_open(verdict) {
         return print_closed(out);
     }
-    if !refusal::is_accepted(verdict) {
+    if verdict.is_err() {
         return print_verdict(verdict, out);
     }
-    let s = found.state;
-    let taken_back = seats::taken_back_count(s, records, used, seat);
-    let pins = s.pins;
-    print_drawn(s.job, pins, s.standing, taken_back, out)
+    let taken_back = found.state.taken_back_count(&desk.journal, seat);
+    print_drawn(
+        found.state.job,
+        &found.state.pins,
+        found.state.standing,
+        taken_back,
+        out,
+    )
 }
 
 // Answers the line of that number, without its newline.
@@ -230,15 +223,15 @@ pub fn answer_line(desk: Desk, number: usize, line: &[u8], out: &mut [u8; ANSWER
         Said::Undo { seat } => told(desk.undo(seat), out),
         Said::Redo { seat } => told(desk.redo(seat), out),
         Said::Write { seat, room } => {
-            let bytes = write(desk, seat, room, out);
+            let bytes = write(&desk, seat, room, out);
             Answer { desk, bytes }
         }
         Said::Wire { seat, net, room } => {
-            let bytes = wire(desk, seat, net, room, line, out);
+            let bytes = wire(&desk, seat, net, room, line, out);
             Answer { desk, bytes }
         }
         Said::Mill { seat, net, room } => {
-            let bytes = mill(desk, seat, net, room, line, out);
+            let bytes = mill(&desk, seat, net, room, line, out);
             Answer { desk, bytes }
         }
         Said::Bare { room } => {
@@ -246,7 +239,7 @@ pub fn answer_line(desk: Desk, number: usize, line: &[u8], out: &mut [u8; ANSWER
             Answer { desk, bytes }
         }
         Said::Drops { seat, net } => {
-            let bytes = drops(desk, seat, net, line, out);
+            let bytes = drops(&desk, seat, net, line, out);
             Answer { desk, bytes }
         }
         Said::Moved { to, job, room } => {
@@ -254,7 +247,7 @@ pub fn answer_line(desk: Desk, number: usize, line: &[u8], out: &mut [u8; ANSWER
             Answer { desk, bytes }
         }
         Said::Pins { seat } => {
-            let bytes = show_pins(desk, seat, out);
+            let bytes = show_pins(&desk, seat, out);
             Answer { desk, bytes }
         }
     }

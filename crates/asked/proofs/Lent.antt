@@ -15,14 +15,12 @@ use Rattle.mill.proofs.Fitting.{cut_fits}
 use Rattle.rows.specs.Calls.{asking, milling}
 use Rattle.rows.proofs.Rows.{rows_apart}
 use Rattle.desk.specs.declared.Desk.{Desk}
-use Rattle.asked.specs.declared.WiredSeat.{WiredSeat}
-use Rattle.asked.specs.declared.MilledSeat.{MilledSeat}
 use Rattle.desk.specs.Desk.{look_at, naming_net_at, feed_at}
-use Rattle.asked.specs.Asked.{wired_of, wired_seat_of, lent_of, milled_of, milled_seat_of, segments_lent_of}
+use Rattle.asked.specs.Asked.{WiredSeat, MilledSeat, wired_of, wired_seat_of, lent_of, milled_of, milled_seat_of, segments_lent_of}
 use Rattle.desk.proofs.Sound.{feed_whole}
 
 -- The legs of a seat's wiring are at most 62, and at most the room.
-pub seat_fits : (d : Desk) (s net room : ℕ) (favour : Favour) → Fits room (wired_of d s net room favour).laid
+pub seat_fits : (d : Desk) (s net room : ℕ) (favour : Favour) → Fits room (wired_of d s net room favour).answer
 unfolding wired_of
 seat_fits d s net room favour =
     let v = first_of (naming_net_at d s net) in
@@ -30,30 +28,32 @@ seat_fits d s net room favour =
 
 module _ (d : Desk) (s net : ℕ) (lent : List Leg) (favour : Favour) where
   -- What is answered,
-  pub seat_answered : ◌≡◌ {A = WiredSeat} (record { desk = (wired_of d s net (length lent) favour).desk; wiring = (wired_of d s net (length lent) favour).laid.wiring })
+  pub seat_answered : ◌≡◌ {A = WiredSeat}
+      (record { desk = (wired_of d s net (length lent) favour).desk; answer = (wired_of d s net (length lent) favour).answer.wiring })
       (wired_seat_of d s net lent favour)
   unfolding wired_seat_of wired_of
   seat_answered = refl
 
   -- and what the list holds then.
-  pub legs_lent : filled_with (strip_of (wired_of d s net (length lent) favour).laid) lent ≡ lent_of d s net lent favour
+  pub legs_lent : filled_with (strip_of (wired_of d s net (length lent) favour).answer) lent ≡ lent_of d s net lent favour
   unfolding lent_of
   legs_lent = refl
 
 -- The segments of a seat's copper are at most 62, and at most the room.
-pub milling_fits : (d : Desk) (s net room : ℕ) (favour : Favour) → StripFits room (strip_of_cut (milled_of d s net room favour).cut)
+pub milling_fits : (d : Desk) (s net room : ℕ) (favour : Favour) → StripFits room (strip_of_cut (milled_of d s net room favour).answer)
 unfolding milled_of
 milling_fits d s net room favour =
     cut_fits (naming_net_at d s net) (feed_at d s net) room favour (rows_apart (look_at d s) (asking s (milling net room favour))) (feed_whole d s net)
 
 module _ (d : Desk) (s net : ℕ) (lent : List Leg) (favour : Favour) where
   -- What is answered,
-  pub milling_answered : ◌≡◌ {A = MilledSeat} (record { desk = (milled_of d s net (length lent) favour).desk; milling = (milled_of d s net (length lent) favour).cut.milling })
+  pub milling_answered : ◌≡◌ {A = MilledSeat}
+      (record { desk = (milled_of d s net (length lent) favour).desk; answer = (milled_of d s net (length lent) favour).answer.milling })
       (milled_seat_of d s net lent favour)
   unfolding milled_seat_of milled_of
   milling_answered = refl
 
   -- and what the list holds then.
-  pub segments_lent : filled_with (strip_of_cut (milled_of d s net (length lent) favour).cut) lent ≡ segments_lent_of d s net lent favour
+  pub segments_lent : filled_with (strip_of_cut (milled_of d s net (length lent) favour).answer) lent ≡ segments_lent_of d s net lent favour
   unfolding segments_lent_of
   segments_lent = refl

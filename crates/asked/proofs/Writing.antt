@@ -6,16 +6,17 @@ use Prim.Native.Nat.{ℕ}
 use borrow.Author.Tests.{leb-false, not-false}
 use lib.Dec.{leb}
 use lib.ListN.{length}
+use Rattle.std.specs.Prelude.{Result}
 use Rattle.basics.specs.Tests.{choose}
 use Rattle.refusal.specs.Refusals.{accepted}
-use Rattle.refusal.specs.Rows.{Row, first_of}
-use Rattle.refusal.specs.declared.Verdict.{Verdict}
+use Rattle.refusal.specs.Rows.{Row, first_of, granted}
+use Rattle.refusal.specs.Refusals.{Verdict}
+use Rattle.refusal.specs.declared.Refusal.{Refusal}
 use Rattle.refusal.proofs.Rows.{decided}
 use Rattle.drawing.specs.Pins.{lawful, feed_of}
 use Rattle.pinmap.specs.declared.Form.TheVariants.{New}
-use Rattle.writemap.specs.declared.Writing.{Writing}
 use Rattle.writemap.specs.Map.{map_of, room_rows, written, write_by, buffer_by}
-use Rattle.loads.specs.declared.Loaded.{Loaded}
+use Rattle.loads.specs.declared.Load.{Load}
 use Rattle.loads.specs.declared.Sheet.{Sheet}
 use Rattle.drops.specs.declared.Lost.{Lost}
 use Rattle.drops.specs.Drops.{no_drops, drop_rows, drops_of, lost_by}
@@ -28,12 +29,8 @@ use Rattle.rows.specs.declared.Found.{Found}
 use Rattle.pinrows.specs.PinRows.{net_row}
 use Rattle.rows.specs.Found.{naming_found, naming_net, wired_by}
 use Rattle.desk.specs.declared.Desk.{Desk}
-use Rattle.asked.specs.declared.Written.{Written}
-use Rattle.asked.specs.declared.Wired.{Wired}
-use Rattle.asked.specs.declared.Milled.{Milled}
-use Rattle.asked.specs.declared.Dropped.{Dropped}
 use Rattle.desk.specs.Desk.{closed_seat, seat_of, naming_at, naming_net_at, feed_at, sound}
-use Rattle.asked.specs.Asked.{written_of, buffer_of, wired_of, milled_of, dropped_of}
+use Rattle.asked.specs.Asked.{Written, Wired, Milled, Dropped, written_of, buffer_of, wired_of, milled_of, dropped_of}
 use Rattle.desk.proofs.Sound.{pins_lawful}
 use Rattle.desk.proofs.Found.{found_at}
 use Rattle.copper.specs.declared.Favour.{Favour}
@@ -47,7 +44,7 @@ abbrev rows_found : Found → List ℕ → List Row
 rows_found f buffer = naming_found f ++ room_rows New f.state.job f.state.pins (length buffer)
 
 -- what is answered,
-abbrev write_found : List ℕ → Found → Writing
+abbrev write_found : List ℕ → Found → Result ℕ Refusal
 write_found buffer f = write_by (rows_found f buffer) (map_found f)
 
 -- what the buffer holds then,
@@ -55,7 +52,7 @@ abbrev buffer_found : List ℕ → Found → List ℕ
 buffer_found buffer f = buffer_by (rows_found f buffer) (map_found f) buffer
 
 -- the volts lost,
-abbrev lost_found : ℕ → List Loaded → Sheet → Found → Lost
+abbrev lost_found : ℕ → List Load → Sheet → Found → Lost
 lost_found net loads sheet f = lost_by (naming_net f net ++ drop_rows (feed_of f.state.pins net) loads sheet) (drops_of (feed_of f.state.pins net) loads sheet)
 
 -- how it is wired,
@@ -69,12 +66,23 @@ cut_found net room favour f = cut_by (naming_net f net ++ mill_rows (feed_of f.s
 -- A call looks at the seat only where neither 28 nor 1 applies.
 module _ (d : Desk) (s : ℕ) where
   -- What is decided of what is found is decided of the seat,
-  decided_by : {A B : Type 0} (answer : Verdict → A → B) (nothing : A) (asked : Seat → A) (more : Seat → List Row) (b t : Bool) → not (sound d) ≡ b → leb most_seats s ≡ t
-      → decided answer (asked (found_at d s).state) nothing (naming_found (found_at d s) ++ more (found_at d s).state) ≡ decided answer (asked (seat_of d s)) nothing (naming_at d s ++ more (seat_of d s))
+  decided_by : {A B : Type 0} (answer : Verdict → A → B) (nothing : A) (asked : Seat → A) (more : Seat → List Row) (b t : Bool)
+      → not (sound d) ≡ b → leb most_seats s ≡ t
+      → decided answer (asked (found_at d s).state) nothing (naming_found (found_at d s) ++ more (found_at d s).state)
+      ≡ decided answer (asked (seat_of d s)) nothing (naming_at d s ++ more (seat_of d s))
   unfolding sound accepted first_of choose
   decided_by answer nothing asked more true t k e = rw k
   decided_by answer nothing asked more false true k e = rw (k, e)
   decided_by answer nothing asked more false false k e = rw (k, e)
+
+  -- what is granted of it is granted of the seat,
+  granted_by : {A : Type 0} (asked : Seat → A) (more : Seat → List Row) (b t : Bool) → not (sound d) ≡ b → leb most_seats s ≡ t
+      → granted (first_of (naming_found (found_at d s) ++ more (found_at d s).state)) (asked (found_at d s).state)
+      ≡ granted (first_of (naming_at d s ++ more (seat_of d s))) (asked (seat_of d s))
+  unfolding sound first_of choose
+  granted_by asked more true t k e = rw k
+  granted_by asked more false true k e = rw (k, e)
+  granted_by asked more false false k e = rw (k, e)
 
   -- and is wired as it is.
   wired_by_lem : (net room : ℕ) (favour : Favour) (b t : Bool) → not (sound d) ≡ b → leb most_seats s ≡ t
@@ -86,37 +94,38 @@ module _ (d : Desk) (s : ℕ) where
 
 module _ (d : Desk) (s : ℕ) {f : Found} (g : f ≡ found_at d s) where
   -- Wiring: the answer with its legs.
-  pub wire_laid : (net room : ℕ) (favour : Favour) {w : Laid} → w ≡ wire_found net room favour f → ◌≡◌ {A = Wired} (record { desk = d; laid = w }) (wired_of d s net room favour)
+  pub wire_laid : (net room : ℕ) (favour : Favour) {w : Laid} → w ≡ wire_found net room favour f
+      → ◌≡◌ {A = Wired} (record { desk = d; answer = w }) (wired_of d s net room favour)
   unfolding wired_of
   wire_laid net room favour e =
       let q = e ∙ ap (wire_found net room favour) g ∙ wired_by_lem d s net room favour _ _ refl refl in
-      λ i. record { desk = d; laid = q i }
+      λ i. record { desk = d; answer = q i }
 
   -- Milling: the answer with its segments.
-  pub mill_cut : (net room : ℕ) (favour : Favour) {w : Cut} → w ≡ cut_found net room favour f → ◌≡◌ {A = Milled} (record { desk = d; cut = w }) (milled_of d s net room favour)
+  pub mill_cut : (net room : ℕ) (favour : Favour) {w : Cut} → w ≡ cut_found net room favour f
+      → ◌≡◌ {A = Milled} (record { desk = d; answer = w }) (milled_of d s net room favour)
   unfolding milled_of
   mill_cut net room favour e =
       let q = e ∙ ap (cut_found net room favour) g
       ∙ decided_by d s cut_with [] (λ t. copper_of (feed_of t.pins net) favour) (λ t. net_row net ∷ mill_rows (feed_of t.pins net) room favour) _ _ refl refl in
-      λ i. record { desk = d; cut = q i }
+      λ i. record { desk = d; answer = q i }
 
   -- Volts lost: the answer with its drops.
-  pub drops_told : (net : ℕ) (loads : List Loaded) (sheet : Sheet) {w : Lost} → w ≡ lost_found net loads sheet f
-      → ◌≡◌ {A = Dropped} (record { desk = d; lost = w }) (dropped_of d s net loads sheet)
+  pub drops_told : (net : ℕ) (loads : List Load) (sheet : Sheet) {w : Lost} → w ≡ lost_found net loads sheet f
+      → ◌≡◌ {A = Dropped} (record { desk = d; answer = w }) (dropped_of d s net loads sheet)
   unfolding dropped_of
   drops_told net loads sheet e =
       let q = e ∙ ap (lost_found net loads sheet) g
-      ∙ decided_by d s (λ v l. record { verdict = v; drops = l }) no_drops (λ t. drops_of (feed_of t.pins net) loads sheet) (λ t. net_row net ∷ drop_rows (feed_of t.pins net) loads sheet) _ _ refl refl in
-      λ i. record { desk = d; lost = q i }
+      ∙ decided_by d s (λ v l. record { verdict = v; drops = l }) no_drops (λ t. drops_of (feed_of t.pins net) loads sheet)
+      (λ t. net_row net ∷ drop_rows (feed_of t.pins net) loads sheet) _ _ refl refl in
+      λ i. record { desk = d; answer = q i }
 
-  -- Writing: the answer and the number of bytes,
-  pub write_done : (b : List ℕ) {w : Writing} → w ≡ write_found b f
-      → ◌≡◌ {A = Written} (record { desk = d; verdict = w.verdict; bytes = w.bytes }) (written_of d s b)
+  -- Writing: the number of bytes, or why not,
+  pub write_done : (b : List ℕ) {w : Result ℕ Refusal} → w ≡ write_found b f → ◌≡◌ {A = Written} (record { desk = d; answer = w }) (written_of d s b)
   unfolding written_of
   write_done b e =
-      let q = e ∙ ap (write_found b) g
-      ∙ decided_by d s (λ v n. record { verdict = v; bytes = n }) 0 (λ t. length (map_of New t.job t.pins)) (λ t. room_rows New t.job t.pins (length b)) _ _ refl refl in
-      λ i. record { desk = d; verdict = (q i).verdict; bytes = (q i).bytes }
+      let q = e ∙ ap (write_found b) g ∙ granted_by d s (λ t. length (map_of New t.job t.pins)) (λ t. room_rows New t.job t.pins (length b)) _ _ refl refl in
+      λ i. record { desk = d; answer = q i }
 
   -- and the buffer.
   pub write_left : (b : List ℕ) {x : List ℕ} → x ≡ buffer_found b f → x ≡ buffer_of d s b

@@ -8,94 +8,67 @@ use board::PINS;
 use copper::{Favour, Leg};
 use desk::Desk;
 use drops::Lost;
-use loads::{Loaded, Sheet};
+use loads::{Load, Sheet};
 use mill::{Cut, Milling};
-use refusal::Verdict;
+use refusal::Refusal;
 use wiring::{Laid, Wiring};
 
-// What writing hands back: the desk as it is, the answer, and the number of bytes written.
+// What a call that asks hands back: the desk as it is, and the answer.
 #[derive(Clone, Copy)]
-pub struct Written {
+pub struct Asked<A> {
     pub desk: Desk,
-    pub verdict: Verdict,
-    pub bytes: usize,
+    pub answer: A,
 }
+
+// What writing hands back: the desk as it is, and the number of bytes written, or why not.
+pub type Written = Asked<Result<usize, Refusal>>;
 
 // What wiring hands back: the desk as it is, and the answer with its legs.
-#[derive(Clone, Copy)]
-pub struct Wired {
-    pub desk: Desk,
-    pub laid: Laid,
-}
+pub type Wired = Asked<Laid>;
 
 // What wiring into a lent list of legs hands back: the desk as it is, and the answer.
-#[derive(Clone, Copy)]
-pub struct WiredSeat {
-    pub desk: Desk,
-    pub wiring: Wiring,
-}
+pub type WiredSeat = Asked<Wiring>;
 
 // What milling hands back: the desk as it is, and the answer with its segments.
-#[derive(Clone, Copy)]
-pub struct Milled {
-    pub desk: Desk,
-    pub cut: Cut,
-}
+pub type Milled = Asked<Cut>;
 
 // What milling into a lent list of segments hands back: the desk as it is, and the answer.
-#[derive(Clone, Copy)]
-pub struct MilledSeat {
-    pub desk: Desk,
-    pub milling: Milling,
-}
+pub type MilledSeat = Asked<Milling>;
 
 // What the call for volts lost hands back: the desk as it is, and the answer.
-#[derive(Clone, Copy)]
-pub struct Dropped {
-    pub desk: Desk,
-    pub lost: Lost,
-}
+pub type Dropped = Asked<Lost>;
 
 // Writes the map of the drawing at `seat`, in the new form, into a lent buffer, and says how many bytes, or why not. The desk stays as it is.
 pub fn write(desk: Desk, seat: usize, buffer: &mut [u8]) -> Written
     ensures value { result ≡ written_of desk seat buffer.old }
     ensures buffer_after { buffer.new ≡ buffer_of desk seat buffer.old }
 {
-    let found = desk.find(seat);
-    let writing = asking::map_written(found, buffer);
-    let verdict = writing.verdict;
-    Written {
-        desk,
-        verdict,
-        bytes: writing.bytes,
-    }
+    let answer = asking::map_written(&desk.find(seat), buffer);
+    Asked { desk, answer }
 }
 
 // Wires a net of the drawing at `seat`, with room for so many legs, as is said of the shape to favour; or says why not. The desk stays as it is.
 pub fn wire(desk: Desk, seat: usize, net: u32, room: usize, favour: Favour) -> Wired
     ensures { result ≡ wired_of desk seat net room favour }
 {
-    let found = desk.find(seat);
-    let laid = asking::feed_wired(found, net, room, favour);
-    Wired { desk, laid }
+    let answer = asking::feed_wired(&desk.find(seat), net, room, favour);
+    Asked { desk, answer }
 }
 
 // Gives the copper of a net of the drawing at `seat` as segments, with room for so many, as is said of the shape to favour; or says why not. The desk stays as it is.
 pub fn mill(desk: Desk, seat: usize, net: u32, room: usize, favour: Favour) -> Milled
     ensures { result ≡ milled_of desk seat net room favour }
 {
-    let found = desk.find(seat);
-    let cut = asking::feed_milled(found, net, room, favour);
-    Milled { desk, cut }
+    let answer = asking::feed_milled(&desk.find(seat), net, room, favour);
+    Asked { desk, answer }
 }
 
 // The volts lost to each pin of a net of the drawing at `seat`, for these loads, one for each pin number, and this board sheet; or says why not. The desk stays as it is.
-pub fn drops(desk: Desk, seat: usize, net: u32, loads: [Loaded; PINS], sheet: Sheet) -> Dropped
-    ensures { result ≡ dropped_of desk seat net loads sheet }
+pub fn drops(desk: Desk, seat: usize, net: u32, loads: &[Load; PINS], sheet: Sheet) -> Dropped
+    ensures { result ≡ dropped_of desk seat net loads.now sheet }
 {
-    let found = desk.find(seat);
-    let lost = asking::feed_dropped(found, net, loads, sheet);
-    Dropped { desk, lost }
+    let answer = asking::feed_dropped(&desk.find(seat), net, loads, sheet);
+    Asked { desk, answer }
 }
 
 // Wires a net of the drawing at `seat` and fills a lent list with its legs, or says why not. Entries after the legs keep what they held.
@@ -103,13 +76,11 @@ pub fn wire_lent(desk: Desk, seat: usize, net: u32, legs: &mut [Leg], favour: Fa
     ensures value { result ≡ wired_seat_of desk seat net legs.old favour }
     ensures legs_after { legs.new ≡ lent_of desk seat net legs.old favour }
 {
-    let wired = wire(desk, seat, net, legs.len(), favour);
-    let laid = wired.laid;
-    let strip = lent::strip_of(laid);
-    lent::fill(strip, legs);
-    WiredSeat {
-        desk: wired.desk,
-        wiring: laid.wiring,
+    let Asked { desk, answer } = wire(desk, seat, net, legs.len(), favour);
+    lent::fill(lent::strip_of(answer), legs);
+    Asked {
+        desk,
+        answer: answer.wiring,
     }
 }
 
@@ -124,12 +95,10 @@ pub fn mill_lent(
     ensures value { result ≡ milled_seat_of desk seat net segments.old favour }
     ensures segments_after { segments.new ≡ segments_lent_of desk seat net segments.old favour }
 {
-    let milled = mill(desk, seat, net, segments.len(), favour);
-    let cut = milled.cut;
-    let strip = mill::strip_of(cut);
-    lent::fill(strip, segments);
-    MilledSeat {
-        desk: milled.desk,
-        milling: cut.milling,
+    let Asked { desk, answer } = mill(desk, seat, net, segments.len(), favour);
+    lent::fill(mill::strip_of(answer), segments);
+    Asked {
+        desk,
+        answer: answer.milling,
     }
 }

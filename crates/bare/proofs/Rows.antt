@@ -5,13 +5,14 @@ use mathlib.Core.List.{List, [], ◌∷◌, ◌++◌}
 use Prim.Native.Nat.{ℕ}
 use lib.IntN.{ℤ}
 use lib.Dec.{eqb}
+use native.Mathlib.Omega.{arith}
+use borrow.Author.Tests.{lt-ltb}
 use lib.ListN.{length, drop}
 use Rattle.basics.specs.Tests.{both, choose}
 use Rattle.basics.specs.Lists.{values_from}
 use Rattle.refusal.specs.Refusals.{accepted}
 use Rattle.refusal.specs.Rows.{Row, first_of, NoneHolds, Exactly}
 use Rattle.refusal.proofs.Rows.{distinct, unlike, Apart, apart_by, joined, miss, none-holds, exactly}
-use Rattle.board.specs.Spots.{spots_from}
 use Rattle.tree.specs.Growth.{kept_if, pins_from, pins_of}
 use Rattle.tree.specs.Trees.{none}
 use Rattle.wiring.specs.Answer.{wiring_of, feed_rows}
@@ -22,9 +23,9 @@ use Rattle.copper.specs.declared.Favour.{Favour}
 
 -- Lists that are not empty have a pin.
 pins_there_lem : (xs ys : List ℤ) → eqb (length xs) 0 ≡ false → none (pins_of (feed_of_lists xs ys)) ≡ false
-unfolding feed_of_lists spots_from values_from pins_of pins_from kept_if choose
+unfolding feed_of_lists values_from pins_of pins_from kept_if choose
 pins_there_lem [] ys e = e
-pins_there_lem (x ∷ xs) ys e = refl
+pins_there_lem (x ∷ xs) ys e = rw (lt-ltb 0 (length (x ∷ xs)) (omega arith)) refl
 
 -- A row that never holds where those before it are passed can be left out.
 left_out : (rows : List Row) (r : Row) (more : List Row) → Apart rows → (NoneHolds rows → r.condition ≡ false) → first_of (rows ++ (r ∷ more)) ≡ first_of (rows ++ more)
@@ -45,7 +46,7 @@ module _ (xs ys : List ℤ) (room : ℕ) (favour : Favour) where
 
   -- The rows are apart.
   bare_apart : Apart (bare_rows xs ys room favour)
-  unfolding distinct unlike both accepted
+  unfolding distinct unlike both
   bare_apart = apart_by (bare_rows xs ys room favour) refl
 
   -- EACH REFUSAL OF BARE WIRING EXACTLY.

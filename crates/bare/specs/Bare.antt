@@ -1,18 +1,23 @@
 -- Bare wiring: lists of x and y as a feed, and its refusals.
-use Rattle.std.specs.Prelude.{Bool, true, not, List, [], ◌∷◌, ◌++◌, ℕ, ℤ, eqb, ltb, length, drop, replicate}
+use Rattle.std.specs.Prelude.{Bool, not, List, [], ◌∷◌, ◌++◌, ℕ, ℤ, pos, eqb, ltb, length, get_or, drop, None, Some}
 use Rattle.basics.specs.Tests.{either, choose}
+use Rattle.basics.specs.Lists.{values_from}
 use Rattle.refusal.specs.Refusals.{accepted}
 use Rattle.refusal.specs.Rows.{Row, given, first_of}
-use Rattle.refusal.specs.declared.Verdict.TheVariants.{ListLengths, NoPins, Outside, PinTooNear}
-use Rattle.board.specs.declared.Spot.{Spot}
-use Rattle.board.specs.Spots.{most_pins, spots_from, all_within, all_apart}
+use Rattle.refusal.specs.declared.Refusal.TheVariants.{ListLengths, NoPins, Outside, PinTooNear}
+use Rattle.board.specs.Place.{place}
+use Rattle.board.specs.Spots.{Spot, most_pins, all_within, all_apart}
 use Rattle.wiring.specs.declared.Laid.{Laid}
 use Rattle.wiring.specs.Answer.{turned_away, wiring_of, feed_rows}
 use Rattle.copper.specs.declared.Favour.{Favour}
 
--- The pins of lists of x and y, numbered by position: one is there for each x.
+-- The pin at a position of lists of x and y: one is there for each x.
+abbrev pub listed_at : List ℤ → List ℤ → ℕ → Spot
+listed_at xs ys i = choose (ltb i (length xs)) (Some (place (get_or xs i (pos 0)) (get_or ys i (pos 0)))) None
+
+-- The pins of lists of x and y, numbered by position.
 unfoldable pub feed_of_lists : List ℤ → List ℤ → List Spot
-feed_of_lists xs ys = spots_from xs ys (replicate (length xs) true)
+feed_of_lists xs ys = values_from (listed_at xs ys) 0 most_pins
 
 -- x and y lists differ in length, or exceed 32.
 unfoldable pub wrong_lengths : List ℤ → List ℤ → Bool

@@ -2,6 +2,8 @@
 pub mod Tests
 pub mod Lists
 pub mod Anyone
+pub mod Chains
+pub mod Mapped
 pub mod Numbered
 pub mod Members
 pub mod Sums

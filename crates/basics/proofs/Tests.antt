@@ -40,6 +40,12 @@ pub both_no : {a : Bool} (b : Bool) → a ≡ false → both a b ≡ false
 unfolding both
 both_no b p = rw p
 
+-- Where the second fails, both do not hold.
+pub both_second : (a : Bool) {b : Bool} → b ≡ false → both a b ≡ false
+unfolding both
+both_second true e = e
+both_second false e = refl
+
 -- where it holds, the second decides.
 pub both_yes : {a : Bool} (b : Bool) → a ≡ true → both a b ≡ b
 unfolding both

@@ -1,6 +1,6 @@
 -- Numbers and places of the board, what their range allows, and how far apart two numbers are. Assumes nothing.
 use mathlib.Core.Path.{◌≡◌, refl, sym, ap, ◌∙◌}
-use mathlib.Core.Bool.{true, false, true≢false}
+use mathlib.Core.Bool.{Bool, true, false, true≢false, ◌&&◌}
 use Prim.Native.Nat.{◌+◌, ◌-◌, ◌<◌, ◌≤◌}
 use native.Mathlib.Omega.{arith}
 use lib.IntN.{ℤ, pos, negsuc, nat_abs, ◌+ℤ◌, ◌-ℤ◌, -ℤ-+ℤ_cancel, +ℤ_idl, +ℤ_invr}
@@ -10,6 +10,10 @@ use mir.Syntax.{w32, w64}
 use mir.Val.{SFits, to_z, of_z}
 use mir.Facts.{to_z-of_z, sfits_widen}
 use borrow.Author.Tests.{eq-eqb, eqb-true, ltb-true, leb-true}
+use Rattle.std.proofs.Common.{int_eq}
+use Rattle.std.specs.Bool.{one_answer}
+use Rattle.std.specs.Cmp.{signed_Decides}
+use Rattle.basics.specs.Tests.{both}
 use Rattle.basics.proofs.Tests.{both_left, both_right, both_of}
 use Rattle.board.specs.declared.Place.{Place}
 use Rattle.board.specs.Place.{limit, on_board, difference, larger, same_number, same_place}
@@ -73,6 +77,21 @@ place_same a b e =
 pub place_self : (a : Place) → same_place a a ≡ true
 unfolding same_place
 place_self a = both_of (number_self a.x) (number_self a.y)
+
+-- Two tests joined by the code's word are both,
+pub and_both : (a b : Bool) → a && b ≡ both a b
+unfolding both
+and_both true b = refl
+and_both false b = refl
+
+-- so the code's `==` of two numbers is the test,
+number_told : (a b : ℤ) → int_eq a b ≡ same_number a b
+number_told a b = one_answer _ _ (signed_Decides a b) (number_same a b, λ e. rw e (number_self b))
+
+-- and so is that of two places.
+pub place_told : (a b : Place) → int_eq a.x b.x && int_eq a.y b.y ≡ same_place a b
+unfolding same_place
+place_told a b = rw (number_told a.x b.x, number_told a.y b.y) (and_both _ _)
 
 -- A number below zero, negated, is its size.
 pub size_below : (z : ℤ) → lt_z z (pos 0) ≡ true → pos 0 -ℤ z ≡ pos (nat_abs z)

@@ -4,5 +4,4 @@ pub mod Board
 pub mod Flat
 pub mod Near
 pub mod Rules
-pub mod Lent
 mod Worked

@@ -1,151 +1,71 @@
-// What stands at each pin number in three lent lists: x, y, and whether a pin is there.
-ghost use Rattle.std.specs.Prelude.{◌≡◌, ◌<◌, ◌+◌, drop, set};
-ghost use Rattle.board.specs.declared.Spot.TheVariants.{Absent, At};
-ghost use Rattle.board.specs.Spots.{most_pins, spot_at, place_at, place_in, spots_from, within, spots_too_near, too_near_any, crowded, all_within, all_apart};
+// What stands at each pin number, and what the rules say of it.
+ghost use Rattle.std.specs.Prelude.{◌≡◌, Some};
+ghost use Rattle.board.specs.Spots.{place_at, within, spots_too_near, too_near_any, crowded, all_within, all_apart};
 
-use crate::{PINS, Place, is_inside, middle, too_near};
-
-// The place of x and y at a number.
-pub fn place_in(xs: &[i32; PINS], ys: &[i32; PINS], pin: usize) -> Place
-    requires { pin < most_pins }
-    ensures { result ≡ place_in xs.now ys.now pin }
-{
-    Place {
-        x: xs[pin],
-        y: ys[pin],
-    }
-}
+use crate::{MIDDLE, PINS, Place, Spot, is_inside, too_near};
 
 // Where the pin with this number stands; the middle of the board where none does.
-pub fn place_at(xs: &[i32; PINS], ys: &[i32; PINS], there: &[bool; PINS], pin: usize) -> Place
-    ensures { result ≡ place_at (spots_from xs.now ys.now there.now) pin }
+pub fn place_at(spots: &[Spot; PINS], pin: usize) -> Place
+    ensures { result ≡ place_at spots.now pin }
 {
-    if PINS <= pin {
-        return middle();
-    }
-    if !there[pin] {
-        return middle();
-    }
-    place_in(xs, ys, pin)
+    spots.get(pin).copied().flatten().unwrap_or(MIDDLE)
 }
 
-// Whether a pin stands at this number and is on the board, or none stands there.
-fn is_within(xs: &[i32; PINS], ys: &[i32; PINS], there: &[bool; PINS], pin: usize) -> bool
-    requires { pin < most_pins }
-    ensures { result ≡ within (spot_at (spots_from xs.now ys.now there.now) pin) }
+// Whether a pin stands here and is on the board, or none stands here.
+#[tactic(auto, unfolding(crate::specs::Spots::within))]
+fn is_within(spot: Spot) -> bool
+    ensures { result ≡ within spot }
 {
-    if !there[pin] {
-        return true;
-    }
-    is_inside(place_in(xs, ys, pin))
+    spot.is_none_or(is_inside)
 }
 
-// Whether a pin stands at this number, too near to a place.
-fn is_near(xs: &[i32; PINS], ys: &[i32; PINS], there: &[bool; PINS], pin: usize, at: Place) -> bool
-    requires { pin < most_pins }
-    ensures { result ≡ spots_too_near (At at) (spot_at (spots_from xs.now ys.now there.now) pin) }
+// Whether a pin stands here, too near to a place.
+#[tactic(auto, unfolding(crate::specs::Spots::spots_too_near))]
+fn is_near(at: Place, spot: Spot) -> bool
+    ensures { result ≡ spots_too_near (Some at) spot }
 {
-    if !there[pin] {
-        return false;
-    }
-    too_near(at, place_in(xs, ys, pin))
+    spot.is_some_and(|place| too_near(at, place))
 }
 
-// Whether one of the pins numbered `from` and above is too near to a place.
-pub fn too_near_any(
-    xs: &[i32; PINS],
-    ys: &[i32; PINS],
-    there: &[bool; PINS],
-    at: Place,
-    from: usize,
-) -> bool
-    ensures { result ≡ too_near_any (At at) (drop from (spots_from xs.now ys.now there.now)) }
+// Whether one of these pins is too near to a place.
+pub fn too_near_any(spots: &[Spot], at: Place) -> bool
+    ensures { result ≡ too_near_any (Some at) spots.now }
 {
-    let mut pin = from;
-    while pin < PINS {
-        if is_near(xs, ys, there, pin, at) {
-            return true;
-        }
-        pin += 1;
-    }
-    false
-}
-
-// Whether a pin stands at this number, which is not `pin`, too near to a place.
-#[tactic(auto, using(crate::proofs::Lent::near_itself, crate::proofs::Lent::near_other))]
-fn is_near_other(
-    xs: &[i32; PINS],
-    ys: &[i32; PINS],
-    there: &[bool; PINS],
-    pin: usize,
-    at: Place,
-    other: usize,
-) -> bool
-    requires { other < most_pins }
-    ensures { result ≡ spots_too_near (At at) (spot_at (set (spots_from xs.now ys.now there.now) pin Absent) other) }
-{
-    if other == pin {
-        return false;
-    }
-    is_near(xs, ys, there, other, at)
+    spots.iter().any(|&spot| is_near(at, spot))
 }
 
 // Whether a pin other than `pin` stands too near to a place.
-pub fn is_crowded(
-    xs: &[i32; PINS],
-    ys: &[i32; PINS],
-    there: &[bool; PINS],
-    pin: usize,
-    at: Place,
-) -> bool
-    ensures { result ≡ crowded (spots_from xs.now ys.now there.now) pin at }
+pub fn is_crowded(spots: &[Spot; PINS], pin: usize, at: Place) -> bool
+    ensures { result ≡ crowded spots.now pin at }
 {
-    let mut other = 0;
-    while other < PINS {
-        if is_near_other(xs, ys, there, pin, at, other) {
-            return true;
-        }
-        other += 1;
-    }
-    false
+    spots
+        .iter()
+        .enumerate()
+        .any(|(number, &spot)| number != pin && is_near(at, spot))
 }
 
 // Whether every pin that is there is on the board.
-pub fn are_within(xs: &[i32; PINS], ys: &[i32; PINS], there: &[bool; PINS]) -> bool
-    ensures { result ≡ all_within (spots_from xs.now ys.now there.now) }
+pub fn are_within(spots: &[Spot; PINS]) -> bool
+    ensures { result ≡ all_within spots.now }
 {
-    let mut pin = 0;
-    while pin < PINS {
-        if !is_within(xs, ys, there, pin) {
-            return false;
-        }
-        pin += 1;
-    }
-    true
+    spots.iter().all(|&spot| is_within(spot))
 }
 
-// Whether a pin stands at this number, too near to one of a higher number.
-fn is_near_later(xs: &[i32; PINS], ys: &[i32; PINS], there: &[bool; PINS], pin: usize) -> bool
-    requires { pin < most_pins }
-    ensures { result ≡ too_near_any (spot_at (spots_from xs.now ys.now there.now) pin) (drop (pin + 1) (spots_from xs.now ys.now there.now)) }
+// Whether a pin stands here, too near to one of these.
+#[tactic(auto, using(crate::proofs::Rules::absent_clear))]
+fn is_near_any(spot: Spot, spots: &[Spot]) -> bool
+    ensures { result ≡ too_near_any spot spots.now }
 {
-    if !there[pin] {
-        return false;
-    }
-    let at = place_in(xs, ys, pin);
-    too_near_any(xs, ys, there, at, pin + 1)
+    spot.is_some_and(|at| too_near_any(spots, at))
 }
 
 // Whether no two pins are too near each other.
-pub fn are_apart(xs: &[i32; PINS], ys: &[i32; PINS], there: &[bool; PINS]) -> bool
-    ensures { result ≡ all_apart (spots_from xs.now ys.now there.now) }
+#[tactic(auto, unfolding(basics::specs::Tests::no_two, basics::specs::Tests::both))]
+pub fn are_apart(spots: &[Spot]) -> bool
+    ensures { result ≡ all_apart spots.now }
 {
-    let mut pin = 0;
-    while pin < PINS {
-        if is_near_later(xs, ys, there, pin) {
-            return false;
-        }
-        pin += 1;
+    match spots {
+        [spot, later @ ..] => !is_near_any(*spot, later) && are_apart(later),
+        [] => true,
     }
-    true
 }

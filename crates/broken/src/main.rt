@@ -4,53 +4,41 @@
 use board::{LIMIT, PINS, Place};
 use copper::Favour;
 use desk::{Answered, Desk};
-use drawing::{Held, Pin, Stand};
+use drawing::Held;
 use edits::Edit;
 use journal::{RECORDS, Record};
 use laying::LEGS;
-use loads::{Load, Loaded, Sheet};
+use loads::{Load, Sheet};
 use pinmap::{Form, NEW_BYTES};
 use refusal::Verdict;
 
 // Seat 0 is open for job 7; pin 0 of net 1, placed at (20,20) with part number 5, stands; pin 1 of net 2, placed at (40,40), is taken back.
 fn whole() -> Desk {
-    let map = [0u8; 0];
-    let empty = Desk::empty();
-    let opened = empty.open(0, 7, Form::Old, &map);
-    let after_opening = opened.desk;
-    let first = after_opening.place(0, 0, Place { x: 20, y: 20 }, 1, 5);
-    let after_first = first.desk;
-    let second = after_first.place(0, 1, Place { x: 40, y: 40 }, 2, 0);
-    let after_second = second.desk;
-    let undone = after_second.undo(0);
-    undone.desk
+    let opened = Desk::empty().open(0, 7, Form::Old, &[]);
+    let first = opened.desk.place(0, 0, Place { x: 20, y: 20 }, 1, 5);
+    let second = first.desk.place(0, 1, Place { x: 40, y: 40 }, 2, 0);
+    second.desk.undo(0).desk
 }
 
 // The job of seat 0 is 0.
 fn job_zero() -> Desk {
     let mut d = whole();
-    let mut s = d.seats[0];
-    s.job = 0;
-    d.seats[0] = s;
+    d.seats[0].job = 0;
     d
 }
 
 // Seat 1 is open too, for the job of seat 0.
 fn job_repeated() -> Desk {
     let mut d = whole();
-    let mut s = d.seats[1];
-    s.opened = true;
-    s.job = 7;
-    d.seats[1] = s;
+    d.seats[1].opened = true;
+    d.seats[1].job = 7;
     d
 }
 
 // Seat 0 is closed, and its two records are still there.
 fn closed_with_records() -> Desk {
     let mut d = whole();
-    let mut s = d.seats[0];
-    s.opened = false;
-    d.seats[0] = s;
+    d.seats[0].opened = false;
     d
 }
 
@@ -66,12 +54,7 @@ fn holding(at: Place, net: u32) -> Held {
 // Pin 5 of seat 0, which no edit names, stands at this place and is of this net.
 fn with_pin(at: Place, net: u32) -> Desk {
     let mut d = whole();
-    let mut s = d.seats[0];
-    let held = holding(at, net);
-    let stand = Stand::There(held);
-    let pin = Pin { stand };
-    s.pins[5] = pin;
-    d.seats[0] = s;
+    d.seats[0].pins[5] = Some(holding(at, net));
     d
 }
 
@@ -98,20 +81,18 @@ fn pin_of_net_9() -> Desk {
 // The edit that stands is another.
 fn with_standing(edit: Edit) -> Desk {
     let mut d = whole();
-    d.journal[0] = Record { seat: 0, edit };
+    d.journal.records[0] = Record { seat: 0, edit };
     d
 }
 
 // The edit that stands placed pin 0 elsewhere.
 fn standing_elsewhere() -> Desk {
-    let held = holding(Place { x: 100, y: 100 }, 1);
-    with_standing(Edit::Placed(0, held))
+    with_standing(Edit::Placed(0, holding(Place { x: 100, y: 100 }, 1)))
 }
 
 // The edit that stands placed pin 0 in another net.
 fn standing_of_another_net() -> Desk {
-    let held = holding(Place { x: 20, y: 20 }, 2);
-    with_standing(Edit::Placed(0, held))
+    with_standing(Edit::Placed(0, holding(Place { x: 20, y: 20 }, 2)))
 }
 
 // The edit that stands placed pin 0 with another part number.
@@ -140,77 +121,63 @@ fn standing_from_outside() -> Desk {
 // The edit that is taken back is another.
 fn with_taken_back(edit: Edit) -> Desk {
     let mut d = whole();
-    d.journal[1] = Record { seat: 0, edit };
+    d.journal.records[1] = Record { seat: 0, edit };
     d
 }
 
 // The edit that is taken back places pin 1 too near to pin 0.
 fn taken_back_near_a_pin() -> Desk {
-    let held = holding(Place { x: 1, y: 39 }, 2);
-    with_taken_back(Edit::Placed(1, held))
+    with_taken_back(Edit::Placed(1, holding(Place { x: 1, y: 39 }, 2)))
 }
 
 // The edit that is taken back removes pin 1, which is not there.
 fn taken_back_of_no_pin() -> Desk {
-    let held = holding(Place { x: 40, y: 40 }, 2);
-    with_taken_back(Edit::Removed(1, held))
+    with_taken_back(Edit::Removed(1, holding(Place { x: 40, y: 40 }, 2)))
 }
 
 // The edit that is taken back places pin 32.
 fn taken_back_of_pin_32() -> Desk {
-    let held = holding(Place { x: 40, y: 40 }, 2);
-    with_taken_back(Edit::Placed(32, held))
+    with_taken_back(Edit::Placed(32, holding(Place { x: 40, y: 40 }, 2)))
 }
 
 // The edit that is taken back places pin 1 in net 9.
 fn taken_back_of_net_9() -> Desk {
-    let held = holding(Place { x: 40, y: 40 }, 9);
-    with_taken_back(Edit::Placed(1, held))
+    with_taken_back(Edit::Placed(1, holding(Place { x: 40, y: 40 }, 9)))
 }
 
 // The journal has 257 used records.
 fn used_too_large() -> Desk {
     let mut d = whole();
-    d.used = RECORDS + 1;
+    d.journal.used = RECORDS + 1;
     d
 }
 
 // Three edits of seat 0 stand, and it owns two records.
 fn standing_too_many() -> Desk {
     let mut d = whole();
-    let mut s = d.seats[0];
-    s.standing = 3;
-    d.seats[0] = s;
+    d.seats[0].standing = 3;
     d
 }
 
 // The second record names seat 8.
 fn record_of_seat_8() -> Desk {
     let mut d = whole();
-    let mut record = d.journal[1];
-    record.seat = 8;
-    d.journal[1] = record;
+    d.journal.records[1].seat = 8;
     d
 }
 
 // Seat 7 is closed, and counts a standing edit.
 fn closed_with_a_count() -> Desk {
     let mut d = whole();
-    let mut s = d.seats[7];
-    s.standing = 1;
-    d.seats[7] = s;
+    d.seats[7].standing = 1;
     d
 }
 
 // A record past the used ones names seat 8, and a closed seat has the job of seat 0: neither breaks a desk.
 fn unused_parts() -> Desk {
     let mut d = whole();
-    let mut record = d.journal[2];
-    record.seat = 8;
-    d.journal[2] = record;
-    let mut s = d.seats[7];
-    s.job = 7;
-    d.seats[7] = s;
+    d.journal.records[2].seat = 8;
+    d.seats[7].job = 7;
     d
 }
 
@@ -221,23 +188,19 @@ fn say(text: &[u8]) {
 
 // Writes the name of a call and the number that it was answered.
 fn tell(call: &[u8], verdict: Verdict) {
-    let told = refusal::tell(verdict);
-    let number = told.number;
     say(call);
-    io::print_decimal(1, number as u64);
+    io::print_decimal(1, u64::from(refusal::tell(verdict).number));
 }
 
 // The same for what a call hands back.
 fn tell_answer(call: &[u8], answered: Answered) {
-    let verdict = answered.verdict;
-    tell(call, verdict);
+    tell(call, answered.verdict);
 }
 
 // Makes each call that can change a desk on this one, and writes the answers.
 fn try_changes(desk: Desk) {
     let at = Place { x: 60, y: 60 };
-    let map = [0u8; 0];
-    tell_answer(b" open ", desk.open(1, 9, Form::New, &map));
+    tell_answer(b" open ", desk.open(1, 9, Form::New, &[]));
     tell_answer(b" close ", desk.close(0));
     tell_answer(b" place ", desk.place(0, 2, at, 1, 0));
     tell_answer(b" move ", desk.shift(0, 0, at));
@@ -248,43 +211,30 @@ fn try_changes(desk: Desk) {
 
 // Asks for the volts lost to net 1 at seat 0, with nothing to feed.
 fn try_drops(desk: Desk) {
-    let spare = Loaded { load: Load::Spare };
     let sheet = Sheet {
         volts: 12.0,
         ohms: 0.001,
     };
-    let dropped = asked::drops(desk, 0, 1, [spare; PINS], sheet);
-    let lost = dropped.lost;
-    let verdict = lost.verdict;
-    tell(b" drops ", verdict);
+    let dropped = asked::drops(desk, 0, 1, &[Load::Spare; PINS], sheet);
+    tell(b" drops ", dropped.answer.verdict);
 }
 
 // Wires net 9 at seat 0, where 28 comes before 21.
 fn try_net_9(desk: Desk) {
     let wired = asked::wire(desk, 0, 9, LEGS, Favour::Unsaid);
-    let laid = wired.laid;
-    let wiring = laid.wiring;
-    let verdict = wiring.verdict;
-    tell(b" wire net 9 ", verdict);
+    tell(b" wire net 9 ", wired.answer.wiring.verdict);
 }
 
 // Writes seat 0, wires and mills its net 1, asks for that net's volts lost, and undoes at seat 8, where 28 comes before 1.
 fn try_others(desk: Desk) {
     let mut buffer = [0u8; PINS * NEW_BYTES];
     let written = asked::write(desk, 0, &mut buffer);
-    let writing = written.verdict;
-    tell(b" write ", writing);
+    tell(b" write ", written.answer.map(|_| ()));
     let wired = asked::wire(desk, 0, 1, LEGS, Favour::Unsaid);
-    let laid = wired.laid;
-    let wiring = laid.wiring;
-    let verdict = wiring.verdict;
-    tell(b" wire ", verdict);
+    tell(b" wire ", wired.answer.wiring.verdict);
     try_net_9(desk);
     let milled = asked::mill(desk, 0, 1, LEGS, Favour::Unsaid);
-    let cut = milled.cut;
-    let milling = cut.milling;
-    let outcome = milling.verdict;
-    tell(b" mill ", outcome);
+    tell(b" mill ", milled.answer.milling.verdict);
     try_drops(desk);
     tell_answer(b" undo at 8 ", desk.undo(8));
 }

@@ -29,12 +29,12 @@ module _ (d : Desk) (h : sound d ≡ true) where
   eight_seats = eqb-true _ _ (both_left _ _ h)
 
   -- a journal of 256 records,
-  pub whole_journal : length d.journal ≡ most_records
+  pub whole_journal : length d.journal.records ≡ most_records
   unfolding sound
   whole_journal = eqb-true _ _ (both_left _ _ (both_right _ _ h))
 
   -- no more of them in use than there are,
-  pub used_within : d.used ≤ most_records
+  pub used_within : d.journal.used ≤ most_records
   unfolding sound
   used_within = leb-true _ _ (both_left _ _ (both_right _ _ (both_right _ _ h)))
 
@@ -54,13 +54,13 @@ module _ (d : Desk) (h : sound d ≡ true) where
   seat_sound s k = seat_among d.seats (in_use d) most_seats s (both_right _ _ (both_right _ _ (both_right _ _ (both_right _ _ (both_right _ _ h))))) k
 
   -- As many records are in use as the used count says.
-  pub in_use_length : length (in_use d) ≡ d.used
+  pub in_use_length : length (in_use d) ≡ d.journal.used
   in_use_length =
-      let a : d.used ≤ length d.journal = omega (arith, used_within, whole_journal) in
-      length-take-le d.used d.journal a
+      let a : d.journal.used ≤ length d.journal.records = omega (arith, used_within, whole_journal) in
+      length-take-le d.journal.used d.journal.records a
 
   -- A seat owns no more records than are in use.
-  owned_within : (s : ℕ) → length (edits_of d s) ≤ d.used
+  owned_within : (s : ℕ) → length (edits_of d s) ≤ d.journal.used
   owned_within s = omega (arith, own-length s (in_use d), in_use_length)
 
   -- A closed seat owns none,

@@ -1,16 +1,16 @@
 -- The desk: when it is broken, and what each call makes of it.
-use Rattle.std.specs.Prelude.{Bool, not, List, ℕ, replicate, take, get_or, set}
+use Rattle.std.specs.Prelude.{Bool, not, List, ℕ, replicate, get_or, set}
 use Rattle.basics.specs.Tests.{choose}
-use Rattle.refusal.specs.Refusals.{accepted}
+use Rattle.refusal.specs.Refusals.{Verdict, accepted}
 use Rattle.refusal.specs.Rows.{Row, first_of}
-use Rattle.refusal.specs.declared.Verdict.{Verdict}
-use Rattle.board.specs.declared.Spot.{Spot}
+use Rattle.board.specs.Spots.{Spot}
 use Rattle.edits.specs.declared.Edit.{Edit}
 use Rattle.drawing.specs.Pins.{feed_of}
 use Rattle.edits.specs.Stated.{edit_of}
-use Rattle.readmap.specs.Map.{read_map}
+use Rattle.readmap.specs.Map.{read_map, pins_of}
 use Rattle.journal.specs.declared.Record.{Record}
-use Rattle.journal.specs.Journal.{most_seats, most_records, blank, own, kept, added, compacted}
+use Rattle.journal.specs.Journal as journal
+use Rattle.journal.specs.Journal.{most_seats, own, kept, added, compacted, empty_journal}
 use Rattle.seats.specs.declared.Seat.{Seat}
 use Rattle.seats.specs.Seats.{edited_seat, undone_seat, redone_seat, taken_back_count}
 use Rattle.rows.specs.Calls.{Call, seat_in, opening, closing, making, undoing, redoing, asking}
@@ -28,7 +28,7 @@ seat_of d s = get_or d.seats s no_seat
 
 -- The records in use, all seats mixed, in the order in which they were made.
 abbrev pub in_use : Desk → List Record
-in_use d = take d.used d.journal
+in_use d = journal.in_use d.journal
 
 -- The edits of one seat in order: its standing ones, then those taken back, the next to redo first.
 abbrev pub edits_of : Desk → ℕ → List Edit
@@ -49,7 +49,7 @@ jobs_of d = jobs_in d.seats
 -- A desk is sound where its seats and their journal are.
 unfoldable pub sound : Desk → Bool
 unfolding sound_all
-sound d = sound_all d.seats d.journal d.used
+sound d = sound_all d.seats d.journal
 
 -- What a call looks at on a desk.
 abbrev pub look_at : Desk → ℕ → Look
@@ -63,20 +63,20 @@ look_at d s =
       standing = (seat_of d s).standing;
       taken_back = taken_back_count (seat_of d s) (edits_of d s);
       jobs = jobs_of d;
-      used = d.used;
+      used = d.journal.used;
     }
 
--- What a refused call hands back: the desk as it is.
-abbrev pub refused : Desk → Verdict → Answered
-refused d v = record { desk = d; verdict = v }
+-- What a call hands back: this desk, and this answer.
+abbrev pub handed_back : Desk → Verdict → Answered
+handed_back d v = record { desk = d; verdict = v }
 
 -- The desk with one seat changed.
 abbrev pub with_seat : Desk → ℕ → Seat → Desk
-with_seat d s t = record { seats = set d.seats s t; journal = d.journal; used = d.used }
+with_seat d s t = record { seats = set d.seats s t; journal = d.journal }
 
 -- The desk with these records in use, and no others.
 abbrev pub with_in_use : Desk → List Record → Desk
-with_in_use d l = record { seats = d.seats; journal = (compacted l).journal; used = (compacted l).used }
+with_in_use d l = record { seats = d.seats; journal = compacted l }
 
 -- The desk with one seat changed and these records in use.
 abbrev pub with_records : Desk → ℕ → Seat → List Record → Desk
@@ -90,7 +90,7 @@ edited d s e =
 
 -- What an accepted call makes of the desk.
 unfoldable pub effect : Desk → Call → Desk
-effect d (opening s job form map) = with_seat d s (open_seat job (read_map form map job).pins)
+effect d (opening s job form map) = with_seat d s (open_seat job (pins_of (read_map form map job)))
 effect d (closing s) = with_records d s closed_seat (kept s 0 (in_use d))
 effect d (making s m) = edited d s (edit_of (seat_of d s).pins m)
 effect d (undoing s) = with_seat d s (undone_seat (seat_of d s) (edits_of d s))
@@ -115,7 +115,7 @@ step d c = record { desk = choose (accepted (answer_of d c)) (effect d c) d; ver
 
 -- The empty desk: eight closed seats, no record in use.
 unfoldable pub empty_desk : Desk
-empty_desk = record { seats = replicate most_seats closed_seat; journal = replicate most_records blank; used = 0 }
+empty_desk = record { seats = replicate most_seats closed_seat; journal = empty_journal }
 
 -- 28, 1 and 2 of a seat of a desk, and 21 of a net that a call names.
 abbrev pub naming_net_at : Desk → ℕ → ℕ → List Row

@@ -1,36 +1,31 @@
 // The desk: its seats and its journal, whether it is broken, and the calls that change it: each takes it as it stands and hands back the desk that follows.
 #![tactic(auto)]
 
-ghost use Rattle.std.specs.Prelude.{◌≡◌, false, ◌++◌, ◌≤◌};
-ghost use Rattle.refusal.specs.Rows.{first_of};
+ghost use Rattle.std.specs.Prelude.{◌≡◌};
 ghost use Rattle.edits.specs.declared.stated.Making.TheVariants.{Placing, Moving, Removing};
 ghost use Rattle.drawing.specs.Pins.{holding};
-ghost use Rattle.journal.specs.Journal.{most_records, own, kept, compacted};
-ghost use Rattle.seats.specs.Seats.{taken_back_count};
 ghost use Rattle.rows.specs.Calls.{opening, closing, making, undoing, redoing};
-ghost use Rattle.pinrows.specs.PinRows.{making_rows};
-ghost use Rattle.rows.specs.Refusals.{full_row};
-ghost use Rattle.rows.specs.Found.{found_in, naming_found};
-ghost use Rattle.desk.specs.Desk.{empty_desk, in_use, sound, refused, step};
+ghost use Rattle.rows.specs.Found.{found_in};
+ghost use Rattle.desk.specs.Desk.{empty_desk, sound, handed_back, step};
 
 use board::Place;
 use drawing::Held;
 use edits::stated::Making;
-use journal::{Compacted, RECORDS, Record, SEATS};
+use journal::{Journal, Record, SEATS};
 use pinmap::Form;
 use refusal::Verdict;
 use rows::Found;
 use seats::Seat;
 
-// A desk: its seats, and the journal that they share, of which the first `used` records are in use.
+// A desk: its seats, and the journal that they share.
 #[derive(Clone, Copy)]
 pub struct Desk {
     pub seats: [Seat; SEATS],
-    pub journal: [Record; RECORDS],
-    pub used: usize,
+    pub journal: Journal,
 }
 
 // What a call hands back: the desk that follows, and the answer.
+// A verdict beside the desk, and no Result: a refused call hands back its desk too, as it was (`step`).
 #[derive(Clone, Copy)]
 pub struct Answered {
     pub desk: Desk,
@@ -39,91 +34,82 @@ pub struct Answered {
 
 impl Desk {
     // The empty desk: every seat closed, no record in use.
+    #[tactic(auto, unfolding(crate::specs::Desk::empty_desk))]
     pub fn empty() -> Desk
         ensures { result ≡ empty_desk }
     {
-        let seat = seats::closed_seat();
-        let record = journal::blank_record();
-        let seats = [seat; SEATS];
-        let records = [record; RECORDS];
         Desk {
-            seats,
-            journal: records,
-            used: 0,
+            seats: [Seat::closed(); SEATS],
+            journal: Journal::empty(),
         }
     }
 
     // Whether the desk is not broken.
-    pub fn is_sound(self) -> bool
-        ensures { result ≡ sound self }
+    #[tactic(auto, unfolding(crate::specs::Desk::sound))]
+    pub fn is_sound(&self) -> bool
+        ensures { result ≡ sound self.now }
     {
-        let seats = self.seats;
-        let records = self.journal;
-        sound::are_sound(seats, records, self.used)
+        sound::are_sound(&self.seats, &self.journal)
     }
 
     // What a call finds at the seat that it names.
-    pub fn find(self, seat: usize) -> Found
-        ensures { result ≡ found_in self.seats self.journal self.used seat }
+    pub fn find(&self, seat: usize) -> Found
+        ensures { result ≡ found_in self.now.seats self.now.journal seat }
     {
-        let seats = self.seats;
-        let records = self.journal;
-        rows::find(seats, records, self.used, seat)
+        rows::find(&self.seats, &self.journal, seat)
+    }
+}
+
+// What each call does, in place: it leaves the desk that follows, or, where one of the refusals turns it away, the desk as it was.
+impl Desk {
+    // Opens `seat` for a job with the drawing of a pin map of a form, or says why not.
+    fn try_open(&mut self, seat: usize, job: u16, form: Form, map: &[u8]) -> Verdict
+        ensures { handed_back self.new result ≡ step self.old (opening seat job form map.now) }
+    {
+        let pins = rows::map_read(&self.find(seat), &self.seats, job, form, map)?;
+        self.seats[seat] = Seat::open(job, pins);
+        Ok(())
     }
 
-    // What a refused call hands back: the desk as it is.
-    fn refused(self, verdict: Verdict) -> Answered
-        ensures { result ≡ refused self verdict }
+    // Closes `seat` and frees all of its records, or says why not.
+    fn try_close(&mut self, seat: usize) -> Verdict
+        ensures { handed_back self.new result ≡ step self.old (closing seat) }
     {
-        Answered {
-            desk: self,
-            verdict,
-        }
+        rows::turned_naming(&self.find(seat))?;
+        self.journal.compact(seat, 0);
+        self.seats[seat] = Seat::closed();
+        Ok(())
     }
 
-    // What is left of the records once those of a seat beyond its first `keep` are freed.
-    fn freed(self, seat: usize, keep: usize) -> Compacted
-        requires { self.used ≤ most_records }
-        ensures { result ≡ compacted (kept seat keep (in_use self)) }
+    // Makes the edit that a call states on the drawing at `seat`, or says why not.
+    fn try_make(&mut self, seat: usize, stated: Making) -> Verdict
+        ensures { handed_back self.new result ≡ step self.old (making seat stated) }
     {
-        let records = self.journal;
-        journal::compact(records, self.used, seat, keep)
+        let found = self.find(seat);
+        rows::turned_making(&found, stated, &self.journal)?;
+        let edit = edits::stated::edit_of(&found.state.pins, stated);
+        self.journal.compact(seat, found.state.standing);
+        self.journal.append(Record { seat, edit });
+        self.seats[seat].edit(edit);
+        Ok(())
     }
 
-    // An edit that a call states, where it is turned away, by what the call found: 28, 1, 2, then what the pins say, then 12.
-    fn turned(self, found: Found, stated: Making) -> Verdict
-        requires { found.broken ≡ false → self.used ≤ most_records }
-        ensures { result ≡ first_of (naming_found found ++ (making_rows found.state.pins stated ++ full_row self.used (taken_back_count found.state (own found.seat (in_use self))))) }
+    // Takes back the latest standing edit of the drawing at `seat`, or says why not.
+    fn try_undo(&mut self, seat: usize) -> Verdict
+        ensures { handed_back self.new result ≡ step self.old (undoing seat) }
     {
-        let records = self.journal;
-        rows::turned_making(found, stated, records, self.used)
+        rows::turned_undoing(&self.find(seat))?;
+        self.seats[seat].undo(&self.journal, seat);
+        Ok(())
     }
 
-    // Makes the edit that a call states on the drawing at the seat that it found, or says why not.
-    fn make(mut self, found: Found, stated: Making) -> Answered
-        requires { found ≡ found_in self.seats self.journal self.used found.seat }
-        ensures { result ≡ step self (making found.seat stated) }
+    // Makes the most recently taken-back edit of the drawing at `seat` again, or says why not.
+    fn try_redo(&mut self, seat: usize) -> Verdict
+        ensures { handed_back self.new result ≡ step self.old (redoing seat) }
     {
-        let seat = found.seat;
-        let verdict = self.turned(found, stated);
-        if !refusal::is_accepted(verdict) {
-            return self.refused(verdict);
-        }
-        let mut s = found.state;
-        let pins = s.pins;
-        let edit = edits::stated::edit_of(pins, stated);
-        let left = self.freed(seat, s.standing);
-        let records = left.journal;
-        let used = left.used;
-        let following = journal::append(records, used, Record { seat, edit });
-        self.journal = following;
-        self.used = used + 1;
-        s = seats::edited(s, edit);
-        self.seats[seat] = s;
-        Answered {
-            desk: self,
-            verdict,
-        }
+        rows::turned_redoing(&self.find(seat), &self.journal)?;
+        self.seats[seat].redo(&self.journal, seat);
+        Ok(())
     }
 }
 
@@ -133,15 +119,7 @@ impl Desk {
     pub fn open(mut self, seat: usize, job: u16, form: Form, map: &[u8]) -> Answered
         ensures { result ≡ step self (opening seat job form map.now) }
     {
-        let found = self.find(seat);
-        let seats = self.seats;
-        let reading = rows::map_read(found, seats, job, form, map);
-        let verdict = reading.verdict;
-        if !refusal::is_accepted(verdict) {
-            return self.refused(verdict);
-        }
-        let pins = reading.pins;
-        self.seats[seat] = seats::open_seat(job, pins);
+        let verdict = self.try_open(seat, job, form, map);
         Answered {
             desk: self,
             verdict,
@@ -152,16 +130,7 @@ impl Desk {
     pub fn close(mut self, seat: usize) -> Answered
         ensures { result ≡ step self (closing seat) }
     {
-        let found = self.find(seat);
-        let verdict = rows::turned_naming(found);
-        if !refusal::is_accepted(verdict) {
-            return self.refused(verdict);
-        }
-        let left = self.freed(seat, 0);
-        let records = left.journal;
-        self.journal = records;
-        self.used = left.used;
-        self.seats[seat] = seats::closed_seat();
+        let verdict = self.try_close(seat);
         Answered {
             desk: self,
             verdict,
@@ -169,47 +138,48 @@ impl Desk {
     }
 
     // Places a pin of the drawing at `seat`, of a net and with a part number, or says why not.
-    pub fn place(self, seat: usize, pin: usize, at: Place, net: u32, part: u32) -> Answered
+    pub fn place(mut self, seat: usize, pin: usize, at: Place, net: u32, part: u32) -> Answered
         ensures { result ≡ step self (making seat (Placing pin (holding at net part))) }
     {
-        let found = self.find(seat);
         let held = Held {
             place: at,
             net,
             part,
         };
-        self.make(found, Making::Placing(pin, held))
+        let verdict = self.try_make(seat, Making::Placing(pin, held));
+        Answered {
+            desk: self,
+            verdict,
+        }
     }
 
     // Moves a pin of the drawing at `seat`, or says why not. (`move` is a word of the language.)
-    pub fn shift(self, seat: usize, pin: usize, to: Place) -> Answered
+    pub fn shift(mut self, seat: usize, pin: usize, to: Place) -> Answered
         ensures { result ≡ step self (making seat (Moving pin to)) }
     {
-        let found = self.find(seat);
-        self.make(found, Making::Moving(pin, to))
+        let verdict = self.try_make(seat, Making::Moving(pin, to));
+        Answered {
+            desk: self,
+            verdict,
+        }
     }
 
     // Removes a pin of the drawing at `seat`, or says why not.
-    pub fn remove(self, seat: usize, pin: usize) -> Answered
+    pub fn remove(mut self, seat: usize, pin: usize) -> Answered
         ensures { result ≡ step self (making seat (Removing pin)) }
     {
-        let found = self.find(seat);
-        self.make(found, Making::Removing(pin))
+        let verdict = self.try_make(seat, Making::Removing(pin));
+        Answered {
+            desk: self,
+            verdict,
+        }
     }
 
     // Takes back the latest standing edit of the drawing at `seat`, or says why not. No other drawing changes.
     pub fn undo(mut self, seat: usize) -> Answered
         ensures { result ≡ step self (undoing seat) }
     {
-        let found = self.find(seat);
-        let verdict = rows::turned_undoing(found);
-        if !refusal::is_accepted(verdict) {
-            return self.refused(verdict);
-        }
-        let mut s = found.state;
-        let records = self.journal;
-        s = seats::undone(s, records, self.used, seat);
-        self.seats[seat] = s;
+        let verdict = self.try_undo(seat);
         Answered {
             desk: self,
             verdict,
@@ -220,15 +190,7 @@ impl Desk {
     pub fn redo(mut self, seat: usize) -> Answered
         ensures { result ≡ step self (redoing seat) }
     {
-        let found = self.find(seat);
-        let records = self.journal;
-        let verdict = rows::turned_redoing(found, records, self.used);
-        if !refusal::is_accepted(verdict) {
-            return self.refused(verdict);
-        }
-        let mut s = found.state;
-        s = seats::redone(s, records, self.used, seat);
-        self.seats[seat] = s;
+        let verdict = self.try_redo(seat);
         Answered {
             desk: self,
             verdict,

@@ -7,30 +7,28 @@ use borrow.Author.Tests.{not-true}
 use lib.ListN.{length, length-map}
 use Rattle.basics.specs.Tests.{choose, any_of, each_of, no_two}
 use Rattle.basics.proofs.Tests.{both_left, both_right, both_of, either-false, either_no}
-use Rattle.board.specs.declared.Spot.{Spot}
-use Rattle.board.specs.declared.Spot.TheVariants as spot
-use Rattle.board.specs.Spots.{most_pins, within, spots_too_near, too_near_any, all_within, all_apart}
+use Rattle.std.specs.Prelude.{None}
+use Rattle.board.specs.Spots.{Spot, most_pins, within, spots_too_near, too_near_any, all_within, all_apart}
 use Rattle.board.proofs.Rules.{absent_clear, clear_absent}
-use Rattle.drawing.specs.declared.Pin.{Pin}
-use Rattle.drawing.specs.Pins.{is_of, spot_of, spots_of, feed_spot, feed_of, lawful}
+use Rattle.drawing.specs.Pins.{Pin, is_of, spot_of, spots_of, feed_spot, feed_of, lawful}
 use Rattle.drawing.proofs.Rules.{lawful_parts}
 
 -- ---- one pin, which is in the feed or not
 
 -- A pin on the board stays on it,
-within_fed : (t : Bool) (s : Spot) → within s ≡ true → within (choose t s spot.Absent) ≡ true
+within_fed : (t : Bool) (s : Spot) → within s ≡ true → within (choose t s None) ≡ true
 unfolding choose within
 within_fed true s e = e
 within_fed false s e = refl
 
 -- one that another is not too near to stays so,
-clear_fed : (s : Spot) (t : Bool) (r : Spot) → spots_too_near s r ≡ false → spots_too_near s (choose t r spot.Absent) ≡ false
+clear_fed : (s : Spot) (t : Bool) (r : Spot) → spots_too_near s r ≡ false → spots_too_near s (choose t r None) ≡ false
 unfolding choose
 clear_fed s true r e = e
 clear_fed s false r e = clear_absent s
 
 -- and so does one that is near none.
-none_fed : (t : Bool) (s : Spot) (feed : List Spot) → too_near_any s feed ≡ false → too_near_any (choose t s spot.Absent) feed ≡ false
+none_fed : (t : Bool) (s : Spot) (feed : List Spot) → too_near_any s feed ≡ false → too_near_any (choose t s None) feed ≡ false
 unfolding choose
 none_fed true s feed e = e
 none_fed false s feed e = absent_clear feed

@@ -1,4 +1,3 @@
 -- The laws of drawings that other crates cite.
 pub mod Rules
 pub mod Feeds
-pub mod Told

@@ -1,23 +1,28 @@
 -- Pins that are the same, what stands at their numbers, and the rules that a drawing keeps with one pin changed. From the rules of a feed; assumes nothing.
 use mathlib.Core.Path.{◌≡◌, refl, ap, ◌∙◌}
-use mathlib.Core.Bool.{true, false}
+use mathlib.Core.Bool.{Bool, true, false}
 use mathlib.Core.List.{List, [], ◌∷◌, map}
 use Prim.Native.Nat.{ℕ, zero, suc}
 use borrow.Author.Tests.{eqb-true, eq-eqb}
 use lib.ListN.{length, get_or, set, length-set, length-map, get_or-map}
+use Rattle.std.specs.Option.{option_eq, is_some}
+use Rattle.std.specs.Prelude.{None, Some}
 use Rattle.basics.proofs.Tests.{both_left, both_right, both_of}
-use Rattle.basics.specs.Tests.{each_of}
+use Rattle.basics.specs.Tests.{both, each_of}
 use Rattle.basics.proofs.Anyone.{each_set}
-use Rattle.board.proofs.Board.{place_same, place_self}
+use Rattle.board.specs.Place.{same_place}
+use Rattle.board.proofs.Board.{place_same, place_self, place_told, and_both}
 use Rattle.board.specs.Spots.{most_pins, spot_at, within, too_near_other, all_within, all_apart}
 use Rattle.board.proofs.Rules.{apart_set}
 use Rattle.drawing.specs.declared.Held.{Held}
-use Rattle.drawing.specs.declared.Stand.{Stand}
-use Rattle.drawing.specs.declared.Stand.TheVariants.{Absent, There}
-use Rattle.drawing.specs.declared.Pin.{Pin}
-use Rattle.drawing.specs.Pins.{absent, same_held, same_in, same_pin, same_pins, has_net, lawful, spot_of, spots_of}
+use Rattle.drawing.specs.contracts.HeldPartialEq.TheImpl.{eq-value}
+use Rattle.drawing.specs.Pins.{Pin, absent, is_there, same_held, same_pin, same_pins, has_net, lawful, spot_of, spots_of}
 
 -- ---- pins that are the same
+
+-- What the code's `==` of what pins hold looks at.
+abbrev held_eq : Held → Held → Bool
+held_eq = eq-value.it
 
 -- What pins hold is the same where the test says so.
 held_same : (h k : Held) → same_held h k ≡ true → h ≡ k
@@ -28,17 +33,13 @@ held_same h k e =
     let m : h.part ≡ k.part = eqb-true _ _ (both_right _ _ (both_right _ _ e)) in
     λ i. record { place = p i; net = n i; part = m i }
 
--- So is what stands at their numbers,
-stand_same : (s t : Stand) → same_in s t ≡ true → s ≡ t
-stand_same Absent Absent e = refl
-stand_same Absent (There k) e = cc
-stand_same (There h) Absent e = cc
-stand_same (There h) (There k) e = ap There (held_same h k e)
-
 -- Pins that pass the test are the same.
 pub pin_same : (q r : Pin) → same_pin q r ≡ true → q ≡ r
 unfolding same_pin
-pin_same q r e = let p : q.stand ≡ r.stand = stand_same q.stand r.stand e in λ i. record { stand = p i }
+pin_same None None e = refl
+pin_same None (Some k) e = cc
+pin_same (Some h) None e = cc
+pin_same (Some h) (Some k) e = ap Some (held_same h k e)
 
 -- So are drawings' pins that pass it number by number.
 pub pins_same : (l m : List Pin) → same_pins l m ≡ true → l ≡ m
@@ -48,22 +49,36 @@ pins_same [] (r ∷ m) e = cc
 pins_same (q ∷ l) [] e = cc
 pins_same (q ∷ l) (r ∷ m) e = rw (pin_same q r (both_left _ _ e), pins_same l m (both_right _ _ e))
 
--- What stands at a number is the same as itself,
-stand_self : (s : Stand) → same_in s s ≡ true
-unfolding same_held
-stand_self Absent = refl
-stand_self (There h) = both_of (place_self h.place) (both_of (eq-eqb h.net h.net refl) (eq-eqb h.part h.part refl))
-
--- a pin is,
+-- A pin is the same as itself,
 pub pin_self : (q : Pin) → same_pin q q ≡ true
-unfolding same_pin
-pin_self q = stand_self q.stand
+unfolding same_pin same_held
+pin_self None = refl
+pin_self (Some h) = both_of (place_self h.place) (both_of (eq-eqb h.net h.net refl) (eq-eqb h.part h.part refl))
 
 -- and so are a drawing's pins.
 pub pins_self : (l : List Pin) → same_pins l l ≡ true
 unfolding same_pins
 pins_self [] = refl
 pins_self (q ∷ l) = both_of (pin_self q) (pins_self l)
+
+-- The code's `==` of what two pins hold is the test,
+held_told : (h k : Held) → held_eq h k ≡ same_held h k
+unfolding same_held
+held_told h k = rw (place_told h.place k.place) (and_both _ _ ∙ ap (both (same_place h.place k.place)) (and_both _ _))
+
+-- and so is that of two pins.
+pub pin_told : (q r : Pin) → option_eq held_eq q r ≡ same_pin q r
+unfolding same_pin
+pin_told None None = refl
+pin_told None (Some k) = refl
+pin_told (Some h) None = refl
+pin_told (Some h) (Some k) = held_told h k
+
+-- A pin is there where the option says so.
+pub there_told : (q : Pin) → is_some q ≡ is_there q
+unfolding is_there
+there_told None = refl
+there_told (Some h) = refl
 
 -- ---- what stands at the pin numbers
 

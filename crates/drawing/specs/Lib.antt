@@ -1,3 +1,2 @@
 -- What the words of a drawing mean.
 pub mod Pins
-pub mod Lists

@@ -1,19 +1,18 @@
 -- The pins of a drawing, the feed of each net among them, and the rules that they keep.
-use Rattle.std.specs.Prelude.{Bool, true, false, List, [], ◌∷◌, map, eqb, leb, ltb, ℕ, length, replicate, get_or}
+use Rattle.std.specs.Prelude.{Bool, true, false, List, [], ◌∷◌, map, eqb, leb, ltb, ℕ, length, replicate, get_or, Option, None, Some}
 use Rattle.basics.specs.Tests.{both, choose, each_of}
 use Rattle.board.specs.declared.Place.{Place}
-use Rattle.board.specs.declared.Spot.{Spot}
-use Rattle.board.specs.declared.Spot.TheVariants as spot
 use Rattle.board.specs.Place.{same_place, middle}
+use Rattle.board.specs.Spots.{Spot, most_pins, all_within, all_apart}
 use Rattle.drawing.specs.declared.Held.{Held}
-use Rattle.drawing.specs.declared.Stand.{Stand}
-use Rattle.drawing.specs.declared.Stand.TheVariants.{Absent, There}
-use Rattle.drawing.specs.declared.Pin.{Pin}
-use Rattle.board.specs.Spots.{most_pins, all_within, all_apart}
+
+-- What a drawing has at one pin number: nothing, or a pin that is there, with what it holds.
+abbrev pub Pin : Type 0
+Pin = Option Held
 
 -- A pin that is absent holds nothing else.
 abbrev pub absent : Pin
-absent = record { stand = Absent }
+absent = None
 
 -- What a drawing has at a pin number; above 31, an absent pin.
 abbrev pub pin_at : List Pin → ℕ → Pin
@@ -25,7 +24,7 @@ no_pins = replicate most_pins absent
 
 -- A pin that is there, with what it holds.
 abbrev pub there : Held → Pin
-there h = record { stand = There h }
+there h = Some h
 
 -- What a pin holds: the place where it stands, its net and its part number.
 abbrev pub holding : Place → ℕ → ℕ → Held
@@ -39,47 +38,31 @@ most_nets = 8
 unfoldable pub is_net : ℕ → Bool
 is_net net = both (ltb 0 net) (leb net most_nets)
 
--- A pin stands there.
-abbrev pub there_in : Stand → Bool
-there_in Absent = false
-there_in (There h) = true
-
 -- The pin is there.
 unfoldable pub is_there : Pin → Bool
-is_there q = there_in q.stand
-
--- A pin stands at that place.
-abbrev pub stands_in : Stand → Place → Bool
-stands_in Absent at = false
-stands_in (There h) at = same_place h.place at
+is_there None = false
+is_there (Some h) = true
 
 -- The pin is there, at that place.
 unfoldable pub stands_at : Pin → Place → Bool
-stands_at q at = stands_in q.stand at
-
--- What a pin that is there holds; for an absent one, as if it stood in the middle of the board, of no net and with part number 0.
-abbrev pub held_in : Stand → Held
-held_in Absent = holding middle 0 0
-held_in (There h) = h
+stands_at None at = false
+stands_at (Some h) at = same_place h.place at
 
 -- What a pin holds, an absent one as if it stood in the middle of the board, of no net and with part number 0.
 unfoldable pub held_by : Pin → Held
-held_by q = held_in q.stand
+held_by None = holding middle 0 0
+held_by (Some h) = h
 
 -- Two pins hold the same: place, net and part number.
 unfoldable pub same_held : Held → Held → Bool
 same_held h k = both (same_place h.place k.place) (both (eqb h.net k.net) (eqb h.part k.part))
 
--- Both are absent, or both stand there and hold the same.
-abbrev pub same_in : Stand → Stand → Bool
-same_in Absent Absent = true
-same_in Absent (There k) = false
-same_in (There h) Absent = false
-same_in (There h) (There k) = same_held h k
-
 -- Two pins are both absent, or both there and hold the same.
 unfoldable pub same_pin : Pin → Pin → Bool
-same_pin q r = same_in q.stand r.stand
+same_pin None None = true
+same_pin None (Some k) = false
+same_pin (Some h) None = false
+same_pin (Some h) (Some k) = same_held h k
 
 -- Pins that are the same, number by number.
 unfoldable pub same_pins : List Pin → List Pin → Bool
@@ -88,44 +71,32 @@ same_pins [] (r ∷ m) = false
 same_pins (q ∷ l) [] = false
 same_pins (q ∷ l) (r ∷ m) = both (same_pin q r) (same_pins l m)
 
--- Where a pin stands, and nothing else of what it holds.
-abbrev pub spot_in : Stand → Spot
-spot_in Absent = spot.Absent
-spot_in (There h) = spot.At h.place
-
--- What stands at the number of this pin.
+-- What stands at the number of this pin: where it stands, and nothing else of what it holds.
 unfoldable pub spot_of : Pin → Spot
-spot_of q = spot_in q.stand
+spot_of None = None
+spot_of (Some h) = Some h.place
 
 -- What stands at each pin number of a drawing.
 unfoldable pub spots_of : List Pin → List Spot
 spots_of l = map spot_of l
 
--- A pin stands there, and is of this net.
-abbrev pub of_net_in : ℕ → Stand → Bool
-of_net_in net Absent = false
-of_net_in net (There h) = eqb h.net net
-
 -- The pin is there, and of this net.
 unfoldable pub is_of : ℕ → Pin → Bool
-is_of net q = of_net_in net q.stand
+is_of net None = false
+is_of net (Some h) = eqb h.net net
 
 -- What the feed of a net has at the number of this pin: a pin of another net is not in it.
 unfoldable pub feed_spot : ℕ → Pin → Spot
-feed_spot net q = choose (is_of net q) (spot_of q) spot.Absent
+feed_spot net q = choose (is_of net q) (spot_of q) None
 
 -- The feed of a net: its pins alone, by their own numbers.
 unfoldable pub feed_of : List Pin → ℕ → List Spot
 feed_of l net = map (feed_spot net) l
 
--- A pin stands there with a net from 1 to 8, or is absent.
-abbrev pub net_in : Stand → Bool
-net_in Absent = true
-net_in (There h) = is_net h.net
-
 -- The pin, if it is there, has a net from 1 to 8.
 unfoldable pub has_net : Pin → Bool
-has_net q = net_in q.stand
+has_net None = true
+has_net (Some h) = is_net h.net
 
 -- The rules of a drawing's pins: 32 numbers, each pin that is there on the board, no two too near, whatever their nets, and each of a net from 1 to 8.
 unfoldable pub lawful : List Pin → Bool

@@ -9,7 +9,7 @@ use mir.Syntax.{w32}
 use mir.Val.{SFits}
 use Rattle.basics.proofs.Tests.{both_left, both_right}
 use Rattle.board.specs.declared.Place.{Place}
-use Rattle.board.specs.declared.Spot.{Spot}
+use Rattle.board.specs.Spots.{Spot}
 use Rattle.board.specs.Place.{limit, on_board, inside, difference, distance_of}
 use Rattle.board.specs.Spots.{place_at, all_within}
 use Rattle.board.proofs.Signed.{difference_off}

@@ -1,21 +1,21 @@
 -- The two passes over the runs: the currents from the last run to the first, then the drops from the first to the last. Assumes nothing.
 use mathlib.Core.Path.{◌≡◌, refl, sym, ap, ap₂, subst, ◌∙◌}
-use mathlib.Core.Bool.{Bool, true, false}
-use mathlib.Core.List.{List, [], ◌∷◌, ◌++◌, map}
+use mathlib.Core.List.{List, [], ◌∷◌, ◌++◌}
 use mathlib.Core.Logic.{◌⊎◌, inl, inr}
 use Prim.Native.Nat.{ℕ, zero, suc, ◌+◌, ◌-◌, ◌≤◌, ◌<◌}
 use native.Mathlib.Omega.{arith}
-use lib.Dec.{eqb, ltb}
-use lib.ListN.{length, get_or, set, take, drop, replicate, length-set, length-replicate, get_or-replicate, take-append-drop}
-use lib.Seq.{take-set-lt, drop-set-lt, get_or-set_same, get_or-set_other, length-take-le}
+use lib.Dec.{eqb}
+use lib.ListN.{length, get_or, set, take, drop, replicate, length-append, length-set, length-replicate, length-map, drop_of_length-le}
+use lib.Seq.{take_at, take-take, get_or_at, get_or-take, drop-set-lt, get_or-set_same, get_or-set_other}
 use lib.Ieee.{Float, nan, add, binary32}
-use borrow.Author.Tests.{ltb-true, lt-ltb, le-ltb, eq-eqb, ne_eqb}
+use borrow.Author.Tests.{eq-eqb, ne_eqb}
+use Rattle.std.specs.Prelude.{Option, None, Some, IfSome, All}
+use Rattle.std.proofs.lemmas.Option.{IfSome_then}
 use Rattle.basics.specs.Tests.{choose}
 use Rattle.basics.specs.Lists.{padded}
 use Rattle.basics.proofs.Tests.{choose_yes, choose_no}
-use Rattle.basics.proofs.Lists.{front, front_of, none_left}
-use Rattle.board.specs.declared.Spot.{Spot}
-use Rattle.board.specs.Spots.{most_pins}
+use Rattle.basics.proofs.Lists.{front, blank_at}
+use Rattle.board.specs.Spots.{Spot, most_pins}
 use Rattle.board.proofs.Flat.{same_or_not}
 use Rattle.tree.specs.declared.Run.{Run}
 use Rattle.tree.specs.Growth.{run}
@@ -23,285 +23,278 @@ use Rattle.tree.specs.Trees.{most_runs}
 use Rattle.tree.specs.Reached.{run_at}
 use Rattle.loads.specs.Loads.{nought}
 use Rattle.drops.specs.Drops.{nears_of, plus_leading_on, currents_of, run_drop, distance_of_run, drops_after}
-use Rattle.drops.specs.Passes.{fars_of, runs_by, PinNumbers, Rising, plus_along}
+use Rattle.drops.specs.Passes.{PinNumbers, Rising, plus_along}
 
--- ---- runs by their near and far pins
--- What is made of the first entries is the first of what is made,
-map-take : {A B : Type 0} (f : A → B) (i : ℕ) (l : List A) → map f (take i l) ≡ take i (map f l)
-map-take f zero l = refl
-map-take f (suc i) [] = refl
-map-take f (suc i) (a ∷ l) = ap (λ (m : List _). f a ∷ m) (map-take f i l)
+-- ---- entries after the last run
+-- There is a current for each run.
+pub currents_long : (amps : ℕ → Float) (runs : List Run) → length (currents_of amps runs) ≡ length runs
+unfolding currents_of
+currents_long amps [] = refl
+currents_long amps (r ∷ runs) = ap suc (currents_long amps runs)
 
--- and what is made of the rest is the rest of it.
-map-drop : {A B : Type 0} (f : A → B) (i : ℕ) (l : List A) → map f (drop i l) ≡ drop i (map f l)
-map-drop f zero l = refl
-map-drop f (suc i) [] = refl
-map-drop f (suc i) (a ∷ l) = map-drop f i l
+-- Currents after those of the last run are not added,
+leading_first : (pin : ℕ) (nears : List ℕ) (currents more : List Float) (total : Float) → length nears ≤ length currents
+    → plus_leading_on pin total nears (currents ++ more) ≡ plus_leading_on pin total nears currents
+unfolding plus_leading_on
+leading_first pin [] currents more total h = refl
+leading_first pin (n ∷ nears) [] more total h = absurd (omega arith)
+leading_first pin (n ∷ nears) (c ∷ currents) more total h = leading_first pin nears currents more _ (omega arith)
 
--- Runs are those of their own near and far pins.
-pub runs_back : (runs : List Run) → runs_by (nears_of runs) (fars_of runs) ≡ runs
-unfolding runs_by
-runs_back [] = refl
-runs_back (r ∷ runs) = ap (λ (l : List Run). r ∷ l) (runs_back runs)
-
--- The near pins of the runs of as many near as far pins,
-nears_back : (nears fars : List ℕ) → length nears ≡ length fars → nears_of (runs_by nears fars) ≡ nears
-unfolding runs_by
-nears_back [] fars e = refl
-nears_back (n ∷ nears) [] e = absurd (omega arith)
-nears_back (n ∷ nears) (f ∷ fars) e = ap (λ (l : List ℕ). n ∷ l) (nears_back nears fars (omega arith))
-
--- their number,
-runs_long : (nears fars : List ℕ) → length nears ≡ length fars → length (runs_by nears fars) ≡ length nears
-unfolding runs_by
-runs_long [] fars e = refl
-runs_long (n ∷ nears) [] e = absurd (omega arith)
-runs_long (n ∷ nears) (f ∷ fars) e = ap suc (runs_long nears fars (omega arith))
-
--- and one of them by its number.
-runs_at : (nears fars : List ℕ) → length nears ≡ length fars → (i : ℕ) → run_at (runs_by nears fars) i ≡ run (get_or nears i 0) (get_or fars i 0)
-unfolding runs_by
-runs_at [] [] e i = refl
-runs_at [] (f ∷ fars) e i = absurd (omega arith)
-runs_at (n ∷ nears) [] e i = absurd (omega arith)
-runs_at (n ∷ nears) (f ∷ fars) e zero = refl
-runs_at (n ∷ nears) (f ∷ fars) e (suc i) = runs_at nears fars (omega arith) i
+-- and give no pin a drop.
+pub drops_first : (feed : List Spot) (ohms : Float) (runs : List Run) (currents more drops : List Float) → length runs ≤ length currents
+    → drops_after feed ohms drops runs (currents ++ more) ≡ drops_after feed ohms drops runs currents
+unfolding drops_after
+drops_first feed ohms [] currents more drops h = refl
+drops_first feed ohms (r ∷ runs) [] more drops h = absurd (omega arith)
+drops_first feed ohms (r ∷ runs) (c ∷ currents) more drops h = drops_first feed ohms runs currents more _ (omega arith)
 
 -- ---- the runs along a chain
--- What is chosen where a test holds has to be the same only there.
-choose_if : {A : Type 0} (t : Bool) {a b : A} (c : A) → (t ≡ true → a ≡ b) → choose t a c ≡ choose t b c
-choose_if true c e = ap (λ x. choose true x c) (e refl)
-choose_if false c e = choose_no _ c refl ∙ sym (choose_no _ c refl)
-
-module _ (chain : List ℕ) (rising : Rising chain) where
+module _ (chain : List (Option ℕ)) (rising : Rising chain) where
   -- Once all runs can be met, one more makes no difference.
-  enough : (currents : List Float) (most r : ℕ) (total : Float) → most_runs ≤ r + most → plus_along chain currents most r total ≡ plus_along chain currents (suc most) r total
+  enough : (currents : List Float) (most : ℕ) (next : Option ℕ) (total : Float) → IfSome next (λ r. (most_runs ≤ r + most) × (r < most_runs))
+      → plus_along chain currents most next total ≡ plus_along chain currents (suc most) next total
   unfolding plus_along
-  enough currents zero r total h = sym (choose_no _ total (le-ltb r most_runs (omega arith)))
-  enough currents (suc most) r total h =
-      choose_if (ltb r most_runs) total (λ t. enough currents most (get_or chain r 0) _ (omega (arith, rising r (ltb-true r most_runs t))))
+  enough currents zero None total h = refl
+  enough currents zero (Some r) total h = absurd (omega arith)
+  enough currents (suc most) None total h = refl
+  enough currents (suc most) (Some r) total h =
+      enough currents most (get_or chain r None) _ (IfSome_then (get_or chain r None) (rising r h.1) (λ n q. (omega arith, q.1)))
 
   -- A chain goes up, so that what stands at lower numbers does not matter.
-  above : (currents : List Float) (k n : ℕ) (v : Float) (most r : ℕ) (total : Float) → k < r
-      → plus_along (set chain k n) (set currents k v) most r total ≡ plus_along chain currents most r total
+  above : (currents : List Float) (k : ℕ) (n : Option ℕ) (v : Float) (most : ℕ) (next : Option ℕ) (total : Float) → IfSome next (λ r. (k < r) × (r < most_runs))
+      → plus_along (set chain k n) (set currents k v) most next total ≡ plus_along chain currents most next total
   unfolding plus_along
-  above currents k n v zero r total h = refl
-  above currents k n v (suc most) r total h =
+  above currents k n v zero next total h = refl
+  above currents k n v (suc most) None total h = refl
+  above currents k n v (suc most) (Some r) total h =
       let not-k : r ≡ k → ⊥ = λ e. omega arith in
-      rw (get_or-set_other chain k r n 0 not-k, get_or-set_other currents k r v nan not-k)
-      (choose_if (ltb r most_runs) total (λ t. above currents k n v most (get_or chain r 0) _ (omega (arith, rising r (ltb-true r most_runs t)))))
+      rw (get_or-set_other chain k r n None not-k, get_or-set_other currents k r v nan not-k)
+      (above currents k n v most (get_or chain r None) _ (IfSome_then (get_or chain r None) (rising r h.1) (λ m q. (omega arith, q.1))))
 
   -- A run's current is added, and then those after it in the chain.
   pub along_next : (currents : List Float) (r : ℕ) (total : Float) → r < most_runs
-      → plus_along chain currents most_runs (get_or chain r 0) (add binary32 total (get_or currents r nan)) ≡ plus_along chain currents most_runs r total
+      → plus_along chain currents most_runs (get_or chain r None) (add binary32 total (get_or currents r nan))
+      ≡ plus_along chain currents most_runs (Some r) total
   unfolding plus_along
   along_next currents r total h =
-      sym (enough currents (most_runs - 1) (get_or chain r 0) _ (omega (arith, rising r h))) ∙ sym (choose_yes _ total (lt-ltb r most_runs h))
+      sym (enough currents (most_runs - 1) (get_or chain r None) _ (IfSome_then (get_or chain r None) (rising r h) (λ n q. (omega arith, q.1))))
 
--- Past the last run a chain has ended.
-pub along_end : (chain : List ℕ) (currents : List Float) (r : ℕ) (total : Float) → most_runs ≤ r → total ≡ plus_along chain currents most_runs r total
-unfolding plus_along
-along_end chain currents r total h = sym (choose_no _ total (le-ltb r most_runs h))
+-- ---- a chain for each pin
+-- A number with the currents of those runs from number i on that lead on from a pin.
+abbrev leading_left : List Run → List Float → ℕ → Float → ℕ → Float
+leading_left runs currents pin total i = plus_leading_on pin total (nears_of (drop i runs)) (drop i currents)
 
--- ---- currents as they are stored, from the last run to the first
+-- What is stored at a number comes first from there on.
+stored_first : (currents : List Float) (k : ℕ) (v : Float) → k < length currents → drop k (set currents k v) ≡ v ∷ drop (k + 1) currents
+stored_first currents k v h =
+    front nan (set currents k v) k (omega (arith, length-set currents k v))
+    ∙ ap₂ (λ (x : Float) (s : List Float). x ∷ s) (get_or-set_same currents k v nan h) (drop-set-lt (k + 1) currents k v (omega arith))
+
+-- Along the chain of a pin stand, of the runs from number i on, those that lead on from it.
+pub record Chained (runs : List Run) (currents : List Float) (leading chain : List (Option ℕ)) (i : ℕ) : Type 0 where
+  pub pins : length leading ≡ most_pins
+  pub many : length chain ≡ most_runs
+  pub rising : Rising chain
+  pub from : (pin : ℕ) → pin < most_pins → IfSome (get_or leading pin None) (λ r. (i ≤ r) × (r < most_runs))
+  pub adds : (pin : ℕ) → pin < most_pins → (total : Float)
+      → plus_along chain currents most_runs (get_or leading pin None) total ≡ leading_left runs currents pin total i
+
+-- At first no run is in a chain.
+pub chained_none : (runs : List Run) → Chained runs (replicate most_runs nought) (replicate most_pins None) (replicate most_runs None) (length runs)
+unfolding plus_leading_on plus_along
+chained_none runs =
+    record {
+      pins = length-replicate {A = Option ℕ} most_pins None;
+      many = length-replicate {A = Option ℕ} most_runs None;
+      rising = λ r h. rw (blank_at {A = Option ℕ} most_runs r None) tt;
+      from = λ pin h. rw (blank_at {A = Option ℕ} most_pins pin None) tt;
+      adds = λ pin h total. rw (blank_at {A = Option ℕ} most_pins pin None, drop_of_length-le runs {i = length runs} (omega arith));
+    }
+
+module _ (runs : List Run) (currents : List Float) (long : length currents ≡ most_runs) (leading chain : List (Option ℕ)) (k : ℕ) (h : k < length runs)
+    (p : PinNumbers runs) (v : Float) (s : Chained runs currents leading chain (k + 1)) where
+  -- The pin from which run k leads on,
+  abbrev near : ℕ
+  near = (run_at runs k).near
+
+  -- its number is a pin's,
+  low : near < most_pins
+  low = (p.ends k (run 0 0) h).0
+
+  -- as the run's is a run's,
+  few : k < most_runs
+  few = omega (arith, p.few)
+
+  -- the chain with the run before those after it,
+  abbrev put : List (Option ℕ)
+  put = set chain k (get_or leading near None)
+
+  -- which goes up too.
+  put_rising : Rising put
+  put_rising r l = go (same_or_not r k)
+    where
+      go : (r ≡ k) ⊎ (r ≡ k → ⊥) → IfSome (get_or put r None) (λ n. (r < n) × (n < most_runs))
+      go (inl e) =
+          rw (e, get_or-set_same chain k (get_or leading near None) None (omega (arith, s.many, few)))
+          (IfSome_then (get_or leading near None) (s.from near low) (λ n q. (omega arith, q.1)))
+      go (inr n) = rw (get_or-set_other chain k r (get_or leading near None) None n) (s.rising r l)
+
+  -- Run k is the first of those left,
+  left_first : (pin : ℕ) (total : Float)
+      → leading_left runs currents pin (choose (eqb near pin) (add binary32 total v) total) (k + 1) ≡ leading_left runs (set currents k v) pin total k
+  unfolding plus_leading_on
+  left_first pin total = rw (front (run 0 0) runs k h, stored_first currents k v (omega (arith, few)))
+
+  -- The chain of its near pin begins with it, and those of other pins are what they were.
+  pub chained_turn : Chained runs (set currents k v) (set leading near (Some k)) put k
+  chained_turn =
+      record {
+        pins = length-set leading near (Some k) ∙ s.pins;
+        many = length-set chain k (get_or leading near None) ∙ s.many;
+        rising = put_rising;
+        from = λ pin l. from_turn pin l (same_or_not pin near);
+        adds = λ pin l total. adds_turn pin l total (same_or_not pin near);
+      }
+    where
+      from_turn : (pin : ℕ) → pin < most_pins → (pin ≡ near) ⊎ (pin ≡ near → ⊥)
+          → IfSome (get_or (set leading near (Some k)) pin None) (λ r. (k ≤ r) × (r < most_runs))
+      from_turn pin l (inl e) = rw (e, get_or-set_same leading near (Some k) None (omega (arith, s.pins, low))) (omega arith, few)
+      from_turn pin l (inr n) =
+          rw (get_or-set_other leading near pin (Some k) None n) (IfSome_then (get_or leading pin None) (s.from pin l) (λ r q. (omega arith, q.1)))
+
+      adds_turn : (pin : ℕ) → pin < most_pins → (total : Float) → (pin ≡ near) ⊎ (pin ≡ near → ⊥)
+          → plus_along put (set currents k v) most_runs (get_or (set leading near (Some k)) pin None) total ≡ leading_left runs (set currents k v) pin total k
+      adds_turn pin l total (inl e) =
+          rw (e, get_or-set_same leading near (Some k) None (omega (arith, s.pins, low)))
+          (sym (along_next put put_rising (set currents k v) k total few)
+          ∙ rw (get_or-set_same chain k (get_or leading near None) None (omega (arith, s.many, few)), get_or-set_same currents k v nan (omega (arith, few)))
+          (above chain s.rising currents k (get_or leading near None) v most_runs (get_or leading near None) (add binary32 total v)
+          (IfSome_then (get_or leading near None) (s.from near low) (λ r q. (omega arith, q.1)))
+          ∙ s.adds near low (add binary32 total v)
+          ∙ ap (λ (t : Float). leading_left runs currents near t (k + 1)) (sym (choose_yes _ total (eq-eqb near near refl)))
+          ∙ left_first near total))
+      adds_turn pin l total (inr n) =
+          rw (get_or-set_other leading near pin (Some k) None n)
+          (above chain s.rising currents k (get_or leading near None) v most_runs (get_or leading pin None) total
+          (IfSome_then (get_or leading pin None) (s.from pin l) (λ r q. (omega arith, q.1)))
+          ∙ s.adds pin l total
+          ∙ ap (λ (t : Float). leading_left runs currents pin t (k + 1)) (sym (choose_no _ total (ne_eqb near pin (λ e. n (sym e)))))
+          ∙ left_first pin total)
+
+-- ---- the currents of all runs
+-- The currents of the runs from number i on are reckoned; entries after the last run are 0.
+pub record Reckoned (amps : ℕ → Float) (runs : List Run) (currents : List Float) (i : ℕ) : Type 0 where
+  pub to : i ≤ length runs
+  pub long : length currents ≡ most_runs
+  pub are : drop i currents ≡ padded (most_runs - i) nought (currents_of amps (drop i runs))
+
 -- As many blanks are left as are not passed.
 blanks_left : (n i : ℕ) → drop i (replicate n nought) ≡ replicate (n - i) nought
 blanks_left n zero = let e : n ≡ n - 0 = omega arith in ap (λ (k : ℕ). replicate k nought) e
 blanks_left zero (suc i) = let e : 0 ≡ 0 - suc i = omega arith in ap (λ (k : ℕ). replicate k nought) e
 blanks_left (suc n) (suc i) = let e : suc n - suc i ≡ n - i = omega arith in rw e (blanks_left n i)
 
--- What is stored at a number below the count comes first from there on.
-stored_first : (currents : List Float) (count k : ℕ) (v : Float) → k < count → count ≤ length currents
-    → drop k (take count (set currents k v)) ≡ v ∷ drop (k + 1) (take count currents)
-stored_first currents count k v h few =
-    let l : k < length (take count currents) = omega (arith, length-take-le count currents few) in
-    let m : k < length (set (take count currents) k v) = omega (arith, length-set (take count currents) k v) in
-    ap (drop k) (take-set-lt count currents k v h)
-    ∙ front nan (set (take count currents) k v) k m
-    ∙ ap₂ (λ (x : Float) (s : List Float). x ∷ s) (get_or-set_same (take count currents) k v nan l)
-    (drop-set-lt (k + 1) (take count currents) k v (omega arith))
+-- A list that is filled up, with an entry before it, is this list with that entry, filled up.
+filled_more : (n k : ℕ) (v : Float) (l : List Float) → k < n → v ∷ padded (n - (k + 1)) nought l ≡ padded (n - k) nought (v ∷ l)
+filled_more n k v l h = let e : n - (k + 1) - length l ≡ n - k - suc (length l) = omega arith in rw e
 
--- ---- a chain for each pin
--- A number with the currents of those runs from number i on that lead on from a pin.
-abbrev leading_left : List ℕ → List Float → ℕ → ℕ → Float → ℕ → Float
-leading_left nears currents count pin total i = plus_leading_on pin total (drop i (take count nears)) (drop i (take count currents))
-
--- Along the chain of a pin stand, of the runs from number i on, those that lead on from it.
-pub record Chained (nears : List ℕ) (count : ℕ) (currents : List Float) (leading chain : List ℕ) (i : ℕ) : Type 0 where
-  pub pins : length leading ≡ most_pins
-  pub runs : length chain ≡ most_runs
-  pub rising : Rising chain
-  pub from : (pin : ℕ) → pin < most_pins → i ≤ get_or leading pin 0
-  pub adds : (pin : ℕ) → pin < most_pins → (total : Float)
-      → plus_along chain currents most_runs (get_or leading pin 0) total ≡ leading_left nears currents count pin total i
-
--- At first no run is in a chain.
-pub chained_none : (nears : List ℕ) (count : ℕ) → count ≤ most_runs
-    → Chained nears count (replicate most_runs nought) (replicate most_pins most_runs) (replicate most_runs most_runs) count
-unfolding plus_leading_on
-chained_none nears count few =
-    record {
-      pins = length-replicate most_pins most_runs;
-      runs = length-replicate most_runs most_runs;
-      rising = λ r h. rw (get_or-replicate most_runs r most_runs 0 h) h;
-      from = λ pin h. rw (get_or-replicate most_pins pin most_runs 0 h) few;
-      adds = λ pin h total.
-          rw (get_or-replicate most_pins pin most_runs 0 h, none_left nears count count (omega arith))
-          (sym (along_end (replicate most_runs most_runs) (replicate most_runs nought) most_runs total (omega arith)));
-    }
-
-module _ (nears : List ℕ) (count : ℕ) (long : length nears ≡ most_runs) (few : count ≤ most_runs) (currents : List Float) (many : length currents ≡ most_runs)
-    (leading chain : List ℕ) (k : ℕ) (h : k < count) (v : Float) (low : get_or nears k 0 < most_pins) (s : Chained nears count currents leading chain (k + 1)) where
-  -- The pin from which run k leads on,
-  abbrev near : ℕ
-  near = get_or nears k 0
-
-  -- the chain with the run before those after it,
-  abbrev put : List ℕ
-  put = set chain k (get_or leading near 0)
-
-  -- which goes up too.
-  put_rising : Rising put
-  put_rising r l = go (same_or_not r k)
-    where
-      go : (r ≡ k) ⊎ (r ≡ k → ⊥) → r < get_or put r 0
-      go (inl e) = rw (e, get_or-set_same chain k (get_or leading near 0) 0 (omega (arith, s.runs))) (omega (arith, s.from near low))
-      go (inr n) = rw (get_or-set_other chain k r (get_or leading near 0) 0 n) (s.rising r l)
-
-  -- Run k is the first of those left,
-  left_first : (pin : ℕ) (total : Float)
-      → leading_left nears currents count pin (choose (eqb near pin) (add binary32 total v) total) (k + 1) ≡ leading_left nears (set currents k v) count pin total k
-  unfolding plus_leading_on
-  left_first pin total = rw (front_of 0 nears count k (omega arith) h, stored_first currents count k v h (omega arith))
-
-  -- The chain of its near pin begins with it, and those of other pins are what they were.
-  chained_turn : Chained nears count (set currents k v) (set leading near k) put k
-  chained_turn =
+module _ (amps : ℕ → Float) (runs : List Run) (p : PinNumbers runs) where
+  -- At first none is reckoned.
+  pub reckoned_none : Reckoned amps runs (replicate most_runs nought) (length runs)
+  unfolding currents_of
+  reckoned_none =
       record {
-        pins = length-set leading near k ∙ s.pins;
-        runs = length-set chain k (get_or leading near 0) ∙ s.runs;
-        rising = put_rising;
-        from = λ pin l. from_turn pin l (same_or_not pin near);
-        adds = λ pin l total. adds_turn pin l total (same_or_not pin near);
+        to = omega arith;
+        long = length-replicate most_runs nought;
+        are =
+            let none : currents_of amps (drop (length runs) runs) ≡ [] = rw (drop_of_length-le runs {i = length runs} (omega arith)) in
+            rw none (let e : most_runs - length runs - 0 ≡ most_runs - length runs = omega arith in rw e (blanks_left most_runs (length runs)));
       }
-    where
-      from_turn : (pin : ℕ) → pin < most_pins → (pin ≡ near) ⊎ (pin ≡ near → ⊥) → k ≤ get_or (set leading near k) pin 0
-      from_turn pin l (inl e) = rw (e, get_or-set_same leading near k 0 (omega (arith, s.pins))) (omega arith)
-      from_turn pin l (inr n) = rw (get_or-set_other leading near pin k 0 n) (omega (arith, s.from pin l))
 
-      adds_turn : (pin : ℕ) → pin < most_pins → (total : Float) → (pin ≡ near) ⊎ (pin ≡ near → ⊥)
-          → plus_along put (set currents k v) most_runs (get_or (set leading near k) pin 0) total ≡ leading_left nears (set currents k v) count pin total k
-      adds_turn pin l total (inl e) =
-          rw (e, get_or-set_same leading near k 0 (omega (arith, s.pins)))
-          (sym (along_next put put_rising (set currents k v) k total (omega arith))
-          ∙ rw (get_or-set_same chain k (get_or leading near 0) 0 (omega (arith, s.runs)), get_or-set_same currents k v nan (omega arith))
-          (above chain s.rising currents k (get_or leading near 0) v most_runs (get_or leading near 0) (add binary32 total v) (omega (arith, s.from near low))
-          ∙ s.adds near low (add binary32 total v)
-          ∙ ap (λ (t : Float). leading_left nears currents count near t (k + 1)) (sym (choose_yes _ total (eq-eqb near near refl)))
-          ∙ left_first near total))
-      adds_turn pin l total (inr n) =
-          rw (get_or-set_other leading near pin k 0 n)
-          (above chain s.rising currents k (get_or leading near 0) v most_runs (get_or leading pin 0) total (omega (arith, s.from pin l))
-          ∙ s.adds pin l total
-          ∙ ap (λ (t : Float). leading_left nears currents count pin t (k + 1)) (sym (choose_no _ total (ne_eqb near pin (λ e. n (sym e)))))
-          ∙ left_first pin total)
+  -- The current of the run before: the load of its far pin plus the currents of the runs leading on.
+  reckoned_turn : (currents : List Float) (k : ℕ) (v : Float) → k < length runs → Reckoned amps runs currents (k + 1)
+      → v ≡ leading_left runs currents (run_at runs k).far (amps (run_at runs k).far) (k + 1)
+      → Reckoned amps runs (set currents k v) k
+  unfolding currents_of
+  reckoned_turn currents k v h s is =
+      let later : List Run = drop (k + 1) runs in
+      let f = (run_at runs k).far in
+      let n : length (nears_of later) ≤ length (currents_of amps later) = omega (arith, length-map later (λ (r : Run). r.near), currents_long amps later) in
+      let now : v ≡ plus_leading_on f (amps f) (nears_of later) (currents_of amps later) =
+      is ∙ rw s.are (leading_first f (nears_of later) (currents_of amps later) _ (amps f) n) in
+      record {
+        to = omega arith;
+        long = length-set currents k v ∙ s.long;
+        are =
+            stored_first currents k v (omega (arith, s.long, p.few))
+            ∙ ap (λ (l : List Float). v ∷ l) s.are
+            ∙ filled_more most_runs k v (currents_of amps later) (omega (arith, p.few))
+            ∙ ap (λ (x : Float). padded (most_runs - k) nought (x ∷ currents_of amps later)) now
+            ∙ sym (ap (λ (l : List Run). padded (most_runs - k) nought (currents_of amps l)) (front (run 0 0) runs k h));
+      }
 
--- ---- the currents of all runs
--- The currents of the runs from number i on are reckoned; entries after the last run are 0.
-pub record Reckoned (amps : ℕ → Float) (runs : List Run) (count : ℕ) (currents : List Float) (i : ℕ) : Type 0 where
-  pub to : i ≤ count
-  pub long : length currents ≡ most_runs
-  pub are : drop i (take count currents) ≡ currents_of amps (drop i runs)
-  pub blank : drop count currents ≡ replicate (most_runs - count) nought
+  -- So one turn: the run's current is what its far pin's chain gives, and it goes into the chain of its near pin.
+  pub run_turn : (currents : List Float) (leading chain : List (Option ℕ)) (i k : ℕ) (own v : Float) → k + 1 ≡ i
+      → Reckoned amps runs currents i → Chained runs currents leading chain i
+      → own ≡ amps (run_at runs k).far → v ≡ plus_along chain currents most_runs (get_or leading (run_at runs k).far None) own
+      → Reckoned amps runs (set currents k v) k
+      × Chained runs (set currents k v) (set leading (run_at runs k).near (Some k)) (set chain k (get_or leading (run_at runs k).near None)) k
+  run_turn currents leading chain i k own v e s t o is =
+      let h : k < length runs = omega (arith, s.to) in
+      let s' : Reckoned amps runs currents (k + 1) = subst (Reckoned amps runs currents) (sym e) s in
+      let t' : Chained runs currents leading chain (k + 1) = subst (Chained runs currents leading chain) (sym e) t in
+      let now : v ≡ leading_left runs currents (run_at runs k).far (amps (run_at runs k).far) (k + 1) =
+      is ∙ rw o (t'.adds (run_at runs k).far (p.ends k (run 0 0) h).1 _) in
+      (reckoned_turn currents k v h s' now, chained_turn runs currents s.long leading chain k h p v t')
 
-module _ (nears fars : List ℕ) (count : ℕ) (p : PinNumbers nears fars count) where
-  abbrev runs : List Run
-  runs = take count (runs_by nears fars)
+  -- The runs that are left are the first ones. The last of them has the number of those before it,
+  last_left : (left later : List Run) (r : Run) → left ≡ take (length left) runs → left ≡ later ++ (r ∷ []) → length left ≤ length runs
+      → (later ≡ take (length later) runs) × (run_at runs (length later) ≡ r)
+  last_left left later r e f h =
+      let n : length left ≡ length later + 1 = ap length f ∙ length-append later (r ∷ []) in
+      let first : take (length later + 1) runs ≡ later ++ (r ∷ []) = sym (rw n at e) ∙ f in (
+        sym (take_at later (r ∷ []) (length later) refl) ∙ sym (ap (take (length later)) first)
+            ∙ take-take (length later) (length later + 1) runs (omega arith),
+        sym (get_or-take (length later + 1) runs (length later) (run 0 0) (omega arith)) ∙ ap (λ (l : List Run). get_or l (length later) (run 0 0)) first
+            ∙ get_or_at later r [] (run 0 0) (length later) refl,
+      )
 
-  -- There are as many near as far pins.
-  as_many : length nears ≡ length fars
-  as_many = p.nears_long ∙ sym p.fars_long
+  -- and its turn leaves those.
+  pub left_turn : (currents : List Float) (leading chain : List (Option ℕ)) (left later : List Run) (r : Run) (at : ℕ) (own v : Float)
+      → left ≡ take (length left) runs → left ≡ later ++ (r ∷ []) → at ≡ length later
+      → Reckoned amps runs currents (length left) → Chained runs currents leading chain (length left)
+      → (r.far < most_pins → own ≡ amps r.far) → v ≡ plus_along chain currents most_runs (get_or leading r.far None) own
+      → (later ≡ take (length later) runs) × Reckoned amps runs (set currents at v) (length later)
+      × Chained runs (set currents at v) (set leading r.near (Some at)) (set chain at (get_or leading r.near None)) (length later)
+  left_turn currents leading chain left later r at own v e f n s t o is =
+      let l = last_left left later r e f s.to in
+      let m : length later + 1 ≡ length left = sym (ap length f ∙ length-append later (r ∷ [])) in
+      let low : r.far < most_pins = rw l.1 at (p.ends (length later) (run 0 0) (omega (arith, m, s.to))).1 in
+      let turn = run_turn currents leading chain (length left) (length later) own v m s t (rw l.1 (o low)) (rw l.1 is) in
+      rw (n, ← l.1) (l.0, turn.0, turn.1)
 
-  -- A run comes before those after it,
-  runs_next : (k : ℕ) → k < count → drop k runs ≡ run (get_or nears k 0) (get_or fars k 0) ∷ drop (k + 1) runs
-  runs_next k h =
-      front_of (run 0 0) (runs_by nears fars) count k (omega (arith, p, runs_long nears fars as_many)) h
-      ∙ ap (λ (r : Run). r ∷ drop (k + 1) runs) (runs_at nears fars as_many k)
+  -- In the end all are.
+  pub reckoned_all : (currents : List Float) (i : ℕ) → i ≤ 0 → Reckoned amps runs currents i → currents ≡ padded most_runs nought (currents_of amps runs)
+  reckoned_all currents i z s = let e : i ≡ 0 = omega arith in rw e at s.are
 
-  -- and the near pins of those are at hand.
-  nears_left : (i : ℕ) → nears_of (drop i runs) ≡ drop i (take count nears)
-  nears_left i =
-      map-drop (λ (r : Run). r.near) i runs
-      ∙ ap (drop i) (map-take (λ (r : Run). r.near) count (runs_by nears fars) ∙ ap (take count) (nears_back nears fars as_many))
+-- ---- runs as they are gone over
+-- Where something is so of each entry of a list, it is so of each after the first.
+pub others_so : {A : Type 0} (P : A → Type 0) {l m : List A} {a : A} → l ≡ a ∷ m → All P l → All P m
+others_so P e all k d h = (rw e at all) (suc k) d (omega arith)
 
-  module _ (amps : ℕ → Float) where
-    -- At first none is reckoned.
-    pub reckoned_none : Reckoned amps runs count (replicate most_runs nought) count
-    unfolding currents_of
-    reckoned_none =
-        record {
-          to = omega arith;
-          long = length-replicate most_runs nought;
-          are =
-              none_left (replicate most_runs nought) count count (omega arith)
-              ∙ sym (ap (currents_of amps) (none_left (runs_by nears fars) count count (omega arith)));
-          blank = blanks_left most_runs count;
-        }
+-- ---- the drops, from the first run to the last
+module _ (feed : List Spot) (ohms : Float) (drops : List Float) where
+  -- A run is taken: its far pin's drop is its near pin's plus that of the run, and with the runs after it the drops come to the same.
+  pub drops_turn : {runs : List Run} {currents : List Float} {r : Run} {c v : Float} {later : List Run} {flow : List Float}
+      → runs ≡ r ∷ later → currents ≡ c ∷ flow → v ≡ run_drop c ohms (distance_of_run feed r)
+      → drops_after feed ohms (set drops r.far (add binary32 (get_or drops r.near nan) v)) later flow ≡ drops_after feed ohms drops runs currents
+  unfolding drops_after
+  drops_turn e f g = rw (e, f, g)
 
-    -- The current of the run before: the load of its far pin plus the currents of the runs leading on.
-    reckoned_turn : (currents : List Float) (i k : ℕ) (v : Float) → k + 1 ≡ i → Reckoned amps runs count currents i
-        → v ≡ leading_left nears currents count (get_or fars k 0) (amps (get_or fars k 0)) i
-        → Reckoned amps runs count (set currents k v) k
-    unfolding currents_of
-    reckoned_turn currents i k v e s is =
-        let h : k < count = omega (arith, s.to) in
-        let later : drop (k + 1) (take count currents) ≡ currents_of amps (drop (k + 1) runs) = rw e s.are in
-        let f = get_or fars k 0 in
-        let now : v ≡ plus_leading_on f (amps f) (nears_of (drop (k + 1) runs)) (currents_of amps (drop (k + 1) runs)) =
-        rw (nears_left (k + 1), ← later) (rw (sym e) at is) in
-        record {
-          to = omega arith;
-          long = length-set currents k v ∙ s.long;
-          are =
-              stored_first currents count k v h (omega (arith, s.long))
-              ∙ ap₂ (λ (x : Float) (l : List Float). x ∷ l) now later
-              ∙ sym (ap (currents_of amps) (runs_next k h));
-          blank = drop-set-lt count currents k v h ∙ s.blank;
-        }
-
-    -- So one turn: the run's current is what its far pin's chain gives, and it goes into the chain of its near pin.
-    pub run_turn : (currents : List Float) (leading chain : List ℕ) (i k : ℕ) (own v : Float) → k + 1 ≡ i
-        → Reckoned amps runs count currents i → Chained nears count currents leading chain i
-        → own ≡ amps (get_or fars k 0) → v ≡ plus_along chain currents most_runs (get_or leading (get_or fars k 0) 0) own
-        → Reckoned amps runs count (set currents k v) k
-        × Chained nears count (set currents k v) (set leading (get_or nears k 0) k) (set chain k (get_or leading (get_or nears k 0) 0)) k
-    run_turn currents leading chain i k own v e s t o is =
-        let h : k < count = omega (arith, s.to) in
-        let now : v ≡ leading_left nears currents count (get_or fars k 0) (amps (get_or fars k 0)) i = is ∙ rw o (t.adds (get_or fars k 0) (p.far k h) _) in (
-          reckoned_turn currents i k v e s now,
-          chained_turn nears count p.nears_long p.few currents s.long leading chain k h v (p.near k h)
-              (subst (Chained nears count currents leading chain) (sym e) t),
-        )
-
-    -- In the end all are.
-    pub reckoned_all : (currents : List Float) (i : ℕ) → i ≤ 0 → Reckoned amps runs count currents i
-        → currents ≡ padded most_runs nought (currents_of amps runs)
-    reckoned_all currents i z s =
-        let e : i ≡ 0 = omega arith in
-        let are : take count currents ≡ currents_of amps runs = rw e at s.are in
-        let n : length (currents_of amps runs) ≡ count = sym (ap length are) ∙ length-take-le count currents (omega (arith, s.long)) in
-        sym (take-append-drop count currents) ∙ ap₂ (λ (a b : List Float). a ++ b) are s.blank ∙ rw n
-
-  -- ---- the drops, from the first run to the last
-  module _ (feed : List Spot) (ohms : Float) (currents : List Float) (many : length currents ≡ most_runs) (drops : List Float) (k : ℕ) where
-    -- Run k is taken: its far pin's drop is its near pin's plus that of the run, and with the runs after it the drops come to the same.
-    pub drops_turn : (v : Float) → k < count → v ≡ run_drop (get_or currents k nan) ohms (distance_of_run feed (run (get_or nears k 0) (get_or fars k 0)))
-        → drops_after feed ohms (set drops (get_or fars k 0) (add binary32 (get_or drops (get_or nears k 0) nan) v)) (drop (k + 1) runs) (drop (k + 1) (take count currents))
-        ≡ drops_after feed ohms drops (drop k runs) (drop k (take count currents))
-    unfolding drops_after
-    drops_turn v h e = rw (runs_next k h, front_of nan currents count k (omega (arith, p)) h, e)
-
-    -- With no run left, these are the drops.
-    pub drops_end : count ≤ k → drops ≡ drops_after feed ohms drops (drop k runs) (drop k (take count currents))
-    unfolding drops_after
-    drops_end h = rw (none_left (runs_by nears fars) count k h)
+  -- With no run or no current left, these are the drops.
+  pub drops_end : (runs : List Run) (currents : List Float) → (length runs ≡ 0) ⊎ (length currents ≡ 0) → drops ≡ drops_after feed ohms drops runs currents
+  unfolding drops_after
+  drops_end [] currents e = refl
+  drops_end (r ∷ runs) [] e = refl
+  drops_end (r ∷ runs) (c ∷ currents) (inl e) = absurd (omega arith)
+  drops_end (r ∷ runs) (c ∷ currents) (inr e) = absurd (omega arith)

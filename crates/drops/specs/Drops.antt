@@ -4,18 +4,16 @@ use Rattle.std.specs.Prelude.{not, List, [], ◌∷◌, ◌++◌, map, ℕ, eqb,
 use Rattle.std.specs.Float.{nan, binary32}
 use Rattle.std.specs.Float.Ieee.{add, mul, of_int}
 use Rattle.basics.specs.Tests.{both, choose}
-use Rattle.refusal.specs.Refusals.{accepted}
+use Rattle.refusal.specs.Refusals.{Verdict, accepted}
 use Rattle.refusal.specs.Rows.{Row, given, first_of}
-use Rattle.refusal.specs.declared.Verdict.{Verdict}
-use Rattle.refusal.specs.declared.Verdict.TheVariants.{OutOfRange}
-use Rattle.board.specs.declared.Spot.{Spot}
+use Rattle.refusal.specs.declared.Refusal.TheVariants.{OutOfRange}
 use Rattle.board.specs.Place.{distance_of}
-use Rattle.board.specs.Spots.{most_pins, place_at}
+use Rattle.board.specs.Spots.{Spot, most_pins, place_at}
 use Rattle.tree.specs.declared.Run.{Run}
 use Rattle.tree.specs.Growth.{pins_of, runs_of}
 use Rattle.tree.specs.Trees.{tree_rows}
 use Rattle.loads.specs.declared.Sheet.{Sheet}
-use Rattle.loads.specs.declared.Loaded.{Loaded}
+use Rattle.loads.specs.declared.Load.{Load}
 use Rattle.drops.specs.declared.Lost.{Lost}
 use Rattle.loads.specs.Loads.{nought, sheet_fits, load_at, loads_fit, amps_of}
 
@@ -55,12 +53,12 @@ abbrev pub no_drops : List Float
 no_drops = replicate most_pins nought
 
 -- The drops of a feed, by pin number: 0 for its lowest-numbered pin and for absent ones, to which no run leads.
-unfoldable pub drops_of : List Spot → List Loaded → Sheet → List Float
+unfoldable pub drops_of : List Spot → List Load → Sheet → List Float
 drops_of feed loads sheet =
     drops_after feed sheet.ohms no_drops (runs_of feed) (currents_of (λ (pin : ℕ). amps_of sheet (load_at loads pin)) (runs_of feed))
 
 -- 17 as for wiring, then 20: the sheet, or a load of a pin that is there, is out of its range.
-abbrev pub drop_rows : List Spot → List Loaded → Sheet → List Row
+abbrev pub drop_rows : List Spot → List Load → Sheet → List Row
 drop_rows feed loads sheet = tree_rows feed ++ (given (not (both (sheet_fits sheet) (loads_fit loads (pins_of feed)))) OutOfRange ∷ [])
 
 -- A refusal: all drops are 0.
@@ -72,5 +70,5 @@ abbrev pub lost_by : List Row → List Float → Lost
 lost_by rows drops = record { verdict = first_of rows; drops = choose (accepted (first_of rows)) drops no_drops }
 
 -- The volts lost to the pins of a feed.
-unfoldable pub lost_of : List Spot → List Loaded → Sheet → Lost
+unfoldable pub lost_of : List Spot → List Load → Sheet → Lost
 lost_of feed loads sheet = lost_by (drop_rows feed loads sheet) (drops_of feed loads sheet)

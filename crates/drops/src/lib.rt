@@ -1,102 +1,70 @@
 // Volts lost on the way to each pin: the currents of the runs, the drops of the pins. Everything is f32, one rounding an operation.
 #![tactic(auto)]
 
-ghost use Rattle.std.specs.Prelude.{◌≡◌, true, ◌≤◌, ◌*◌, length, take};
+ghost use Rattle.std.specs.Prelude.{◌≡◌, true, ◌≤◌, ◌<◌, ◌*◌, IfSome};
 ghost use Rattle.basics.specs.Lists.{padded};
+ghost use Rattle.refusal.specs.Rows.{first_of, granted};
 ghost use Rattle.board.specs.Place.{limit, distance_of};
-ghost use Rattle.board.specs.Spots.{spots_from, all_within};
-ghost use Rattle.tree.specs.Growth.{run};
+ghost use Rattle.board.specs.Spots.{all_within};
 ghost use Rattle.tree.specs.Trees.{most_runs};
 ghost use Rattle.loads.specs.Loads.{nought};
-ghost use Rattle.drops.specs.Drops.{nears_of, currents_of, run_drop, distance_of_run, drops_after, no_drops, none_lost, lost_of};
-ghost use Rattle.drops.specs.Passes.{fars_of, runs_by, PinNumbers, amps_at, Rising, plus_along};
+ghost use Rattle.drops.specs.Drops.{currents_of, run_drop, distance_of_run, drops_after, no_drops, drops_of, drop_rows, none_lost, lost_of};
+ghost use Rattle.drops.specs.Passes.{PinNumbers, amps_at, Rising, plus_along};
 
 use board::spots::place_at;
-use board::{PINS, Place};
-use loads::{Loaded, Sheet};
-use refusal::Verdict;
+use board::{PINS, Place, Spot};
+use loads::{Load, Sheet};
+use refusal::{Refusal, Verdict};
 use tree::{RUNS, Run};
 
-// What is answered: the verdict, and the drop of each pin number.
+// What is answered: the verdict, and the drop of each pin number. They stand side by side, since all drops of a refused answer are 0 (drops/Drops: none_lost).
 #[derive(Clone, Copy)]
 pub struct Lost {
     pub verdict: Verdict,
     pub drops: [f32; PINS],
 }
 
-// The near pins of the runs.
-fn nears_of(runs: [Run; RUNS]) -> [usize; RUNS]
-    ensures { result ≡ nears_of runs }
-{
-    let mut nears = [0usize; RUNS];
-    let mut at = 0;
-    while at < RUNS {
-        let run = runs[at];
-        nears[at] = run.near;
-        at += 1;
-    }
-    nears
-}
-
-// The far pins of the runs.
-fn fars_of(runs: [Run; RUNS]) -> [usize; RUNS]
-    ensures { result ≡ fars_of runs }
-{
-    let mut fars = [0usize; RUNS];
-    let mut at = 0;
-    while at < RUNS {
-        let run = runs[at];
-        fars[at] = run.far;
-        at += 1;
-    }
-    fars
-}
-
-// A number plus the currents of the runs along a chain, in its order: after each run it tells the next one, and RUNS ends it.
-fn plus_along(chain: &[usize; RUNS], currents: &[f32; RUNS], first: usize, own: f32) -> f32
-    requires { Rising chain.now }
+// A number plus the currents of the runs along a chain, in its order: after each run it tells the next one, or none.
+fn plus_along(
+    chain: &[Option<usize>; RUNS],
+    currents: &[f32; RUNS],
+    first: Option<usize>,
+    own: f32,
+) -> f32
+    requires { Rising chain.now × IfSome first (λ r. r < most_runs) }
     ensures { result ≡ plus_along chain.now currents.now most_runs first own }
 {
     let mut total = own;
-    let mut run = first;
-    while run < RUNS {
-        total = total + currents[run];
-        run = chain[run];
+    // Followed in a loop: the library takes its iterator over a chain, `successors`, for endless, and sums up none that is.
+    let mut next = first;
+    while let Some(run) = next {
+        total += currents[run];
+        next = chain[run];
     }
     total
 }
 
 // The currents of the runs, from the last to the first: each needs those after it. On the way a chain is made for each pin, of the runs that lead on
 // from it: `leading` tells the first of them so far, `chain` the next one after each; a run is put before those that are in.
-fn currents_of(
-    nears: &[usize; RUNS],
-    fars: &[usize; RUNS],
-    count: usize,
-    loads: [Loaded; PINS],
-    sheet: Sheet,
-) -> [f32; RUNS]
-    requires { PinNumbers nears.now fars.now count }
-    ensures { result ≡ padded most_runs nought (currents_of (amps_at loads sheet) (take count (runs_by nears.now fars.now))) }
+fn currents_of(runs: &[Run], loads: &[Load; PINS], sheet: Sheet) -> [f32; RUNS]
+    requires { PinNumbers runs.now }
+    ensures { result ≡ padded most_runs nought (currents_of (amps_at loads.now sheet) runs.now) }
 {
     let mut currents = [0.0f32; RUNS];
-    let mut leading = [RUNS; PINS];
-    let mut chain = [RUNS; RUNS];
-    let mut at = count;
-    while 0 < at {
-        at -= 1;
-        let near = nears[at];
-        let far = fars[at];
-        let loaded = loads[far];
-        let load = loaded.load;
-        let own = loads::amps(sheet, load);
-        currents[at] = plus_along(&chain, &currents, leading[far], own);
-        chain[at] = leading[near];
-        leading[near] = at;
+    // Chains of numbers in two arrays: nothing is on a heap here, and so each current is added once, in run order.
+    let mut leading: [Option<usize>; PINS] = [None; PINS];
+    let mut chain: [Option<usize>; RUNS] = [None; RUNS];
+    for (at, run) in runs.iter().enumerate().rev() {
+        let own = loads[run.far].amps(sheet);
+        currents[at] = plus_along(&chain, &currents, leading[run.far], own);
+        chain[at] = leading[run.near];
+        leading[run.near] = Some(at);
     }
     currents
 }
 
 // The distance of two places.
+#[tactic(auto, using(board::proofs::Board::difference_below), unfolding(board::specs::Place::distance_of))]
 fn distance(from: Place, to: Place) -> u64
     ensures { result ≡ distance_of from to }
 {
@@ -108,50 +76,36 @@ fn run_drop(current: f32, sheet: Sheet, distance: u64) -> f32
     requires { distance ≤ 4 * limit }
     ensures { result ≡ run_drop current sheet.ohms distance }
 {
+    // A cast, since the language has no conversion into an f32 from a number of more than 16 bits.
     let steps = distance as f32;
     current * sheet.ohms * steps
 }
 
 // The drop of a run between two pins.
-fn drop_between(
-    xs: &[i32; PINS],
-    ys: &[i32; PINS],
-    there: &[bool; PINS],
-    near: usize,
-    far: usize,
-    current: f32,
-    sheet: Sheet,
-) -> f32
-    requires { all_within (spots_from xs.now ys.now there.now) ≡ true }
-    ensures { result ≡ run_drop current sheet.ohms (distance_of_run (spots_from xs.now ys.now there.now) (run near far)) }
+#[tactic(auto, using(crate::proofs::Distances::pins_near))]
+fn drop_between(spots: &[Spot; PINS], run: Run, current: f32, sheet: Sheet) -> f32
+    requires { all_within spots.now ≡ true }
+    ensures { result ≡ run_drop current sheet.ohms (distance_of_run spots.now run) }
 {
-    let from = place_at(xs, ys, there, near);
-    let to = place_at(xs, ys, there, far);
+    let from = place_at(spots, run.near);
+    let to = place_at(spots, run.far);
     run_drop(current, sheet, distance(from, to))
 }
 
 // The drops of the pins, run by run: a pin's drop is its near pin's plus that of the run.
 fn drops_over(
-    xs: &[i32; PINS],
-    ys: &[i32; PINS],
-    there: &[bool; PINS],
-    nears: &[usize; RUNS],
-    fars: &[usize; RUNS],
+    spots: &[Spot; PINS],
+    runs: &[Run],
     currents: &[f32; RUNS],
-    count: usize,
     sheet: Sheet,
 ) -> [f32; PINS]
-    requires { (all_within (spots_from xs.now ys.now there.now) ≡ true) × PinNumbers nears.now fars.now count × (length currents.now ≡ most_runs) }
-    ensures { result ≡ drops_after (spots_from xs.now ys.now there.now) sheet.ohms no_drops (take count (runs_by nears.now fars.now)) (take count currents.now) }
+    requires { (all_within spots.now ≡ true) × PinNumbers runs.now }
+    ensures { result ≡ drops_after spots.now sheet.ohms no_drops runs.now currents.now }
 {
     let mut drops = [0.0f32; PINS];
-    let mut at = 0;
-    while at < count {
-        let near = nears[at];
-        let far = fars[at];
-        let more = drop_between(xs, ys, there, near, far, currents[at], sheet);
-        drops[far] = drops[near] + more;
-        at += 1;
+    for (run, current) in runs.iter().zip(currents) {
+        let more = drop_between(spots, *run, *current, sheet);
+        drops[run.far] = drops[run.near] + more;
     }
     drops
 }
@@ -166,36 +120,35 @@ pub fn refused(verdict: Verdict) -> Lost
     }
 }
 
-// The volts lost to pins that stand on the board: 17 as for wiring, 20 where the sheet or a load of a pin that is there is out of its range.
-pub fn drops_of(
-    xs: &[i32; PINS],
-    ys: &[i32; PINS],
-    there: &[bool; PINS],
-    loads: [Loaded; PINS],
+// The drops of the pins: 17 as for wiring, 20 where the sheet or a load of a pin that is there is out of its range.
+#[tactic(auto, using(crate::proofs::Answering::count_low, crate::proofs::Answering::runs_low))]
+fn lost_volts(
+    spots: &[Spot; PINS],
+    loads: &[Load; PINS],
     sheet: Sheet,
-) -> Lost
-    requires { all_within (spots_from xs.now ys.now there.now) ≡ true }
-    ensures { result ≡ lost_of (spots_from xs.now ys.now there.now) loads sheet }
+) -> Result<[f32; PINS], Refusal>
+    requires { all_within spots.now ≡ true }
+    ensures { result ≡ granted (first_of (drop_rows spots.now loads.now sheet)) (drops_of spots.now loads.now sheet) }
 {
-    let tree = tree::tree_of(xs, ys, there);
-    let verdict = tree.verdict;
-    if !refusal::is_accepted(verdict) {
-        return refused(verdict);
+    let tree = tree::tree_of(spots)?;
+    if !(sheet.fits() && loads::loads_fit(loads, spots)) {
+        return Err(Refusal::OutOfRange);
     }
-    if !loads::sheet_fits(sheet) {
-        return refused(Verdict::OutOfRange);
-    }
-    if !loads::loads_fit(loads, there) {
-        return refused(Verdict::OutOfRange);
-    }
-    let count = tree.count;
-    let runs = tree.runs;
-    let nears = nears_of(runs);
-    let fars = fars_of(runs);
-    let currents = currents_of(&nears, &fars, count, loads, sheet);
-    let drops = drops_over(xs, ys, there, &nears, &fars, &currents, count, sheet);
-    Lost {
-        verdict: Verdict::Accepted,
-        drops,
+    let runs = &tree.runs[..tree.count];
+    let currents = currents_of(runs, loads, sheet);
+    Ok(drops_over(spots, runs, &currents, sheet))
+}
+
+// The volts lost to pins that stand on the board: the drops, all 0 where they are refused.
+pub fn drops_of(spots: &[Spot; PINS], loads: &[Load; PINS], sheet: Sheet) -> Lost
+    requires { all_within spots.now ≡ true }
+    ensures { result ≡ lost_of spots.now loads.now sheet }
+{
+    match lost_volts(spots, loads, sheet) {
+        Ok(drops) => Lost {
+            verdict: Ok(()),
+            drops,
+        },
+        Err(refusal) => refused(Err(refusal)),
     }
 }

@@ -3,28 +3,26 @@
 use mathlib.Core.Path.{◌≡◌, refl, ap, sym, ◌∙◌}
 use mathlib.Core.Bool.{true, false, not}
 use mathlib.Core.List.{List}
-use Prim.Native.Nat.{ℕ, ◌<◌}
+use Prim.Native.Nat.{ℕ, ◌<◌, ◌≤◌}
 use native.Mathlib.Omega.{arith}
 use borrow.Author.Tests.{eq-eqb, ne_eqb, ltb-true, lt-ltb, not-true}
 use lib.Dec.{eqb}
 use lib.ListN.{length, get_or, set, length-set}
 use lib.Seq.{get_or-set_same, set-set, set-get_or}
-use Rattle.basics.specs.Tests.{choose}
-use Rattle.basics.proofs.Tests.{both_left, both_right, both_of, both_if, same_test, choose_yes, choose_no}
+use Rattle.basics.specs.Tests.{both, choose}
+use Rattle.basics.proofs.Tests.{fails_if, both_left, both_right, both_of, both_if, same_test, choose_yes, choose_no}
 use Rattle.basics.proofs.Anyone.{each_at}
 use Rattle.basics.proofs.Numbered.{one_number, one_decides}
 use Rattle.board.specs.declared.Place.{Place}
 use Rattle.board.specs.Place.{inside, same_place}
-use Rattle.board.specs.declared.Spot.{Spot}
-use Rattle.board.specs.declared.Spot.TheVariants as spot
-use Rattle.board.specs.Spots.{most_pins, within, too_near_other, all_within, all_apart, crowded}
+use Rattle.std.specs.Prelude.{None, Some}
+use Rattle.board.specs.Spots.{Spot, most_pins, within, too_near_other, all_within, all_apart, crowded}
 use Rattle.board.proofs.Board.{place_self}
 use Rattle.board.proofs.Rules.{absent_clear, apart_at, within_at}
 use Rattle.drawing.specs.declared.Held.{Held}
-use Rattle.drawing.specs.declared.Pin.{Pin}
 use Rattle.edits.specs.declared.Edit.{Edit}
 use Rattle.edits.specs.declared.Edit.TheVariants.{Placed, Moved, Removed}
-use Rattle.drawing.specs.Pins.{absent, there, is_there, is_net, has_net, same_pin, spot_of, spots_of, lawful, stands_at}
+use Rattle.drawing.specs.Pins.{Pin, absent, there, is_there, is_net, has_net, same_pin, spot_of, spots_of, lawful, stands_at}
 use Rattle.edits.specs.Edits.{moved_pin, pin_made, pin_unmade, made, unmade, found_as, all_found, proper, makeable, takeable}
 use Rattle.edits.specs.Changes.{pin_of, fits, pin_fits, makeable_at, left_by, takeable_at}
 use Rattle.drawing.proofs.Rules.{pin_same, pin_self, pins_self, spots_put, Lawful, lawful_parts, spots_long, lawful-set}
@@ -106,13 +104,24 @@ proper_number (Placed p h) t = ltb-true p most_pins t
 proper_number (Moved p a b) t = ltb-true p most_pins (both_left _ _ t)
 proper_number (Removed p h) t = ltb-true p most_pins t
 
+-- One that names a pin above 31 is none.
+pub improper_number : (e : Edit) → most_pins ≤ pin_of e → proper e ≡ false
+improper_number e h = fails_if (proper e) (λ t. omega (arith, h, proper_number e t))
+
+-- One that names a pin up to 31 and is no move is a proper one.
+pub proper_stays : (e : Edit) → ((p : ℕ) (a b : Place) → e ≡ Moved p a b → ⊥) → pin_of e < most_pins → proper e ≡ true
+unfolding proper
+proper_stays (Placed p h) d n = lt-ltb p most_pins n
+proper_stays (Moved p a b) d n = absurd (d p a b refl)
+proper_stays (Removed p h) d n = lt-ltb p most_pins n
+
 -- ---- pins that keep the rules
 
 -- A pin that was put among others, all of which keep the rules with it, fits among them.
 put_fits : (feed : List Spot) (p : ℕ) (s : Spot) → p < length feed → all_within (set feed p s) ≡ true → all_apart (set feed p s) ≡ true → fits feed p s ≡ true
 unfolding fits too_near_other
 put_fits feed p s k w a =
-    let g = get_or-set_same feed p s spot.Absent k in
+    let g = get_or-set_same feed p s None k in
     both_of (rw g at (within_at (set feed p s) p w)) (ap not (rw (g, set-set) at (apart_at (set feed p s) p a)))
 
 -- With pin p of a drawing changed, the drawing keeps the rules just where that pin fits.
@@ -197,9 +206,14 @@ module _ (l : List Pin) (k : lawful l ≡ true) (e : Edit) where
 -- ---- what the refusals 6 to 9 leave
 
 -- A pin that is absent fits anywhere.
-pub absent-fits : (spots : List Spot) (p : ℕ) → pin_fits spots p absent ≡ true
+pub absent_fits : (spots : List Spot) (p : ℕ) → pin_fits spots p absent ≡ true
 unfolding pin_fits fits has_net spot_of within too_near_other
-absent-fits spots p = both_of refl (both_of refl (ap not (absent_clear (set spots p spot.Absent))))
+absent_fits spots p = both_of refl (both_of refl (ap not (absent_clear (set spots p None))))
+
+-- One that is there fits where it has a net from 1 to 8 and its place fits.
+pub there_fits : (spots : List Spot) (p : ℕ) (h : Held) → pin_fits spots p (there h) ≡ both (is_net h.net) (fits spots p (Some h.place))
+unfolding pin_fits has_net spot_of
+there_fits spots p h = refl
 
 -- A pin that is there has a net from 1 to 8.
 there_net : (l : List Pin) → lawful l ≡ true → (p : ℕ) (h : Held) → get_or l p absent ≡ there h → is_net h.net ≡ true
@@ -232,4 +246,4 @@ module _ (l : List Pin) (k : lawful l ≡ true) (p : ℕ) (n : p < most_pins) wh
     removed_makeable =
         let m = removed_pin {e = Removed p h} (get_or l p absent) refl in
         makeable_at_lem l k (Removed p h)
-        ∙ both_of (lt-ltb p most_pins n) (both_of (m.2 ∙ rw q (pin_self (there h))) (rw m.0 (absent-fits (spots_of l) p)))
+        ∙ both_of (lt-ltb p most_pins n) (both_of (m.2 ∙ rw q (pin_self (there h))) (rw m.0 (absent_fits (spots_of l) p)))

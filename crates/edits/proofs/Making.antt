@@ -11,40 +11,30 @@ use Rattle.basics.proofs.Numbered.{numbered_back}
 use Rattle.board.specs.declared.Place.{Place}
 use Rattle.board.proofs.Board.{place_same}
 use Rattle.drawing.specs.declared.Held.{Held}
-use Rattle.drawing.specs.declared.Stand.{Stand}
-use Rattle.drawing.specs.declared.Stand.TheVariants.{Absent, There}
-use Rattle.drawing.specs.declared.Pin.{Pin}
+use Rattle.std.specs.Prelude.{None, Some}
 use Rattle.edits.specs.declared.Edit.{Edit}
 use Rattle.edits.specs.declared.Edit.TheVariants.{Placed, Moved, Removed}
-use Rattle.drawing.specs.Pins.{absent, there, there_in, is_there, lawful, stands_in, stands_at}
-use Rattle.edits.specs.Edits.{held_at, moved_in, moved_pin, pin_made, pin_unmade, made, unmade, found_as, all_found, proper, makeable, takeable}
+use Rattle.drawing.specs.Pins.{Pin, absent, there, is_there, lawful, stands_at}
+use Rattle.edits.specs.Edits.{held_at, moved_pin, pin_made, pin_unmade, made, unmade, found_as, all_found, proper, makeable, takeable}
 use Rattle.drawing.proofs.Rules.{pin_same, pins_same, pins_self}
 
 -- ---- one pin
 
--- What the test does not find there is absent,
-stand_absent : (s : Stand) → there_in s ≡ false → s ≡ Absent
-stand_absent Absent e = refl
-stand_absent (There h) e = cc
-
--- and so such a pin is the absent one.
+-- A pin that the test does not find there is the absent one.
 pin_absent : (q : Pin) → is_there q ≡ false → q ≡ absent
 unfolding is_there
-pin_absent q e = let p : q.stand ≡ Absent = stand_absent q.stand e in λ i. record { stand = p i }
+pin_absent None e = refl
+pin_absent (Some h) e = cc
 
 -- What a pin holds, moved away and back to its place, is as it was,
 held_back : (h : Held) (a b : Place) → h.place ≡ a → held_at (held_at h b) a ≡ h
 held_back h a b e = λ i. record { place = sym e i; net = h.net; part = h.part }
 
--- so is what stands at it,
-stand_back : (s : Stand) (a b : Place) → stands_in s a ≡ true → moved_in (moved_in s b).stand a ≡ record { stand = s }
-stand_back Absent a b e = cc
-stand_back (There h) a b e = ap there (held_back h a b (place_same h.place a e))
-
--- and the pin.
+-- and so is the pin.
 pin_back : (q : Pin) (a b : Place) → stands_at q a ≡ true → moved_pin (moved_pin q b) a ≡ q
 unfolding stands_at moved_pin
-pin_back q a b e = stand_back q.stand a b e
+pin_back None a b e = cc
+pin_back (Some h) a b e = ap there (held_back h a b (place_same h.place a e))
 
 -- A change of a pin of one number and the change back, by whether it is that pin.
 chosen_back : (t : Bool) (f g : Pin → Pin) (q : Pin) (found : Bool) → choose t found true ≡ true → (found ≡ true → g (f q) ≡ q)

@@ -9,10 +9,9 @@ use Rattle.basics.specs.Lists.{numbered}
 use Rattle.board.specs.Place.{place, limit, on_board, inside, difference, closer, too_near, same_number, same_place}
 use Rattle.board.specs.declared.Place.{Place}
 use Rattle.drawing.specs.declared.Held.{Held}
-use Rattle.drawing.specs.declared.Pin.{Pin}
 use Rattle.edits.specs.declared.Edit.TheVariants.{Placed, Moved, Removed}
 use Rattle.board.specs.Spots.{spots_too_near, crowded, within, too_near_other}
-use Rattle.drawing.specs.Pins.{holding, is_net, has_net, is_there, same_held, same_pin, same_pins, lawful, spot_of, spots_of, no_pins, stands_at}
+use Rattle.drawing.specs.Pins.{Pin, holding, is_net, has_net, is_there, same_held, same_pin, same_pins, lawful, spot_of, spots_of, no_pins, stands_at}
 use Rattle.edits.specs.Edits.{moved_pin, pin_made, pin_unmade, made, unmade, found_as, all_found, proper, makeable, takeable}
 
 -- A pin of a net, with part number 7, at a place.

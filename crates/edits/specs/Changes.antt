@@ -1,12 +1,10 @@
 -- How the code takes an edit on pins that keep the rules as a change of the one pin that it names. No entry point's promise rests on this.
 use Rattle.std.specs.Prelude.{Bool, not, List, ℕ}
 use Rattle.basics.specs.Tests.{both}
-use Rattle.board.specs.declared.Spot.{Spot}
-use Rattle.board.specs.Spots.{within, too_near_other}
-use Rattle.drawing.specs.declared.Pin.{Pin}
+use Rattle.board.specs.Spots.{Spot, within, too_near_other}
 use Rattle.edits.specs.declared.Edit.{Edit}
 use Rattle.edits.specs.declared.Edit.TheVariants.{Placed, Moved, Removed}
-use Rattle.drawing.specs.Pins.{has_net, same_pin, spot_of}
+use Rattle.drawing.specs.Pins.{Pin, has_net, same_pin, spot_of}
 use Rattle.edits.specs.Edits.{pin_made, pin_unmade, found_as, proper}
 
 -- The number of the pin that an edit names.
@@ -14,6 +12,12 @@ abbrev pub pin_of : Edit → ℕ
 pin_of (Placed p h) = p
 pin_of (Moved p a b) = p
 pin_of (Removed p h) = p
+
+-- The edit that takes an edit back: a placing is taken back by removing what was placed, a move by moving back, a removal by placing what was removed.
+abbrev pub reversed : Edit → Edit
+reversed (Placed p h) = Removed p h
+reversed (Moved p a b) = Moved p b a
+reversed (Removed p h) = Placed p h
 
 -- What stands at a pin number fits among the others as pin p: if a pin is there, it is on the board, and no other pin is too near to it.
 unfoldable pub fits : List Spot → ℕ → Spot → Bool

@@ -1,30 +1,23 @@
 -- Edits: what one makes of each pin, what taking it back makes of it, and when one could have been made.
-use Rattle.std.specs.Prelude.{Bool, true, not, List, ℕ, eqb, ltb}
+use Rattle.std.specs.Prelude.{Bool, true, not, List, ℕ, eqb, ltb, None, Some}
 use Rattle.basics.specs.Tests.{both, choose, each_of}
 use Rattle.basics.specs.Lists.{numbered}
 use Rattle.board.specs.declared.Place.{Place}
 use Rattle.board.specs.Place.{same_place}
 use Rattle.board.specs.Spots.{most_pins}
 use Rattle.drawing.specs.declared.Held.{Held}
-use Rattle.drawing.specs.declared.Stand.{Stand}
-use Rattle.drawing.specs.declared.Stand.TheVariants.{Absent, There}
-use Rattle.drawing.specs.declared.Pin.{Pin}
 use Rattle.edits.specs.declared.Edit.{Edit}
 use Rattle.edits.specs.declared.Edit.TheVariants.{Placed, Moved, Removed}
-use Rattle.drawing.specs.Pins.{absent, there, holding, is_there, stands_at, same_pin, same_pins, lawful}
+use Rattle.drawing.specs.Pins.{Pin, absent, there, holding, is_there, stands_at, same_pin, same_pins, lawful}
 
 -- What a pin holds, at another place: a move keeps its net and its part number.
 abbrev pub held_at : Held → Place → Held
 held_at h to = holding to h.net h.part
 
--- What stands at a pin, moved to a place; where it is absent it stays so.
-abbrev pub moved_in : Stand → Place → Pin
-moved_in Absent to = absent
-moved_in (There h) to = there (held_at h to)
-
--- The pin, moved to a place.
+-- The pin, moved to a place; where it is absent it stays so.
 unfoldable pub moved_pin : Pin → Place → Pin
-moved_pin q to = moved_in q.stand to
+moved_pin None to = absent
+moved_pin (Some h) to = there (held_at h to)
 
 -- What pin n holds with an edit made, where it held q.
 unfoldable pub pin_made : Edit → ℕ → Pin → Pin

@@ -17,21 +17,18 @@ pub enum Making {
 }
 
 // The edit that such a call makes on these pins, with what is needed to take it back; the pin that it names is one of the 32.
-pub fn edit_of(pins: [Pin; PINS], making: Making) -> Edit
-    requires { pin_of (edit_of pins making) < most_pins }
-    ensures { result ≡ edit_of pins making }
+pub fn edit_of(pins: &[Pin; PINS], making: Making) -> Edit
+    requires { pin_of (edit_of pins.now making) < most_pins }
+    ensures { result ≡ edit_of pins.now making }
 {
     match making {
         Making::Placing(pin, held) => Edit::Placed(pin as u8, held),
         Making::Moving(pin, to) => {
-            let q = drawing::pin_at(pins, pin);
-            let from = drawing::place_of(q);
+            let from = drawing::place_of(drawing::pin_at(pins, pin));
             Edit::Moved(pin as u8, from, to)
         }
         Making::Removing(pin) => {
-            let q = drawing::pin_at(pins, pin);
-            let h = drawing::held_by(q);
-            Edit::Removed(pin as u8, h)
+            Edit::Removed(pin as u8, drawing::held_by(drawing::pin_at(pins, pin)))
         }
     }
 }

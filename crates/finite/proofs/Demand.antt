@@ -9,8 +9,7 @@ use lib.ListN.{get_or, set, length, length-set, length-replicate}
 use lib.Ieee.{Float, nan}
 use borrow.Author.Tests.{ne_eqb}
 use Rattle.basics.proofs.Tests.{choose_no}
-use Rattle.board.specs.declared.Spot.{Spot}
-use Rattle.board.specs.Spots.{most_pins, all_within}
+use Rattle.board.specs.Spots.{Spot, most_pins, all_within}
 use Rattle.tree.specs.declared.Run.{Run}
 use Rattle.tree.specs.Growth.{pins_of, runs_of}
 use Rattle.tree.specs.Reached.{run_at}
@@ -19,10 +18,10 @@ use Rattle.tree.proofs.Membership.{without_in, pins_once, pins_lowest}
 use Rattle.tree.proofs.Listing.{Listed, done, taking, runs_listed}
 use Rattle.spanning.proofs.Spanning.{far_among, entry_in, none-among, no_runs}
 use Rattle.loads.specs.declared.Sheet.{Sheet}
-use Rattle.loads.specs.declared.Loaded.{Loaded}
+use Rattle.loads.specs.declared.Load.{Load}
 use Rattle.loads.specs.Loads.{nought, sheet_fits, loads_fit, load_at, amps_of}
 use Rattle.drops.specs.Drops.{nears_of, plus_leading_on, currents_of, drops_after, no_drops, drops_of}
-use Rattle.drops.proofs.Answering.{currents_long}
+use Rattle.drops.proofs.Passes.{currents_long}
 use Rattle.finite.specs.Demand.{Flows, VoltsLost}
 use Rattle.finite.proofs.Drops.{drops_finite}
 use Rattle.finite.proofs.Zero.{Parted, parted_first, parted_next, near_not, absent_zero, feed_pin_zero, drop_of_far}
@@ -50,7 +49,7 @@ drops_long feed ohms drops (r ∷ runs) [] = refl
 drops_long feed ohms drops (r ∷ runs) (c ∷ currents) = drops_long feed ohms (set drops r.far _) runs currents ∙ length-set drops r.far _
 
 -- ---- the theorem
-module _ (feed : List Spot) (loads : List Loaded) (sheet : Sheet) (full : length feed ≡ most_pins) (ok : all_within feed ≡ true) where
+module _ (feed : List Spot) (loads : List Load) (sheet : Sheet) (full : length feed ≡ most_pins) (ok : all_within feed ≡ true) where
   -- The amps of a pin.
   abbrev amps : ℕ → Float
   amps pin = amps_of sheet (load_at loads pin)

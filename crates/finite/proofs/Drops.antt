@@ -17,8 +17,7 @@ use Rattle.basics.proofs.Tests.{both_left, both_right}
 use Rattle.refusal.specs.Refusals.{accepted}
 use Rattle.refusal.specs.Rows.{first_of, NoneHolds}
 use Rattle.refusal.proofs.Rows.{distinct, unlike, apart_by, none-holds, none_after}
-use Rattle.board.specs.declared.Spot.{Spot}
-use Rattle.board.specs.Spots.{most_pins, all_within}
+use Rattle.board.specs.Spots.{Spot, most_pins, all_within}
 use Rattle.board.proofs.Flat.{same_or_not}
 use Rattle.tree.specs.declared.Run.{Run}
 use Rattle.tree.specs.Growth.{pins_of, runs_of}
@@ -28,7 +27,7 @@ use Rattle.tree.specs.Trees.{most_runs, tree_rows}
 use Rattle.tree.proofs.Answer.{runs_few}
 use Rattle.spanning.proofs.Spanning.{runs_join}
 use Rattle.loads.specs.declared.Sheet.{Sheet}
-use Rattle.loads.specs.declared.Loaded.{Loaded}
+use Rattle.loads.specs.declared.Load.{Load}
 use Rattle.loads.specs.Loads.{nought, sheet_fits, loads_fit, load_at, amps_of}
 use Rattle.drops.specs.Drops.{currents_of, run_drop, distance_of_run, drops_after, no_drops, drops_of, drop_rows, lost_of}
 use Rattle.finite.specs.Bounds.{AtMost, most_drop}
@@ -109,7 +108,7 @@ low_ends feed full ok r m =
       far = omega (arith, (pin_in feed ((runs_join feed full ok).far_there r m)).0, full);
     }
 
-module _ (feed : List Spot) (loads : List Loaded) (sheet : Sheet) (full : length feed ≡ most_pins) (ok : all_within feed ≡ true) where
+module _ (feed : List Spot) (loads : List Load) (sheet : Sheet) (full : length feed ≡ most_pins) (ok : all_within feed ≡ true) where
   -- DROPS ARE FINITE, and at most so large, where the sheet and the loads of the pins that are there are in their ranges.
   pub drops_finite : sheet_fits sheet ≡ true → loads_fit loads (pins_of feed) ≡ true
       → (pin : ℕ) → pin < most_pins → AtMost (get_or (drops_of feed loads sheet) pin nan) most_drop

@@ -13,7 +13,6 @@ use Rattle.basics.specs.Lists.{Among, first, later}
 use Rattle.loads.specs.declared.Sheet.{Sheet}
 use Rattle.loads.specs.declared.Load.{Load}
 use Rattle.loads.specs.declared.Load.TheVariants.{Amps, Watts, Spare}
-use Rattle.loads.specs.declared.Loaded.{Loaded}
 use Rattle.loads.specs.Loads.{sheet_fits, load_fits, load_at, loads_fit, amps_of}
 use Rattle.finite.specs.Bounds.{AtMost}
 use Rattle.finite.proofs.Rounding.{holds}
@@ -50,6 +49,6 @@ module _ (sheet : Sheet) (fits : sheet_fits sheet ≡ true) where
   amps_most Spare h = zero-le
 
   -- So is that of each of some pins whose loads are.
-  pub load_most : (loads : List Loaded) (pins : List ℕ) → loads_fit loads pins ≡ true → (pin : ℕ) → Among pin pins
+  pub load_most : (loads : List Load) (pins : List ℕ) → loads_fit loads pins ≡ true → (pin : ℕ) → Among pin pins
       → AtMost (amps_of sheet (load_at loads pin)) most_load
   load_most loads pins h pin m = amps_most (load_at loads pin) (each_among (λ (p : ℕ). load_fits (load_at loads p)) m h)

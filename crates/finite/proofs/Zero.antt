@@ -8,8 +8,7 @@ use native.Mathlib.Omega.{arith}
 use lib.ListN.{get_or, set, length, length-set, get_or-replicate}
 use lib.Seq.{get_or-set_same, get_or-set_other}
 use lib.Ieee.{Float, nan, add, binary32}
-use Rattle.board.specs.declared.Spot.{Spot}
-use Rattle.board.specs.Spots.{most_pins, all_within}
+use Rattle.board.specs.Spots.{Spot, most_pins, all_within}
 use Rattle.tree.specs.declared.Run.{Run}
 use Rattle.tree.specs.Growth.{pins_of, without, runs_of}
 use Rattle.basics.specs.Lists.{Among, first, later}
@@ -18,10 +17,10 @@ use Rattle.tree.proofs.Earliest.{Earliest}
 use Rattle.tree.proofs.Listing.{Listed, done, taking, runs_listed, pins_low}
 use Rattle.spanning.proofs.Spanning.{far_among, runs_join, no_runs}
 use Rattle.loads.specs.declared.Sheet.{Sheet}
-use Rattle.loads.specs.declared.Loaded.{Loaded}
+use Rattle.loads.specs.declared.Load.{Load}
 use Rattle.loads.specs.Loads.{nought, load_at, amps_of}
 use Rattle.drops.specs.Drops.{currents_of, run_drop, distance_of_run, drops_after, no_drops, drops_of}
-use Rattle.drops.proofs.Answering.{currents_long}
+use Rattle.drops.proofs.Passes.{currents_long}
 use Rattle.finite.specs.Demand.{AddsUp}
 
 -- A pin to which no run leads keeps its drop.
@@ -80,7 +79,7 @@ module _ (feed : List Spot) (ohms : Float) {key : ℕ → ℕ → ℕ} where
       (λ p m. low p (without_in r.far left m).0) (parted_next r.far apart) k (omega arith)
 
 -- ---- the theorems
-module _ (feed : List Spot) (loads : List Loaded) (sheet : Sheet) (full : length feed ≡ most_pins) (ok : all_within feed ≡ true) where
+module _ (feed : List Spot) (loads : List Load) (sheet : Sheet) (full : length feed ≡ most_pins) (ok : all_within feed ≡ true) where
   -- A pin to which no run of the feed leads has drop 0.
   unreached_zero : (pin : ℕ) → pin < most_pins → ((r : Run) → Among r (runs_of feed) → pin ≡ r.far → ⊥) → get_or (drops_of feed loads sheet) pin nan ≡ nought
   unfolding drops_of

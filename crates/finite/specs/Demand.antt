@@ -2,14 +2,13 @@
 use Rattle.std.specs.Prelude.{◌≡◌, List, ℕ, ◌≤◌, ◌<◌, length, get_or, Float}
 use Rattle.std.specs.Float.{nan, binary32}
 use Rattle.std.specs.Float.Ieee.{add}
-use Rattle.board.specs.declared.Spot.{Spot}
-use Rattle.board.specs.Spots.{most_pins}
+use Rattle.board.specs.Spots.{Spot, most_pins}
 use Rattle.tree.specs.declared.Run.{Run}
 use Rattle.tree.specs.Growth.{pins_of, runs_of}
 use Rattle.tree.specs.Reached.{run_at}
 use Rattle.basics.specs.Lists.{Among}
 use Rattle.loads.specs.declared.Sheet.{Sheet}
-use Rattle.loads.specs.declared.Loaded.{Loaded}
+use Rattle.loads.specs.declared.Load.{Load}
 use Rattle.loads.specs.Loads.{nought, load_at, amps_of}
 use Rattle.drops.specs.Drops.{nears_of, plus_leading_on, run_drop, distance_of_run}
 use Rattle.finite.specs.Bounds.{AtMost, most_drop}
@@ -25,7 +24,7 @@ AddsUp feed ohms drops runs currents k =
     ≡ add binary32 (get_or drops (run_at runs k).near nan) (run_drop (get_or currents k nan) ohms (distance_of_run feed (run_at runs k)))
 
 -- THE VOLTS LOST to the pins of a feed:
-pub record VoltsLost (feed : List Spot) (loads : List Loaded) (sheet : Sheet) (drops : List Float) : Type 0 where
+pub record VoltsLost (feed : List Spot) (loads : List Load) (sheet : Sheet) (drops : List Float) : Type 0 where
   -- there is a drop for each of 32 pin numbers;
   pub drops_many : length drops ≡ most_pins
   -- the lowest-numbered pin is the feed, and its drop is 0;

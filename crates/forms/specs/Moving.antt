@@ -1,16 +1,15 @@
 -- Moving a map over, from the old form to the new, and back, from the new to the old: its rows of refusals, the bytes, and the lent buffer.
-use Rattle.std.specs.Prelude.{not, List, [], ◌∷◌, ◌++◌, ℕ, length, take}
+use Rattle.std.specs.Prelude.{not, List, [], ◌∷◌, ◌++◌, ℕ, length, take, Result}
 use Rattle.basics.specs.Tests.{each_of}
+use Rattle.refusal.specs.declared.Refusal.{Refusal}
+use Rattle.refusal.specs.declared.Refusal.TheVariants.{OtherNetOrPart}
 use Rattle.refusal.specs.Rows.{Row, given}
-use Rattle.refusal.specs.declared.Verdict.TheVariants.{OtherNetOrPart}
-use Rattle.drawing.specs.declared.Pin.{Pin}
-use Rattle.drawing.specs.Pins.{no_pins}
+use Rattle.drawing.specs.Pins.{Pin, no_pins}
 use Rattle.pinmap.specs.declared.Form.{Form}
 use Rattle.pinmap.specs.declared.Form.TheVariants.{Old, New}
-use Rattle.writemap.specs.declared.Writing.{Writing}
 use Rattle.pinmap.specs.Map.{holds}
 use Rattle.readmap.specs.Map.{records_of, with_pins_of, under_rows}
-use Rattle.writemap.specs.Map.{map_of, room_rows, write_by, buffer_by}
+use Rattle.writemap.specs.Map.{map_of, room_rows, write_by, buffer_by, bytes_of}
 
 -- The form of a map that is moved to this one: the other.
 abbrev pub other_than : Form → Form
@@ -39,7 +38,7 @@ abbrev pub map_moved : Form → ℕ → List ℕ → List ℕ
 map_moved to job map = map_of to job (pins_moved to map)
 
 -- Moving a map to a form, into a lent buffer: the answer, and the number of bytes written.
-unfoldable pub moved_of : Form → ℕ → List ℕ → List ℕ → Writing
+unfoldable pub moved_of : Form → ℕ → List ℕ → List ℕ → Result ℕ Refusal
 moved_of to job map buffer = write_by (moving_rows to job map (length buffer)) (map_moved to job map)
 
 -- The lent buffer afterwards: untouched where it is refused, and after the last byte.
@@ -48,4 +47,4 @@ buffer_moved to job map buffer = buffer_by (moving_rows to job map (length buffe
 
 -- The bytes that a moving wrote: so many of the lent buffer.
 abbrev pub bytes_moved : Form → ℕ → List ℕ → List ℕ → List ℕ
-bytes_moved to job map buffer = take (moved_of to job map buffer).bytes (buffer_moved to job map buffer)
+bytes_moved to job map buffer = take (bytes_of (moved_of to job map buffer)) (buffer_moved to job map buffer)

@@ -11,8 +11,8 @@ use lib.Seq.{get_or-set_same, set-set, set-get_or}
 use Rattle.basics.specs.Tests.{choose}
 use Rattle.refusal.specs.Refusals.{accepted}
 use Rattle.refusal.specs.Rows.{first_of}
-use Rattle.refusal.specs.declared.Verdict.TheVariants.{Accepted}
-use Rattle.drawing.specs.declared.Pin.{Pin}
+use Rattle.std.specs.Prelude.{Ok}
+use Rattle.drawing.specs.Pins.{Pin}
 use Rattle.edits.specs.declared.Edit.{Edit}
 use Rattle.edits.specs.Edits.{made, unmade, makeable, takeable}
 use Rattle.edits.proofs.Making.{made-unmade, unmade-made}
@@ -22,24 +22,26 @@ use Rattle.seats.specs.declared.Seat.{Seat}
 use Rattle.desk.specs.declared.Desk.{Desk}
 use Rattle.rows.specs.Calls.{Call, undoing, redoing}
 use Rattle.rows.specs.Refusals.{Look, rows_of}
-use Rattle.rows.proofs.Passed.{Passes, passes}
+use Rattle.rows.proofs.Passed.{Passes}
 use Rattle.desk.specs.Desk.{no_seat, seat_of, edits_of, with_seat, with_pins, sound, look_at, effect, answer_of, step}
 use Rattle.desk.proofs.Sound.{eight_seats, standing_within, standing_takeable, taken_back_replayable, latest_first, next_first}
 use Rattle.history.proofs.Untouched.{accepted_takes_effect}
+use Rattle.history.proofs.Opened.{call_passes}
 use Rattle.history.proofs.Sounding.{sound-step}
 
 -- Undo is accepted where no row applies,
-undo_accepted : (l : Look) (s : ℕ) → l.broken ≡ false → l.seat < most_seats → l.opened ≡ true → (l.standing ≡ 0 → ⊥) → first_of (rows_of l (undoing s)) ≡ Accepted
+undo_accepted : (l : Look) (s : ℕ) → l.broken ≡ false → l.seat < most_seats → l.opened ≡ true → (l.standing ≡ 0 → ⊥) → first_of (rows_of l (undoing s)) ≡ Ok tt
 unfolding first_of choose
 undo_accepted l s a b c n = rw (a, lt-leb most_seats l.seat b, c, ne_eqb _ _ n)
 
 -- and redo.
-redo_accepted : (l : Look) (s : ℕ) → l.broken ≡ false → l.seat < most_seats → l.opened ≡ true → (l.taken_back ≡ 0 → ⊥) → first_of (rows_of l (redoing s)) ≡ Accepted
+redo_accepted : (l : Look) (s : ℕ) → l.broken ≡ false → l.seat < most_seats → l.opened ≡ true → (l.taken_back ≡ 0 → ⊥)
+    → first_of (rows_of l (redoing s)) ≡ Ok tt
 unfolding first_of choose
 redo_accepted l s a b c n = rw (a, lt-leb most_seats l.seat b, c, ne_eqb _ _ n)
 
 -- A step that is accepted.
-step_is : (d : Desk) (c : Call) → answer_of d c ≡ Accepted → step d c ≡ record { desk = effect d c; verdict = Accepted }
+step_is : (d : Desk) (c : Call) → answer_of d c ≡ Ok tt → step d c ≡ record { desk = effect d c; verdict = Ok tt }
 unfolding step accepted choose
 step_is d c e = rw e
 
@@ -51,7 +53,7 @@ seat_back q l n e f = λ i. record { opened = q.opened; job = q.job; pins = e i;
 desk_back : (d : Desk) (s : ℕ) (r q : Seat) → q ≡ seat_of d s → with_seat (with_seat d s r) s q ≡ d
 desk_back d s r q e =
     let p : set (set d.seats s r) s q ≡ d.seats = rw (set-set, e, set-get_or) in
-    λ i. record { seats = p i; journal = d.journal; used = d.used }
+    λ i. record { seats = p i; journal = d.journal }
 
 module _ (d : Desk) (s : ℕ) (h : sound d ≡ true) (k : s < most_seats) (o : (seat_of d s).opened ≡ true) where
   -- The latest standing edit,
@@ -82,26 +84,26 @@ module _ (d : Desk) (s : ℕ) (h : sound d ≡ true) (k : s < most_seats) (o : (
     -- Redo at the changed seat gives the desk before, where making the next edit gives the seat before.
     redo_here : r.opened ≡ true → (length (edits_of d s) - r.standing ≡ 0 → ⊥)
         → with_pins r (made r.pins (get_or (edits_of d s) r.standing no_edit)) (r.standing + 1) ≡ seat_of d s
-        → step (with_seat d s r) (redoing s) ≡ record { desk = d; verdict = Accepted }
+        → step (with_seat d s r) (redoing s) ≡ record { desk = d; verdict = Ok tt }
     unfolding answer_of effect
     redo_here p n e =
         step_is (with_seat d s r) (redoing s)
         (redo_accepted (look_at (with_seat d s r) s) s (ap not g) k (rw here p) (rw here n))
-        ∙ ap (λ (x : Desk). record { desk = x; verdict = Accepted }) (rw here (desk_back d s r _ e))
+        ∙ ap (λ (x : Desk). record { desk = x; verdict = Ok tt }) (rw here (desk_back d s r _ e))
 
     -- So does undo, where taking the latest edit back does.
     undo_here : r.opened ≡ true → (r.standing ≡ 0 → ⊥)
         → with_pins r (unmade r.pins (get_or (edits_of d s) (r.standing - 1) no_edit)) (r.standing - 1) ≡ seat_of d s
-        → step (with_seat d s r) (undoing s) ≡ record { desk = d; verdict = Accepted }
+        → step (with_seat d s r) (undoing s) ≡ record { desk = d; verdict = Ok tt }
     unfolding answer_of effect
     undo_here p n e =
         step_is (with_seat d s r) (undoing s)
         (undo_accepted (look_at (with_seat d s r) s) s (ap not g) k (rw here p) (rw here n))
-        ∙ ap (λ (x : Desk). record { desk = x; verdict = Accepted }) (rw here (desk_back d s r _ e))
+        ∙ ap (λ (x : Desk). record { desk = x; verdict = Ok tt }) (rw here (desk_back d s r _ e))
 
   -- An undo, and the redo after it.
   redo_undone : ((seat_of d s).standing ≡ 0 → ⊥) → sound (effect d (undoing s)) ≡ true
-      → step (effect d (undoing s)) (redoing s) ≡ record { desk = d; verdict = Accepted }
+      → step (effect d (undoing s)) (redoing s) ≡ record { desk = d; verdict = Ok tt }
   unfolding effect
   redo_undone n g =
       let w : (seat_of d s).standing ≤ length (edits_of d s) = standing_within d h s k o in
@@ -110,7 +112,7 @@ module _ (d : Desk) (s : ℕ) (h : sound d ≡ true) (k : s < most_seats) (o : (
 
   -- A redo, and the undo after it.
   undo_redone : (seat_of d s).standing < length (edits_of d s) → sound (effect d (redoing s)) ≡ true
-      → step (effect d (redoing s)) (undoing s) ≡ record { desk = d; verdict = Accepted }
+      → step (effect d (redoing s)) (undoing s) ≡ record { desk = d; verdict = Ok tt }
   unfolding effect
   undo_redone b g =
       let w : (seat_of d s).standing + 1 - 1 ≡ (seat_of d s).standing = omega arith in
@@ -119,20 +121,20 @@ module _ (d : Desk) (s : ℕ) (h : sound d ≡ true) (k : s < most_seats) (o : (
 
 -- After an accepted undo, redo is accepted and gives the very desk before: the same drawing, the same journal.
 pub redo_after_undo : (d : Desk) (s : ℕ) → accepted (step d (undoing s)).verdict ≡ true
-    → step (step d (undoing s)).desk (redoing s) ≡ record { desk = d; verdict = Accepted }
-unfolding step answer_of Passes
+    → step (step d (undoing s)).desk (redoing s) ≡ record { desk = d; verdict = Ok tt }
+unfolding Passes
 redo_after_undo d s z =
-    let m = passes (look_at d s) (undoing s) z in
+    let m = call_passes d (undoing s) z in
     let h : sound d ≡ true = not-false _ m.0.unbroken in
     let e : (step d (undoing s)).desk ≡ effect d (undoing s) = accepted_takes_effect d (undoing s) z in
     rw e (redo_undone d s h m.0.low m.0.shown m.1 (rw e at (sound-step d h (undoing s))))
 
 -- After an accepted redo, undo is accepted and gives the very desk before.
 pub undo_after_redo : (d : Desk) (s : ℕ) → accepted (step d (redoing s)).verdict ≡ true
-    → step (step d (redoing s)).desk (undoing s) ≡ record { desk = d; verdict = Accepted }
-unfolding step answer_of Passes
+    → step (step d (redoing s)).desk (undoing s) ≡ record { desk = d; verdict = Ok tt }
+unfolding Passes
 undo_after_redo d s z =
-    let m = passes (look_at d s) (redoing s) z in
+    let m = call_passes d (redoing s) z in
     let h : sound d ≡ true = not-false _ m.0.unbroken in
     let n : length (edits_of d s) - (seat_of d s).standing ≡ 0 → ⊥ = m.1 in
     let e : (step d (redoing s)).desk ≡ effect d (redoing s) = accepted_takes_effect d (redoing s) z in

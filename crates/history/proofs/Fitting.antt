@@ -1,5 +1,5 @@
--- What fits into bytes stays so: after any calls from the empty desk, each of which states a job of two bytes, a map of bytes and a part number of four, the job of an
--- open seat has two bytes and the part numbers of its pins have four. From the history of the calls; assumes nothing.
+-- What fits into bytes stays so: after any calls from the empty desk, each of which states a job of two bytes, a map of bytes and a part number of four, the
+-- job of an open seat has two bytes and the part numbers of its pins have four. From the history of the calls; assumes nothing.
 use mathlib.Core.Path.{◌≡◌, refl, sym, ◌∙◌}
 use mathlib.Core.Bool.{Bool, true, false, false≢true}
 use mathlib.Core.List.{List, [], ◌∷◌}
@@ -13,17 +13,15 @@ use Rattle.basics.proofs.Lists.{blank_at}
 use Rattle.basics.proofs.Tests.{both_left, both_right, both_of}
 use Rattle.refusal.specs.Refusals.{accepted}
 use Rattle.board.specs.declared.Place.{Place}
-use Rattle.drawing.specs.declared.Pin.{Pin}
-use Rattle.drawing.specs.declared.Stand.{Stand}
-use Rattle.drawing.specs.declared.Stand.TheVariants.{Absent, There}
+use Rattle.drawing.specs.Pins.{Pin, there, absent}
+use Rattle.std.specs.Prelude.{None, Some}
 use Rattle.edits.specs.declared.Edit.{Edit}
 use Rattle.edits.specs.declared.Edit.TheVariants.{Placed, Moved, Removed}
 use Rattle.edits.specs.declared.stated.Making.{Making}
 use Rattle.edits.specs.declared.stated.Making.TheVariants.{Placing, Moving, Removing}
-use Rattle.drawing.specs.Pins.{there, absent}
-use Rattle.edits.specs.Edits.{moved_in, moved_pin, pin_made, made}
+use Rattle.edits.specs.Edits.{moved_pin, pin_made, made}
 use Rattle.edits.specs.Stated.{edit_of}
-use Rattle.pinmap.specs.Map.{part_in, part_fits, parts_fit}
+use Rattle.pinmap.specs.Map.{part_fits, parts_fit}
 use Rattle.roundtrip.proofs.RoundTrip.{read_parts}
 use Rattle.journal.specs.Journal.{most_seats}
 use Rattle.rows.specs.Calls.{Call, seat_in, opening, closing, making, undoing, redoing, asking}
@@ -61,11 +59,8 @@ one-fits false q r f g = g
 -- a moved pin does,
 moved_fits : (q : Pin) (to : Place) → part_fits q ≡ true → part_fits (moved_pin q to) ≡ true
 unfolding part_fits moved_pin
-moved_fits q to f = by q.stand f
-  where
-    by : (t : Stand) → part_in t ≡ true → part_in (moved_in t to).stand ≡ true
-    by Absent f = refl
-    by (There h) f = f
+moved_fits None to f = refl
+moved_fits (Some h) to f = f
 
 -- and so does a pin that such an edit was made on.
 pin_made_fits : (e : Edit) (n : ℕ) (q : Pin) → EditFits e → part_fits q ≡ true → part_fits (pin_made e n q) ≡ true
@@ -144,7 +139,8 @@ set-fits (r ∷ h) (suc s) t f g zero = g zero
 set-fits (r ∷ h) (suc s) t f g (suc u) = set-fits h s t f (λ v. g (suc v)) u
 
 -- where a call changes it, accepted or not,
-either-fits : (b : Bool) (h k : List Past) → ((u : ℕ) → PastFits (past_of h u)) → ((u : ℕ) → PastFits (past_of k u)) → (u : ℕ) → PastFits (past_of (choose b k h) u)
+either-fits : (b : Bool) (h k : List Past) → ((u : ℕ) → PastFits (past_of h u)) → ((u : ℕ) → PastFits (past_of k u)) → (u : ℕ)
+    → PastFits (past_of (choose b k h) u)
 unfolding choose
 either-fits true h k f g = g
 either-fits false h k f g = f

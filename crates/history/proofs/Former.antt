@@ -1,6 +1,6 @@
--- EVERY MAP THAT OPENED STILL OPENS, WITH THE SAME WIRING: the map, in the old form, of pins that kept the former rules opens in that form now at any seat of any
--- desk that can take it, with these pins, all of net 1, and this net is wired as the pins were. Opening any old map gives net 1 and part number 0. From the round trip
--- of maps; assumes nothing.
+-- EVERY MAP THAT OPENED STILL OPENS, WITH THE SAME WIRING: the map, in the old form, of pins that kept the former rules opens in that form now at any seat of
+-- any desk that can take it, with these pins, all of net 1, and this net is wired as the pins were. Opening any old map gives net 1 and part number 0. From
+-- the round trip of maps; assumes nothing.
 use mathlib.Core.Path.{◌≡◌, refl, ap, ◌∙◌}
 use mathlib.Core.Bool.{true, not}
 use mathlib.Core.List.{List, [], ◌∷◌}
@@ -13,20 +13,15 @@ use lib.ListN.{length}
 use lib.Seq.{get_or-set_same}
 use Rattle.basics.specs.Tests.{both, each_of}
 use Rattle.basics.proofs.Tests.{both_left, both_right, both_of, choose_yes}
-use Rattle.refusal.specs.declared.Verdict.TheVariants.{Accepted}
+use Rattle.std.specs.Prelude.{Ok, None, Some}
 use Rattle.refusal.specs.Refusals.{accepted}
 use Rattle.refusal.specs.Rows.{NoneHolds}
 use Rattle.refusal.proofs.Rows.{none-accepted}
-use Rattle.board.specs.declared.Spot.{Spot}
-use Rattle.board.specs.declared.Spot.TheVariants as spot
+use Rattle.board.specs.Spots.{Spot, most_pins, within, all_within, all_apart}
 use Rattle.board.specs.Place.{limit, on_board, inside}
-use Rattle.board.specs.Spots.{most_pins, within, all_within, all_apart}
-use Rattle.drawing.specs.declared.Stand.{Stand}
-use Rattle.drawing.specs.declared.Stand.TheVariants.{Absent, There}
-use Rattle.drawing.specs.declared.Pin.{Pin}
-use Rattle.drawing.specs.Pins.{is_net, net_in, has_net, spots_of, feed_of, lawful}
+use Rattle.drawing.specs.Pins.{Pin, is_net, has_net, spots_of, feed_of, lawful}
 use Rattle.pinmap.specs.declared.Form.TheVariants.{Old}
-use Rattle.pinmap.specs.Map.{plain_in, plain, holds}
+use Rattle.pinmap.specs.Map.{plain, holds}
 use Rattle.writemap.specs.Map.{map_of}
 use Rattle.roundtrip.proofs.Holding.{plain_feed}
 use Rattle.roundtrip.proofs.RoundTrip.{map_opens, read_held}
@@ -52,8 +47,8 @@ number_still (negsuc k) e = both_of (le-leb k (limit - 1) (omega (arith, leb-tru
 -- a pin that stood in it stands on the board,
 spot_still : (s : Spot) → formerly_within s ≡ true → within s ≡ true
 unfolding formerly_within within inside
-spot_still spot.Absent e = refl
-spot_still (spot.At a) e = both_of (number_still a.x (both_left _ _ e)) (number_still a.y (both_right (formerly a.x) _ e))
+spot_still None e = refl
+spot_still (Some a) e = both_of (number_still a.x (both_left _ _ e)) (number_still a.y (both_right (formerly a.x) _ e))
 
 -- and all such pins do.
 spots_still : (l : List Spot) → each_of formerly_within l ≡ true → all_within l ≡ true
@@ -64,16 +59,16 @@ spots_still (s ∷ l) e = both_of (spot_still s (both_left _ _ e)) (spots_still 
 -- ---- pins of net 1 with part number 0
 
 -- Such a pin, which is what the old form can hold, has a net from 1 to 8,
-net_still : (t : Stand) → plain_in t ≡ true → net_in t ≡ true
-unfolding is_net both
-net_still Absent e = refl
-net_still (There h) e = rw (eqb-true h.net 1 (both_left _ _ e))
+net_still : (q : Pin) → plain q ≡ true → has_net q ≡ true
+unfolding is_net both plain has_net
+net_still None e = refl
+net_still (Some h) e = rw (eqb-true h.net 1 (both_left _ _ e))
 
 -- as all of them have,
 nets_still : (l : List Pin) → each_of (holds Old) l ≡ true → each_of has_net l ≡ true
-unfolding each_of has_net plain
+unfolding each_of
 nets_still [] e = refl
-nets_still (q ∷ l) e = both_of (net_still q.stand (both_left _ _ e)) (nets_still l (both_right (plain q) _ e))
+nets_still (q ∷ l) e = both_of (net_still q (both_left _ _ e)) (nets_still l (both_right (plain q) _ e))
 
 -- ---- an old map that opens
 
@@ -112,7 +107,7 @@ former_feed l e = plain_feed l (former_held l e)
 
 module _ (e : Desk) (t job : ℕ) (l : List Pin) (then : formerly_lawful l ≡ true) (n : NoneHolds (taking_at e t job)) where
   -- EVERY MAP THAT OPENED STILL OPENS, in the old form, at any seat of any desk that can take its job (28, 1, 3, 4 and 5 do not apply),
-  pub former_map_opens : step e (opening t job Old (map_of Old job l)) ≡ record { desk = with_seat e t (open_seat job l); verdict = Accepted }
+  pub former_map_opens : step e (opening t job Old (map_of Old job l)) ≡ record { desk = with_seat e t (open_seat job l); verdict = Ok tt }
   former_map_opens = opens_as e t job Old (map_of Old job l) l (map_opens Old job l (still_lawful l then) (former_held l then)) n
 
   -- the seat is open for it,
@@ -125,7 +120,8 @@ module _ (e : Desk) (t job : ℕ) (l : List Pin) (then : formerly_lawful l ≡ t
 
   -- AND ITS WIRING IS THE SAME, accepted or not, whatever the room and the shape to favour: that of net 1 is the wiring of all these pins, in whose definition
   -- no limit and no net stands.
-  pub former_map_wired : (room : ℕ) (favour : Favour) → (wired_of (step e (opening t job Old (map_of Old job l))).desk t 1 room favour).laid ≡ wiring_of (spots_of l) room favour
+  pub former_map_wired : (room : ℕ) (favour : Favour)
+      → (wired_of (step e (opening t job Old (map_of Old job l))).desk t 1 room favour).answer ≡ wiring_of (spots_of l) room favour
   unfolding wired_of NoneHolds accepted is_net both
   former_map_wired room favour =
       let d = (step e (opening t job Old (map_of Old job l))).desk in

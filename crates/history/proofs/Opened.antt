@@ -9,26 +9,27 @@ use borrow.Author.Tests.{not-false, eqb-true, eqb-false}
 use lib.Dec.{eqb}
 use lib.ListN.{length, take, drop, get_or, set}
 use lib.Seq.{get_or-set_same}
+use Rattle.std.specs.Prelude.{is_ok}
 use Rattle.basics.specs.Tests.{both}
 use Rattle.refusal.specs.Refusals.{accepted}
 use Rattle.basics.proofs.Lists.{empty}
-use Rattle.drawing.specs.declared.Pin.{Pin}
+use Rattle.drawing.specs.Pins.{Pin, lawful}
 use Rattle.edits.specs.declared.Edit.{Edit}
 use Rattle.pinmap.specs.declared.Form.{Form}
-use Rattle.readmap.specs.Map.{read_map}
+use Rattle.readmap.specs.Map.{read_map, pins_of}
 use Rattle.journal.specs.Journal.{own, kept}
 use Rattle.journal.proofs.Own.{own-kept}
 use Rattle.journal.proofs.Filled.{take-filled}
 use Rattle.seats.specs.declared.Seat.{Seat}
 use Rattle.desk.specs.declared.Desk.{Desk}
 use Rattle.rows.specs.Calls.{Call, seat_in, opening, closing, making, undoing, redoing, asking}
-use Rattle.rows.proofs.Passed.{Opens, Passes, passes}
+use Rattle.rows.proofs.Passed.{OpenSeat, Opens, Passes, passes}
 use Rattle.desk.specs.Desk.{closed_seat, no_seat, seat_of, in_use, edits_of, standing_of, taken_back_of, open_seat, with_pins, sound, look_at, edited, effect, answer_of, step}
-use Rattle.desk.proofs.Sound.{eight_seats, closed_owns_none}
+use Rattle.desk.proofs.Sound.{eight_seats, closed_owns_none, pins_lawful}
 use Rattle.history.specs.History.{after}
 use Rattle.history.specs.AsPast.{Untouched}
 use Rattle.history.specs.Until.{NoneAt, is_opening, is_closing, is_edit_or_closing}
-use Rattle.history.proofs.Untouched.{other_seats_untouched, accepted_takes_effect, refused_leaves_the_desk, asking_leaves_the_desk}
+use Rattle.history.proofs.Untouched.{other_seats_untouched, accepted_takes_effect, refused_leaves_the_desk, asking_leaves_the_desk, value_accepted}
 
 -- ---- calls that leave a seat as it is
 
@@ -59,10 +60,16 @@ module _ {A : Type 0} (part : Desk → ℕ → A) (a : A) (these : Call → Bool
   stays [] d s p n = p
   stays (c ∷ calls) d s p n = stays calls (step d c).desk s (stays_by d c s (eqb s (seat_in c)) refl p n.0) n.1
 
+-- An accepted call has passed all that its rows ask.
+pub call_passes : (d : Desk) (c : Call) → accepted (step d c).verdict ≡ true → Passes (look_at d (seat_in c)) c
+unfolding step answer_of
+call_passes d c z = passes (look_at d (seat_in c)) c z
+
 -- An open seat is not opened again.
-not_again : {A : Type 0} (d : Desk) (t job : ℕ) (form : Form) (map : List ℕ) → (seat_of d t).opened ≡ true → accepted (step d (opening t job form map)).verdict ≡ true → A
-unfolding step answer_of Passes
-not_again d t job form map o z = absurd (true≢false (sym o ∙ (passes (look_at d t) (opening t job form map) z).shown))
+not_again : {A : Type 0} (d : Desk) (t job : ℕ) (form : Form) (map : List ℕ) → (seat_of d t).opened ≡ true
+    → accepted (step d (opening t job form map)).verdict ≡ true → A
+unfolding Passes
+not_again d t job form map o z = absurd (true≢false (sym o ∙ (call_passes d (opening t job form map) z).shown))
 
 -- ---- open until a closing
 
@@ -117,14 +124,14 @@ module _ (q : Seat) (o : q.opened ≡ true) (none : q.standing ≡ 0) where
   -- No accepted call but an edit or a closing changes it: undo and redo are refused without edits (10 and 11), and opening at an open seat.
   keeps_whole : (d : Desk) (c : Call) → whole d (seat_in c) ≡ (q, []) → accepted (step d c).verdict ≡ true → is_edit_or_closing c ≡ false
       → whole (step d c).desk (seat_in c) ≡ (q, [])
-  unfolding step answer_of Passes
+  unfolding Passes
   keeps_whole d (opening t job form map) p z n = not_again d t job form map (ap (λ (x : Seat × List Edit). x.0.opened) p ∙ o) z
   keeps_whole d (closing t) p z n = absurd (true≢false n)
   keeps_whole d (making t m) p z n = absurd (true≢false n)
-  keeps_whole d (undoing t) p z n = absurd ((passes (look_at d t) (undoing t) z).1 (ap (λ (x : Seat × List Edit). x.0.standing) p ∙ none))
+  keeps_whole d (undoing t) p z n = absurd ((call_passes d (undoing t) z).1 (ap (λ (x : Seat × List Edit). x.0.standing) p ∙ none))
   keeps_whole d (redoing t) p z n =
       let e : length (edits_of d t) ≡ 0 = ap (λ (x : Seat × List Edit). length x.1) p in
-      absurd ((passes (look_at d t) (redoing t) z).1 (omega (arith, e)))
+      absurd ((call_passes d (redoing t) z).1 (omega (arith, e)))
   keeps_whole d (asking t a) p z n = ap (λ (x : Desk). whole x t) (asking_leaves_the_desk d t a) ∙ p
 
 -- A seat that is open, without edits, stays as it is until an accepted edit or closing.
@@ -139,13 +146,13 @@ same_until_edit calls d s o m e n =
 
 -- An accepted call but opening finds its seat open.
 found_open : (d : Desk) (c : Call) → accepted (step d c).verdict ≡ true → is_opening c ≡ false → (seat_of d (seat_in c)).opened ≡ true
-unfolding step answer_of Passes
+unfolding Passes
 found_open d (opening t job form map) z n = absurd (true≢false n)
-found_open d (closing t) z n = (passes (look_at d t) (closing t) z).shown
-found_open d (making t m) z n = (passes (look_at d t) (making t m) z).reaches.shown
-found_open d (undoing t) z n = (passes (look_at d t) (undoing t) z).0.shown
-found_open d (redoing t) z n = (passes (look_at d t) (redoing t) z).0.shown
-found_open d (asking t a) z n = (passes (look_at d t) (asking t a) z).0.shown
+found_open d (closing t) z n = (call_passes d (closing t) z).shown
+found_open d (making t m) z n = (call_passes d (making t m) z).reaches.shown
+found_open d (undoing t) z n = (call_passes d (undoing t) z).0.shown
+found_open d (redoing t) z n = (call_passes d (redoing t) z).0.shown
+found_open d (asking t a) z n = (call_passes d (asking t a) z).0.shown
 
 -- No accepted call but opening opens a closed seat: no other is accepted there.
 keeps_closed : (d : Desk) (c : Call) → (seat_of d (seat_in c)).opened ≡ false → accepted (step d c).verdict ≡ true → is_opening c ≡ false
@@ -158,25 +165,29 @@ pub closed_until_opening : (calls : List Call) (d : Desk) (s : ℕ) → (seat_of
 closed_until_opening calls d s o n =
     stays (λ (x : Desk) (t : ℕ). (seat_of x t).opened) false is_opening (λ x y t u. ap (λ (q : Seat). q.opened) u.seat) keeps_closed calls d s o n
 
+-- The pins of a seat that a call finds open keep the rules.
+pub open_lawful : (d : Desk) (s : ℕ) → OpenSeat (look_at d s) → lawful (seat_of d s).pins ≡ true
+open_lawful d s o = pins_lawful d (not-false _ o.unbroken) s o.low o.shown
+
 -- ---- opening and closing
 
 module _ (d : Desk) (s job : ℕ) (form : Form) (map : List ℕ) (z : accepted (step d (opening s job form map)).verdict ≡ true) where
   -- What the opening has passed.
   opens_here : Opens (look_at d s) job form map
-  unfolding step answer_of Passes
-  opens_here = passes (look_at d s) (opening s job form map) z
+  unfolding Passes
+  opens_here = call_passes d (opening s job form map) z
 
   -- The map of an accepted opening is read.
-  pub opened_map_read : accepted (read_map form map job).verdict ≡ true
-  opened_map_read = opens_here.read
+  pub opened_map_read : is_ok (read_map form map job) ≡ true
+  opened_map_read = sym (value_accepted _) ∙ opens_here.read
 
   -- An accepted opening leaves the seat open, with the job and the map's pins;
-  pub opened_seat : seat_of (step d (opening s job form map)).desk s ≡ open_seat job (read_map form map job).pins
+  pub opened_seat : seat_of (step d (opening s job form map)).desk s ≡ open_seat job (pins_of (read_map form map job))
   unfolding effect
   opened_seat =
       let h : sound d ≡ true = not-false _ opens_here.unbroken in
       let k : s < length d.seats = omega (arith, eight_seats d h, opens_here.low) in
-      here_is d (opening s job form map) z ∙ get_or-set_same d.seats s (open_seat job (read_map form map job).pins) no_seat k
+      here_is d (opening s job form map) z ∙ get_or-set_same d.seats s (open_seat job (pins_of (read_map form map job))) no_seat k
 
   -- it begins a new history: the seat has no edits,
   pub opened_without_edits : edits_of (step d (opening s job form map)).desk s ≡ []
@@ -195,9 +206,9 @@ module _ (d : Desk) (s job : ℕ) (form : Form) (map : List ℕ) (z : accepted (
 -- An accepted closing leaves the seat closed, and frees all of its records.
 pub closed_seat_lem : (d : Desk) (s : ℕ) → accepted (step d (closing s)).verdict ≡ true
     → (seat_of (step d (closing s)).desk s ≡ closed_seat) × (edits_of (step d (closing s)).desk s ≡ [])
-unfolding step answer_of Passes effect
+unfolding Passes effect
 closed_seat_lem d s z =
-    let r = passes (look_at d s) (closing s) z in
+    let r = call_passes d (closing s) z in
     let k : s < length d.seats = omega (arith, eight_seats d (not-false _ r.unbroken), r.low) in (
       here_is d (closing s) z ∙ get_or-set_same d.seats s closed_seat no_seat k,
       ap (λ (x : Desk). edits_of x s) (accepted_takes_effect d (closing s) z) ∙ ap (own s) (take-filled (kept s 0 (in_use d))) ∙ own-kept s 0 (in_use d),

@@ -12,9 +12,8 @@ use Rattle.basics.specs.Tests.{both, either, choose, any_of, no_two}
 use Rattle.refusal.specs.Refusals.{accepted}
 use Rattle.basics.proofs.Lists.{blank_at}
 use Rattle.board.proofs.Flat.{same_or_not}
-use Rattle.drawing.specs.declared.Pin.{Pin}
+use Rattle.drawing.specs.Pins.{Pin, lawful}
 use Rattle.edits.specs.declared.Edit.{Edit}
-use Rattle.drawing.specs.Pins.{lawful}
 use Rattle.edits.specs.Edits.{makeable, made}
 use Rattle.edits.specs.Stated.{edit_of}
 use Rattle.drawing.proofs.Rules.{map-set}
@@ -110,7 +109,12 @@ module _ (h : List Past) (g : Sane h) where
   sane_next : (c : Call) → accepted (answer_in h c) ≡ true → sane (next c (past_of h (seat_in c)))
   unfolding next answer_in Passes sane stood
   sane_next (opening s job form map) z =
-      record { numbered = (passes (look_in h s) (opening s job form map) z).set; start = read_lawful form job map; stands = tt; redoes = turn_nil makeable made _ }
+      record {
+        numbered = (passes (look_in h s) (opening s job form map) z).set;
+        start = read_lawful form job map;
+        stands = tt;
+        redoes = turn_nil makeable made _;
+      }
   sane_next (closing s) z = tt
   sane_next (making s m) z = sane_anew (edit_of (pins_in (past_of h s)) m) (past_of h s) (g.each s) (passes (look_in h s) (making s m) z).fits
   sane_next (undoing s) z = sane_undone (past_of h s) (g.each s)

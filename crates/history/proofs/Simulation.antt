@@ -12,7 +12,7 @@ use Rattle.basics.specs.Sums.{sum}
 use Rattle.basics.specs.Tests.{choose}
 use Rattle.basics.proofs.Tests.{choose_yes, choose_no}
 use Rattle.board.proofs.Flat.{same_or_not}
-use Rattle.drawing.specs.declared.Pin.{Pin}
+use Rattle.drawing.specs.Pins.{Pin}
 use Rattle.edits.specs.declared.Edit.{Edit}
 use Rattle.journal.specs.declared.Record.{Record}
 use Rattle.journal.specs.Journal.{most_seats, most_records, no_edit, own, seated}
@@ -45,8 +45,8 @@ pub record Holds (q : List Seat) (l : List Record) (h : List Past) : Type 0 wher
 
 -- A desk agrees with a history.
 pub record Agrees (d : Desk) (h : List Past) : Type 0 where
-  pub whole : length d.journal ≡ most_records
-  pub room : d.used ≤ most_records
+  pub whole : length d.journal.records ≡ most_records
+  pub room : d.journal.used ≤ most_records
   pub holds : Holds d.seats (in_use d) h
 
 -- ---- what a seat shows
@@ -146,8 +146,9 @@ module _ (q : List Seat) (l m : List Record) (h : List Past) (s : ℕ) (r : Seat
       }
 
 -- As many records are in use as the used count says.
-pub used_in_use : (d : Desk) (h : List Past) → Agrees d h → length (in_use d) ≡ d.used
-used_in_use d h g = let w : d.used ≤ length d.journal = omega (arith, g.whole, g.room) in length-take-le d.used d.journal w
+pub used_in_use : (d : Desk) (h : List Past) → Agrees d h → length (in_use d) ≡ d.journal.used
+used_in_use d h g =
+    let w : d.journal.used ≤ length d.journal.records = omega (arith, g.whole, g.room) in length-take-le d.journal.used d.journal.records w
 
 -- The desk agrees with the history that has this seat changed:
 module _ (d : Desk) (h : List Past) (s : ℕ) (r : Seat) (t : Past) (g : Agrees d h) (k : s < most_seats) where
@@ -184,5 +185,5 @@ module _ (d : Desk) (h : List Past) (g : Agrees d h) where
       ∙ sym (get_or-map job_in h i closed))
 
   -- The used count is the sum, over the seats, of standing and taken-back edits.
-  pub used_same : d.used ≡ used_in h
+  pub used_same : d.journal.used ≡ used_in h
   used_same = sym (used_in_use d h g) ∙ g.holds.sized

@@ -88,14 +88,16 @@ module _ (h : List Past) (g : Sane h) (s : ℕ) (c : Call) where
   here_stands z false e u k = stand_same (ap standing_in (get_or-set_other h (seat_in c) s (next c (past_of h (seat_in c))) closed (eqb-false s (seat_in c) e)))
 
   -- accepted or not,
-  stands_by : (b : Bool) → accepted (answer_in h c) ≡ b → both (eqb s (seat_in c)) (both b (is_undo c)) ≡ false → both (eqb s (seat_in c)) (both b (is_closing c)) ≡ false
+  stands_by : (b : Bool) → accepted (answer_in h c) ≡ b → both (eqb s (seat_in c)) (both b (is_undo c)) ≡ false
+      → both (eqb s (seat_in c)) (both b (is_closing c)) ≡ false
       → StillStand (standing_in (past_of h s)) (standing_in (past_of (choose b (set h (seat_in c) (next c (past_of h (seat_in c)))) h) s))
   unfolding choose both
   stands_by true z u k = here_stands z (eqb s (seat_in c)) refl u k
   stands_by false z u k = stand_same refl
 
   -- one call leaves the edits that stand.
-  call_stands : both (eqb s (seat_in c)) (both (accepted (answer_in h c)) (is_undo c)) ≡ false → both (eqb s (seat_in c)) (both (accepted (answer_in h c)) (is_closing c)) ≡ false
+  call_stands : both (eqb s (seat_in c)) (both (accepted (answer_in h c)) (is_undo c)) ≡ false
+      → both (eqb s (seat_in c)) (both (accepted (answer_in h c)) (is_closing c)) ≡ false
       → StillStand (standing_in (past_of h s)) (standing_in (past_of (past_after h c) s))
   unfolding past_after
   call_stands = stands_by (accepted (answer_in h c)) refl
@@ -130,7 +132,8 @@ module _ (d : Desk) (h : sound d ≡ true) (calls : List Call) (s : ℕ) (u : No
   -- On any sound desk: with no accepted undo and no accepted closing of a seat among the calls, the edits that stood there still stand.
   pub edits_still_stand : StillStand (standing_of d s) (standing_of (after d calls) s)
   edits_still_stand =
-      ⊎_elim (λ (a : most_seats ≤ s). stand_none (standing_of (after d calls) s) (none_above d s h a)) (λ (l : s < most_seats). seat_stands l) (order most_seats s)
+      ⊎_elim (λ (a : most_seats ≤ s). stand_none (standing_of (after d calls) s) (none_above d s h a))
+      (λ (l : s < most_seats). seat_stands l) (order most_seats s)
 
 -- Some calls, then more.
 after_more : (before more : List Call) (d : Desk) → after d (before ++ more) ≡ after (after d before) more
@@ -138,9 +141,10 @@ unfolding after
 after_more [] more d = refl
 after_more (c ∷ before) more d = after_more before more (step d c).desk
 
--- AN ACCEPTED EDIT STANDS UNTIL TAKEN BACK OR ITS DRAWING CLOSES: after any calls from the empty desk and any more, with no accepted undo and no accepted closing
--- of a seat among these, the edits that stood there still stand.
-pub edits_still_stand_after_calls : (before more : List Call) (s : ℕ) → NoneAt is_undo (after empty_desk before) s more → NoneAt is_closing (after empty_desk before) s more
+-- AN ACCEPTED EDIT STANDS UNTIL TAKEN BACK OR ITS DRAWING CLOSES: after any calls from the empty desk and any more, with no accepted undo and no accepted
+-- closing of a seat among these, the edits that stood there still stand.
+pub edits_still_stand_after_calls : (before more : List Call) (s : ℕ) → NoneAt is_undo (after empty_desk before) s more
+    → NoneAt is_closing (after empty_desk before) s more
     → StillStand (standing_of (after empty_desk before) s) (standing_of (after empty_desk (before ++ more)) s)
 edits_still_stand_after_calls before more s u k =
     rw (after_more before more empty_desk) (edits_still_stand (after empty_desk before) (desk_as_past before).unbroken more s u k)

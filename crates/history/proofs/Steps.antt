@@ -14,12 +14,12 @@ use Rattle.refusal.specs.Refusals.{accepted}
 use Rattle.refusal.specs.Rows.{first_of}
 use Rattle.basics.proofs.Tests.{both_of}
 use Rattle.board.proofs.Flat.{order}
-use Rattle.drawing.specs.declared.Pin.{Pin}
+use Rattle.drawing.specs.Pins.{Pin}
 use Rattle.edits.specs.declared.Edit.{Edit}
 use Rattle.edits.specs.Edits.{made, unmade}
 use Rattle.edits.specs.Stated.{edit_of}
 use Rattle.edits.proofs.Making.{unmade-made}
-use Rattle.readmap.specs.Map.{read_map}
+use Rattle.readmap.specs.Map.{read_map, pins_of}
 use Rattle.journal.specs.Journal.{most_seats, most_records, no_edit, kept, added}
 use Rattle.journal.proofs.Own.{own-kept, own_other, own-added, other_added, added-length, kept-length}
 use Rattle.journal.proofs.Seated.{seated-kept, seated-added}
@@ -238,7 +238,8 @@ module _ (d : Desk) (h : List Past) (g : Agrees d h) (f : Sane h) where
         omega (arith, added-length s (seat_of d s).standing e (in_use d), kept-length s (seat_of d s).standing (in_use d), n, c)
 
     -- So after a new edit the desk agrees,
-    agrees_edited : (e : Edit) → is_open (past_of h s) ≡ true → (used_in h - length (taken_back_in (past_of h s)) ≡ most_records → ⊥) → Agrees (edited d s e) (set h s (anew e (past_of h s)))
+    agrees_edited : (e : Edit) → is_open (past_of h s) ≡ true → (used_in h - length (taken_back_in (past_of h s)) ≡ most_records → ⊥)
+        → Agrees (edited d s e) (set h s (anew e (past_of h s)))
     unfolding edited
     agrees_edited e o n =
         let r : used_in h - length (taken_back_in (past_of h s)) < most_records = omega (arith, n, used_same d h g, g.room) in
@@ -270,7 +271,7 @@ module _ (d : Desk) (h : List Past) (g : Agrees d h) (f : Sane h) where
   agrees_next (opening s job form map) z =
       let o = passes (look_in h s) (opening s job form map) z in
       agrees_seat d h s _ _ g o.low (edits_opened (past_of h s) o.shown)
-      (at_opened _ _ (past_of h s) job (read_map form map job).pins (at_seat s o.low) o.shown)
+      (at_opened _ _ (past_of h s) job (pins_of (read_map form map job)) (at_seat s o.low) o.shown)
   agrees_next (closing s) z = agrees_closed s (passes (look_in h s) (closing s) z).low
   agrees_next (making s m) z =
       let p = passes (look_in h s) (making s m) z in

@@ -3,9 +3,8 @@
 use mathlib.Core.Path.{◌≡◌, refl}
 use mathlib.Core.Bool.{true}
 use mathlib.Core.List.{List, [], ◌∷◌}
-use Rattle.drawing.specs.declared.Pin.{Pin}
+use Rattle.drawing.specs.Pins.{Pin, lawful}
 use Rattle.edits.specs.declared.Edit.{Edit}
-use Rattle.drawing.specs.Pins.{lawful}
 use Rattle.edits.specs.Edits.{makeable, made, takeable, unmade}
 use Rattle.edits.proofs.Making.{unmade-made, made-lawful, made-takeable, unmade-makeable, made-unmade, unmade-lawful}
 use Rattle.journal.specs.Journal.{takeable_all}

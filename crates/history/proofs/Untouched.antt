@@ -7,8 +7,12 @@ use Prim.Native.Nat.{ℕ}
 use lib.ListN.{length}
 use lib.Seq.{get_or-set_other}
 use Rattle.basics.specs.Tests.{choose}
+use Rattle.std.specs.Prelude.{Result, Ok, Err, is_ok}
+use Rattle.refusal.specs.declared.Refusal.{Refusal}
 use Rattle.refusal.specs.Refusals.{accepted}
 use Rattle.basics.proofs.Tests.{choose_yes, choose_no, choose-same}
+use Rattle.writemap.specs.Map.{verdict_of}
+use Rattle.writemap.proofs.Written.{verdict_is}
 use Rattle.journal.specs.declared.Record.{Record}
 use Rattle.journal.specs.Journal.{own}
 use Rattle.journal.proofs.Own.{own_other, other_added}
@@ -71,6 +75,14 @@ pub asking_leaves_the_desk : (d : Desk) (s : ℕ) (a : Asking) → (step d (aski
 unfolding step effect
 asking_leaves_the_desk d s a = choose-same (accepted (answer_of d (asking s a))) d
 
+-- ---- what is asked of a desk
+
+-- An answer is a value where its verdict is accepted.
+pub value_accepted : {A : Type 0} (a : Result A Refusal) → accepted (verdict_of a) ≡ is_ok a
+unfolding accepted
+value_accepted (Ok a) = refl
+value_accepted (Err r) = refl
+
 -- The answer of wiring hands back the desk that it was given,
 pub wired_leaves_the_desk : (d : Desk) (s net room : ℕ) (favour : Favour) → (wired_of d s net room favour).desk ≡ d
 unfolding wired_of
@@ -82,28 +94,28 @@ unfolding written_of
 written_leaves_the_desk d s buffer = refl
 
 -- The verdict in the answer of writing is what the call is answered.
-pub written_verdict : (d : Desk) (s : ℕ) (buffer : List ℕ) → (written_of d s buffer).verdict ≡ answer_of d (asking s (writing (length buffer)))
+pub written_verdict : (d : Desk) (s : ℕ) (buffer : List ℕ) → verdict_of (written_of d s buffer).answer ≡ answer_of d (asking s (writing (length buffer)))
 unfolding written_of answer_of
-written_verdict d s buffer = refl
+written_verdict d s buffer = verdict_is _ _
 
--- A refused writing leaves the lent buffer as it was, and writes no bytes.
-pub refused_leaves_the_buffer : (d : Desk) (s : ℕ) (buffer : List ℕ) → accepted (written_of d s buffer).verdict ≡ false
-    → (buffer_of d s buffer ≡ buffer) × ((written_of d s buffer).bytes ≡ 0)
-unfolding written_of buffer_of
-refused_leaves_the_buffer d s buffer e = (choose_no _ _ e, choose_no _ _ e)
+-- A refused writing leaves the lent buffer as it was, and answers the refusal and nothing else: no number of bytes.
+pub refused_leaves_the_buffer : (d : Desk) (s : ℕ) (buffer : List ℕ) (r : Refusal) → answer_of d (asking s (writing (length buffer))) ≡ Err r
+    → (buffer_of d s buffer ≡ buffer) × ((written_of d s buffer).answer ≡ Err r)
+unfolding written_of buffer_of answer_of accepted choose
+refused_leaves_the_buffer d s buffer r e = (rw e refl, rw e refl)
 
--- Where one seat alone changes, or nothing does, the journal and the used count stay as they are.
-seat_alone_lem : (d : Desk) (s : ℕ) (r : Seat) (b : Bool) → ((choose b (with_seat d s r) d).journal ≡ d.journal) × ((choose b (with_seat d s r) d).used ≡ d.used)
+-- Where one seat alone changes, or nothing does, the journal stays as it is.
+seat_alone_lem : (d : Desk) (s : ℕ) (r : Seat) (b : Bool) → (choose b (with_seat d s r) d).journal ≡ d.journal
 unfolding choose
-seat_alone_lem d s r true = (refl, refl)
-seat_alone_lem d s r false = (refl, refl)
+seat_alone_lem d s r true = refl
+seat_alone_lem d s r false = refl
 
--- Undo needs no further record: the journal and the used count stay as they are,
-pub undo_keeps_the_journal : (d : Desk) (s : ℕ) → ((step d (undoing s)).desk.journal ≡ d.journal) × ((step d (undoing s)).desk.used ≡ d.used)
+-- Undo needs no further record: the journal stays as it is, its records and its used count,
+pub undo_keeps_the_journal : (d : Desk) (s : ℕ) → (step d (undoing s)).desk.journal ≡ d.journal
 unfolding step effect
 undo_keeps_the_journal d s = seat_alone_lem d s _ (accepted (answer_of d (undoing s)))
 
 -- and redo needs none.
-pub redo_keeps_the_journal : (d : Desk) (s : ℕ) → ((step d (redoing s)).desk.journal ≡ d.journal) × ((step d (redoing s)).desk.used ≡ d.used)
+pub redo_keeps_the_journal : (d : Desk) (s : ℕ) → (step d (redoing s)).desk.journal ≡ d.journal
 unfolding step effect
 redo_keeps_the_journal d s = seat_alone_lem d s _ (accepted (answer_of d (redoing s)))

@@ -1,7 +1,7 @@
 -- When a desk is as a history says, the history that a sound desk has, and when a seat is the same on two desks.
 use Rattle.std.specs.Prelude.{◌≡◌, true, List, [], ◌∷◌, ◌++◌, ℕ, zero, suc, ◌<◌}
 use Rattle.basics.specs.Tests.{choose}
-use Rattle.drawing.specs.declared.Pin.{Pin}
+use Rattle.drawing.specs.Pins.{Pin}
 use Rattle.edits.specs.declared.Edit.{Edit}
 use Rattle.edits.specs.Edits.{unmade}
 use Rattle.journal.specs.Journal.{most_seats}
@@ -20,7 +20,7 @@ pub record AsPast (d : Desk) (s : ℕ) (t : Past) : Type 0 where
 -- A desk is as a history says: sound, every seat as its past, the used count the sum over the seats of standing and taken-back edits.
 pub record DeskAsPast (d : Desk) (h : List Past) : Type 0 where
   pub unbroken : sound d ≡ true
-  pub used : d.used ≡ used_in h
+  pub used : d.journal.used ≡ used_in h
   pub seat : (s : ℕ) → s < most_seats → AsPast d s (past_of h s)
 
 -- The pins before edits that stand, the latest first.

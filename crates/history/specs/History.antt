@@ -1,15 +1,15 @@
--- The history of calls: what each seat's own calls come to, in demand 3's sentences, with the rows of refusals and 01's used count; and what they make of a desk.
+-- The history of calls: what each seat's own calls come to, in demand 3's sentences, with the rows of refusals and 01's used count; and what they make of a
+-- desk.
 use Rattle.std.specs.Prelude.{Bool, true, false, List, [], ◌∷◌, map, ℕ, ◌+◌, length, replicate, get_or, set}
 use Rattle.basics.specs.Tests.{choose}
 use Rattle.basics.specs.Sums.{sum}
-use Rattle.refusal.specs.Refusals.{accepted}
+use Rattle.refusal.specs.Refusals.{accepted, Verdict}
 use Rattle.refusal.specs.Rows.{first_of}
-use Rattle.refusal.specs.declared.Verdict.{Verdict}
-use Rattle.drawing.specs.declared.Pin.{Pin}
+use Rattle.drawing.specs.Pins.{Pin}
 use Rattle.edits.specs.declared.Edit.{Edit}
 use Rattle.edits.specs.Edits.{made}
 use Rattle.edits.specs.Stated.{edit_of}
-use Rattle.readmap.specs.Map.{read_map}
+use Rattle.readmap.specs.Map.{read_map, pins_of}
 use Rattle.journal.specs.Journal.{most_seats}
 use Rattle.desk.specs.declared.Desk.{Desk}
 use Rattle.rows.specs.Calls.{Call, seat_in, opening, closing, making, undoing, redoing, asking}
@@ -98,7 +98,7 @@ redone (opened job first standing (e ∷ taken_back)) = opened job first (e ∷ 
 
 -- What an accepted call makes of its own seat.
 unfoldable pub next : Call → Past → Past
-next (opening s job form map) t = opened job (read_map form map job).pins [] []
+next (opening s job form map) t = opened job (pins_of (read_map form map job)) [] []
 next (closing s) t = closed
 next (making s m) t = anew (edit_of (pins_in t) m) t
 next (undoing s) t = undone t

@@ -86,3 +86,6 @@ module _ (j : List Record) (i : ℕ) (c : List ℕ) (f : i < length j) (e : c �
   -- A count so far is at most i.
   pub pass_most : (s : ℕ) → s < most_seats → get_or c s 0 ≤ i
   pass_most s h = rw e (omega (arith, count_most (take i j) s h, length-take-le i j (omega arith)))
+
+-- What the pass takes, one record after the other.
+pub ruleset passing = (counts_nil, pass_more, pass_same, pass_most)

@@ -1,11 +1,11 @@
 -- A journal filled up with blank records: its length, its records in use, one record more. From `filled`; assumes nothing.
 use mathlib.Core.Path.{◌≡◌, refl}
 use mathlib.Core.List.{List, [], ◌∷◌, ◌++◌}
-use Prim.Native.Nat.{◌<◌, ◌≤◌}
-use lib.ListN.{length, take, set, replicate}
+use Prim.Native.Nat.{◌+◌, ◌<◌, ◌≤◌}
+use lib.ListN.{length, take, set, replicate, length-append}
 use Rattle.basics.proofs.Lists.{padded_first, padded_long, padded_more}
 use Rattle.journal.specs.declared.Record.{Record}
-use Rattle.journal.specs.Journal.{most_records, blank, filled}
+use Rattle.journal.specs.Journal.{most_records, blank, filled, compacted, empty_journal, appended}
 
 -- The records in use are those that it was filled from.
 pub take-filled : (l : List Record) → take (length l) (filled l) ≡ l
@@ -26,3 +26,13 @@ filled_nil = refl
 pub filled-set : (l : List Record) (r : Record) → length l < most_records → set (filled l) (length l) r ≡ filled (l ++ (r ∷ []))
 unfolding filled
 filled-set l r h = padded_more most_records blank l r h
+
+-- So a journal with these records in use, and one more after them, has that one in use too.
+pub appended-compacted : (l : List Record) (r : Record) → length l < most_records → appended (compacted l) r ≡ compacted (l ++ (r ∷ []))
+appended-compacted l r h =
+    let n : length (l ++ (r ∷ [])) ≡ length l + 1 = length-append l (r ∷ []) in
+    rw (filled-set l r h, n)
+
+-- The journal without records in use has none.
+pub empty_compacted : empty_journal ≡ compacted []
+empty_compacted = rw filled_nil

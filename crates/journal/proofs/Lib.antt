@@ -4,8 +4,7 @@ pub mod Seated
 pub mod Counts
 pub mod Filled
 pub mod Turns
+pub mod Found
 pub mod Cut
-pub mod Passing
 mod Dropping
 mod Worked
-mod Sought

@@ -1,15 +1,14 @@
 -- The journal: the edits of one seat in it, what dropping and appending leave, and when a seat's edits can be redone and taken back.
-use Rattle.std.specs.Prelude.{Bool, true, List, [], ◌∷◌, ◌++◌, ℕ, zero, suc, eqb, ltb, length}
+use Rattle.std.specs.Prelude.{Bool, true, List, [], ◌∷◌, ◌++◌, ℕ, zero, suc, ◌+◌, eqb, ltb, length, replicate, set, take}
 use Rattle.basics.specs.Tests.{both, choose, each_of}
 use Rattle.basics.specs.Lists.{padded, values_from}
 use Rattle.board.specs.Place.{middle}
-use Rattle.drawing.specs.declared.Pin.{Pin}
 use Rattle.edits.specs.declared.Edit.{Edit}
-use Rattle.drawing.specs.Pins.{holding}
+use Rattle.drawing.specs.Pins.{Pin, holding}
 use Rattle.edits.specs.declared.Edit.TheVariants.{Placed}
 use Rattle.edits.specs.Edits.{makeable, made, takeable, unmade}
 use Rattle.journal.specs.declared.Record.{Record}
-use Rattle.journal.specs.declared.Compacted.{Compacted}
+use Rattle.journal.specs.declared.Journal.{Journal}
 
 -- All seats share a journal of 256 records.
 abbrev pub most_records : ℕ
@@ -30,6 +29,10 @@ blank = record { seat = 0; edit = no_edit }
 -- A journal record names its seat and holds an edit.
 abbrev pub recorded : ℕ → Edit → Record
 recorded s e = record { seat = s; edit = e }
+
+-- The records of a journal that are in use: its first ones, as many as it says.
+abbrev pub in_use : Journal → List Record
+in_use j = take j.used j.records
 
 -- The edits of one seat, in the order in which they were made.
 unfoldable pub own : ℕ → List Record → List Edit
@@ -55,8 +58,16 @@ unfoldable pub filled : List Record → List Record
 filled l = padded most_records blank l
 
 -- The journal with these records in use, and their number.
-abbrev pub compacted : List Record → Compacted
-compacted l = record { journal = filled l; used = length l }
+abbrev pub compacted : List Record → Journal
+compacted l = record { records = filled l; used = length l }
+
+-- The journal of which no record is in use: all its records are blank.
+abbrev pub empty_journal : Journal
+empty_journal = record { records = replicate most_records blank; used = 0 }
+
+-- A journal with its latest record after those in use.
+abbrev pub appended : Journal → Record → Journal
+appended j r = record { records = set j.records j.used r; used = j.used + 1 }
 
 -- The seat of a record is one of the desk's.
 abbrev pub of_desk : Record → Bool

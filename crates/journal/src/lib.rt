@@ -1,9 +1,10 @@
 // The journal: the records of all seats, counting and finding a seat's own, dropping and appending.
 #![tactic(auto)]
 
-ghost use Rattle.std.specs.Prelude.{◌≡◌, ◌<◌, ◌≤◌, reverse, get_or, length, set, take};
-ghost use Rattle.journal.specs.Journal.{most_records, no_edit, blank, own, counts_of, kept, compacted, seated};
+ghost use Rattle.std.specs.Prelude.{◌≡◌, ◌<◌, ◌≤◌, reverse, get_or, length};
+ghost use Rattle.journal.specs.Journal.{most_records, no_edit, in_use, own, counts_of, kept, compacted, empty_journal, appended, seated};
 
+use board::MIDDLE;
 use drawing::Held;
 use edits::Edit;
 
@@ -20,143 +21,126 @@ pub struct Record {
     pub edit: Edit,
 }
 
-// A journal with the number of its records in use.
+// The edit of a record that is not in use.
+const NO_EDIT: Edit = Edit::Placed(
+    0,
+    Held {
+        place: MIDDLE,
+        net: 0,
+        part: 0,
+    },
+);
+
+// A record that is not in use.
+const BLANK: Record = Record {
+    seat: 0,
+    edit: NO_EDIT,
+};
+
+// The journal: its records, and how many of them are in use, those that come first.
+// An array with a count beside it and no Vec, since no heap is used; the count may say anything, since a desk may come broken, so no invariant ties the two.
 #[derive(Clone, Copy)]
-pub struct Compacted {
-    pub journal: [Record; RECORDS],
+pub struct Journal {
+    pub records: [Record; RECORDS],
     pub used: usize,
 }
 
-// The edit of a record that is not in use.
-fn no_edit() -> Edit
-    ensures { result ≡ no_edit }
-{
-    let held = Held {
-        place: board::middle(),
-        net: 0,
-        part: 0,
-    };
-    Edit::Placed(0, held)
-}
-
-// A record that is not in use.
-pub fn blank_record() -> Record
-    ensures { result ≡ blank }
-{
-    let e = no_edit();
-    Record { seat: 0, edit: e }
-}
-
-// How many of the first `used` records are the seat's.
-pub fn count_of(journal: [Record; RECORDS], used: usize, seat: usize) -> usize
-    requires { used ≤ most_records }
-    ensures { result ≡ length (own seat (take used journal)) }
-{
-    let mut count = 0;
-    let mut i = 0;
-    while i < used {
-        let seen = journal[i];
-        i += 1;
-        if seen.seat == seat {
-            count += 1;
+impl Journal {
+    // The journal of which no record is in use.
+    pub fn empty() -> Journal
+        ensures { result ≡ empty_journal }
+    {
+        Journal {
+            records: [BLANK; RECORDS],
+            used: 0,
         }
     }
-    count
-}
 
-// How many of the first `used` records each seat owns, in one pass over them.
-pub fn counts_of(journal: [Record; RECORDS], used: usize) -> [usize; SEATS]
-    requires { used ≤ most_records }
-    ensures { result ≡ counts_of (take used journal) }
-{
-    let mut counts = [0; SEATS];
-    let mut i = 0;
-    while i < used {
-        let owned = journal[i];
-        let seat = owned.seat;
-        i += 1;
-        if seat < SEATS {
-            counts[seat] += 1;
-        }
+    // The records in use.
+    pub fn in_use(&self) -> &[Record]
+        requires { self.now.used ≤ most_records }
+        ensures { result.now ≡ in_use self.now }
+    {
+        &self.records[..self.used]
     }
-    counts
-}
 
-// The seat's edit that has `later` of its edits after it: with none, the newest of that seat.
-#[tactic(auto, using(crate::proofs::Sought::sought_here, crate::proofs::Sought::sought_after, crate::proofs::Sought::sought_other))]
-pub fn edit_of(journal: [Record; RECORDS], used: usize, seat: usize, later: usize) -> Edit
-    requires { used ≤ most_records }
-    ensures { result ≡ get_or (reverse (own seat (take used journal))) later no_edit }
-{
-    let mut left = later;
-    let mut i = used;
-    while 0 < i {
-        i -= 1;
-        let sought = journal[i];
-        if sought.seat == seat {
-            if left == 0 {
-                let e = sought.edit;
-                return e;
+    // How many of the records in use are the seat's.
+    pub fn count_of(&self, seat: usize) -> usize
+        requires { self.now.used ≤ most_records }
+        ensures { result ≡ length (own seat (in_use self.now)) }
+    {
+        self.in_use()
+            .iter()
+            .filter(|seen| seen.seat == seat)
+            .count()
+    }
+
+    // How many of the records in use each seat owns, in one pass over them.
+    #[tactic(auto, using(crate::proofs::Counts::passing))]
+    pub fn counts(&self) -> [usize; SEATS]
+        requires { self.now.used ≤ most_records }
+        ensures { result ≡ counts_of (in_use self.now) }
+    {
+        let mut counts = [0; SEATS];
+        for record in self.in_use() {
+            if record.seat < SEATS {
+                counts[record.seat] += 1;
             }
-            left -= 1;
         }
+        counts
     }
-    no_edit()
-}
 
-// The journal without the seat's records beyond its first `keep`: those behind move up, and blank records follow.
-pub fn compact(journal: [Record; RECORDS], used: usize, seat: usize, keep: usize) -> Compacted
-    requires { used ≤ most_records }
-    ensures { result ≡ compacted (kept seat keep (take used journal)) }
-{
-    let b = blank_record();
-    let mut out = [b; RECORDS];
-    let mut written = 0;
-    let mut left = keep;
-    let mut i = 0;
-    while i < used {
-        let entry = journal[i];
-        i += 1;
-        if entry.seat == seat {
-            if 0 < left {
-                left -= 1;
-                out[written] = entry;
-                written += 1;
+    // The seat's edit that has `later` of its edits after it: with none, the newest of that seat.
+    pub fn edit_of(&self, seat: usize, later: usize) -> Edit
+        requires { self.now.used ≤ most_records }
+        ensures { result ≡ get_or (reverse (own seat (in_use self.now))) later no_edit }
+    {
+        self.in_use()
+            .iter()
+            .rev()
+            .filter(|sought| sought.seat == seat)
+            .map(|sought| sought.edit)
+            .nth(later)
+            .unwrap_or(NO_EDIT)
+    }
+
+    // Frees the seat's records beyond its first `keep`: those behind move up, and blank records follow.
+    pub fn compact(&mut self, seat: usize, keep: usize)
+        requires { self.old.used ≤ most_records }
+        ensures { self.new ≡ compacted (kept seat keep (in_use self.old)) }
+    {
+        let mut left = keep;
+        let mut written = 0;
+        for read in 0..self.used {
+            let record = self.records[read];
+            if record.seat == seat {
+                if 0 < left {
+                    left -= 1;
+                } else {
+                    continue;
+                }
             }
-        } else {
-            out[written] = entry;
+            self.records[written] = record;
             written += 1;
         }
+        self.records[written..].fill(BLANK);
+        self.used = written;
     }
-    Compacted {
-        journal: out,
-        used: written,
-    }
-}
 
-// The journal with its latest record after those in use.
-pub fn append(journal: [Record; RECORDS], used: usize, latest: Record) -> [Record; RECORDS]
-    requires { used < most_records }
-    ensures { result ≡ set journal used latest }
-{
-    let mut out = journal;
-    out[used] = latest;
-    out
-}
-
-// Whether the seat of every record in use is one of the desk's.
-pub fn all_seated(journal: [Record; RECORDS], used: usize) -> bool
-    requires { used ≤ most_records }
-    ensures { result ≡ seated (take used journal) }
-{
-    let mut i = 0;
-    while i < used {
-        let r = journal[i];
-        if r.seat < SEATS {
-            i += 1;
-        } else {
-            return false;
-        }
+    // Takes the latest record after those in use.
+    pub fn append(&mut self, latest: Record)
+        requires { self.old.used < most_records }
+        ensures { self.new ≡ appended self.old latest }
+    {
+        self.records[self.used] = latest;
+        self.used += 1;
     }
-    true
+
+    // Whether the seat of every record in use is one of the desk's.
+    pub fn all_seated(&self) -> bool
+        requires { self.now.used ≤ most_records }
+        ensures { result ≡ seated (in_use self.now) }
+    {
+        self.in_use().iter().all(|record| record.seat < SEATS)
+    }
 }

@@ -2,23 +2,26 @@
 use mathlib.Core.Path.{◌≡◌, refl, sym, ap, ap₂, ◌∙◌}
 use mathlib.Core.Bool.{Bool, true, false, not}
 use mathlib.Core.List.{List, [], ◌∷◌, ◌++◌, append_assoc, append-nil}
-use Prim.Native.Nat.{ℕ, suc, ◌+◌, ◌/◌, ◌%◌, ◌≤◌, ◌<◌}
+use Prim.Native.Nat.{ℕ, zero, suc, ◌+◌, ◌/◌, ◌%◌, ◌≤◌, ◌<◌}
 use native.Mathlib.Numerals.{add-one}
 use native.Mathlib.Omega.{arith}
 use lib.Dec.{eqb}
-use lib.ListN.{length, get_or, set, take, replicate, length-append, length-set}
-use lib.Seq.{append_snoc, get_or-set_same, get_or-set_other}
-use borrow.Author.Tests.{eqb-true, eqb-false}
+use lib.ListN.{length, get_or, set, take, drop, replicate, length-append, length-set, drop_of_length-le}
+use lib.Seq.{append_snoc, take_all, get_or-set_same, get_or-set_other}
+use borrow.Author.Tests.{eqb-true, eqb-false, eq-eqb, ne_eqb}
+use denote.Param.Members.{Mut}
+use Rattle.std.specs.Fn.{Called}
+use Rattle.std.specs.Array.{IsFromFnResultFrom, IsFromFnResult}
 use Rattle.basics.specs.Tests.{choose}
 use Rattle.basics.specs.Lists.{padded, values_from}
-use Rattle.basics.proofs.Lists.{blank_at, first_more, padded_more, values_long, value_more}
+use Rattle.basics.proofs.Lists.{blank_at, front, first_more, padded_more, values_long, value_more}
 use Rattle.board.specs.declared.Place.{Place}
-use Rattle.board.specs.declared.Spot.{Spot}
+use Rattle.board.specs.Spots.{Spot}
 use Rattle.tree.specs.declared.Run.{Run}
 use Rattle.board.specs.Spots.{most_pins, place_at}
 use Rattle.least.specs.Asking.{mark_at}
 use Rattle.tree.specs.Trees.{most_runs}
-use Rattle.tree.specs.Reached.{run_at, reached_pin, reached_place}
+use Rattle.tree.specs.Reached.{run_at}
 use Rattle.copper.specs.declared.Shape.{Shape}
 use Rattle.copper.specs.declared.Shape.TheVariants.{Straight, Lower, Upper}
 use Rattle.copper.specs.declared.Leg.{Leg}
@@ -47,9 +50,9 @@ values_next n d f o i x h e g =
 -- The run entries that a mask gives, one after the other.
 module _ (feed : List Spot) (favoured : Bool) (mask : ℕ) (runs : List Run) where
   -- None yet,
-  pub entries_none : {s : RunEntry} → s ≡ no_run → replicate most_runs s ≡ run_entries (values_from (shaped_in feed favoured mask runs) 0 0)
+  pub entries_none : replicate most_runs no_run ≡ run_entries (values_from (shaped_in feed favoured mask runs) 0 0)
   unfolding run_entries values_from
-  entries_none e = ap (replicate most_runs) e
+  entries_none = refl
 
   -- one more,
   pub entries_turn : (entries : List RunEntry) (i : ℕ) (upper : Bool) (x : RunEntry) → i < most_runs
@@ -59,21 +62,28 @@ module _ (feed : List Spot) (favoured : Bool) (mask : ℕ) (runs : List Run) whe
   entries_turn entries i upper x h e u g = values_next most_runs no_run (shaped_in feed favoured mask runs) entries i x h e (rw u at g)
 
   -- and all.
-  pub entries_all : (entries : List RunEntry) (i count : ℕ) → count ≤ i → i ≤ count → entries ≡ run_entries (values_from (shaped_in feed favoured mask runs) 0 i)
-      → entries ≡ entries_in feed favoured mask runs count
+  pub entries_all : (entries : List RunEntry) (i : ℕ) → length runs ≤ i → i ≤ length runs → entries ≡ run_entries (values_from (shaped_in feed favoured mask runs) 0 i)
+      → entries ≡ entries_in feed favoured mask runs
   unfolding entries_in
-  entries_all entries i count h k g = let e : i ≡ count = omega arith in rw (← e) g
+  entries_all entries i h k g = let e : i ≡ length runs = omega arith in rw (← e) g
 
 -- ---- the pins as they are reached
--- The near pin of the first run is reached first,
-pub first_place : (feed : List Spot) (runs : List Run) {p : Place} → p ≡ place_at feed (run_at runs 0).near → p ≡ reached_place feed runs 0
-unfolding reached_pin
-first_place feed runs e = e
+-- A list made by a closure that leaves itself as it was, and makes f of each number.
+module _ {A F : Type 0} {g : Mut F (ℕ × Unit {0}) A} (f : ℕ → A) (h : F) (d : A) (makes : (i : ℕ) (a : A) (q : F) → Called g h (i, tt) a q → (q ≡ h) × (a ≡ f i))
+    (ys : List A) where
+  -- Its entries from i on are the values from i on,
+  made_from : (n i : ℕ) → length ys ≡ i + n → IsFromFnResultFrom g h ys i n → drop i ys ≡ values_from f i n
+  unfolding values_from
+  made_from zero i long m = drop_of_length-le ys {i = i} (omega arith)
+  made_from (suc n) i long m =
+      let e = makes i m.1 m.0 m.3 in
+      front d ys i (omega arith)
+      ∙ ap₂ (λ (a : A) (l : List A). a ∷ l) (m.2.1 d ∙ e.1)
+      (made_from n (i + 1) (omega arith) (rw e.0 at m.4) ∙ ap (λ (j : ℕ). values_from f j n) (add-one i))
 
--- and run r reaches its far pin as number r + 1.
-pub next_place : (feed : List Spot) (runs : List Run) (r : ℕ) {p : Place} → p ≡ place_at feed (run_at runs r).far → p ≡ reached_place feed runs (r + 1)
-unfolding reached_pin
-next_place feed runs r e = rw (add-one r) e
+  -- and all are the values.
+  pub made_values : (n : ℕ) → IsFromFnResult g h ys n → ys ≡ values_from f 0 n
+  made_values n m = made_from n 0 (omega (arith, m.long)) m.each
 
 -- An entry for each pin: the number as which it is reached by the first k runs.
 pub record Told (runs : List Run) (order : List ℕ) (k : ℕ) : Type 0 where
@@ -81,19 +91,19 @@ pub record Told (runs : List Run) (order : List ℕ) (k : ℕ) : Type 0 where
   pub is : (pin : ℕ) → pin < most_pins → get_or order pin 0 ≡ reached_as runs k pin
 
 -- So far in one pass over the runs: the numbers of the near pins of the first k, and of all pins.
-pub record Numbering (runs : List Run) (count : ℕ) (order nears : List ℕ) (k : ℕ) : Type 0 where
-  pub in_range : Numbered runs count
-  pub to : k ≤ count
+pub record Numbering (runs : List Run) (order nears : List ℕ) (k : ℕ) : Type 0 where
+  pub in_range : Numbered runs
+  pub to : k ≤ length runs
   pub told : Told runs order k
   pub are : nears ≡ padded most_runs 0 (values_from (λ r. reached_as runs r (run_at runs r).near) 0 k)
 
-module _ (runs : List Run) (count : ℕ) where
+module _ (runs : List Run) where
   -- No pin is reached yet.
-  pub numbering_none : Numbered runs count → Numbering runs count (replicate most_pins 0) (replicate most_runs 0) 0
+  pub numbering_none : Numbered runs → Numbering runs (replicate most_pins 0) (replicate most_runs 0) 0
   unfolding reached_as values_from
   numbering_none n = record { in_range = n; to = omega arith; told = record { long = refl; is = λ pin h. blank_at {A = ℕ} most_pins pin 0 }; are = refl }
 
-  module _ (order nears : List ℕ) (k : ℕ) (s : Numbering runs count order nears k) (h : k < count) where
+  module _ (order nears : List ℕ) (k : ℕ) (s : Numbering runs order nears k) (h : k < length runs) where
     -- The far pin of the next run has its entry.
     far_entry : (run_at runs k).far < length order
     far_entry = omega (arith, s.told.long, s.in_range.far k h)
@@ -118,7 +128,7 @@ module _ (runs : List Run) (count : ℕ) where
             rw q (get_or-set_other order f pin (suc k) 0 (λ e. eqb-false f pin q (sym e)) ∙ s.told.is pin l)
 
     -- One run more.
-    pub numbering_turn : Numbering runs count (set order (run_at runs k).far (k + 1)) (set nears k (get_or order (run_at runs k).near 0)) (k + 1)
+    pub numbering_turn : Numbering runs (set order (run_at runs k).far (k + 1)) (set nears k (get_or order (run_at runs k).near 0)) (k + 1)
     numbering_turn =
         record {
           in_range = s.in_range;
@@ -129,20 +139,20 @@ module _ (runs : List Run) (count : ℕ) where
         }
 
   -- All runs.
-  pub numbering_all : (order nears : List ℕ) (k : ℕ) → Numbering runs count order nears k → count ≤ k → nears ≡ nears_of runs count
+  pub numbering_all : (order nears : List ℕ) (k : ℕ) → Numbering runs order nears k → length runs ≤ k → nears ≡ nears_of runs
   unfolding nears_of
-  numbering_all order nears k s h = let e : k ≡ count = omega (arith, s.to) in rw (← e) s.are
+  numbering_all order nears k s h = let e : k ≡ length runs = omega (arith, s.to) in rw (← e) s.are
 
 -- ---- the small functions
 -- A run that is marked has the other shape ..
-pub upper_marked : (favoured : Bool) (mask r : ℕ) → eqb (mask / mark_at r % 2) 1 ≡ true → not favoured ≡ upper_in favoured mask r
+pub upper_marked : (favoured : Bool) (mask r : ℕ) → mask / mark_at r % 2 ≡ 1 → not favoured ≡ upper_in favoured mask r
 unfolding upper_in
-upper_marked favoured mask r e = rw e
+upper_marked favoured mask r e = rw (eq-eqb (mask / mark_at r % 2) 1 e)
 
 -- .. and one that is not the favoured.
-pub upper_unmarked : (favoured : Bool) (mask r : ℕ) → eqb (mask / mark_at r % 2) 1 ≡ false → favoured ≡ upper_in favoured mask r
+pub upper_unmarked : (favoured : Bool) (mask r : ℕ) → (mask / mark_at r % 2 ≡ 1 → ⊥) → favoured ≡ upper_in favoured mask r
 unfolding upper_in
-upper_unmarked favoured mask r e = rw e
+upper_unmarked favoured mask r e = rw (ne_eqb (mask / mark_at r % 2) 1 e)
 
 -- A straight run puts one leg after those that are there.
 one_more : (old : List Leg) (shape : Shape) (near far : Place) (n : ℕ) → n ≡ leg_count shape → (n ≡ 2 → ⊥) → length old < most_legs
@@ -200,24 +210,19 @@ legs_join feed (y ∷ l) x =
     ap (λ (z : List Leg). legs_of_entry feed y ++ z) (legs_join feed l x)
     ∙ sym (append_assoc (legs_of_entry feed y) (legs_of_entries feed l) (legs_of_entry feed x))
 
--- No legs are put yet.
-pub blanks : {l : Leg} → l ≡ no_leg → replicate most_legs l ≡ leg_entries []
-unfolding leg_entries
-blanks e = ap (replicate most_legs) e
-
 -- The legs of the first i entries are put.
 pub record Put (feed : List Spot) (entries : List RunEntry) (legs : List Leg) (filled i : ℕ) : Type 0 where
   pub many : filled ≡ length (legs_of_entries feed (take i entries))
   pub few : filled ≤ i + i
   pub are : legs ≡ leg_entries (legs_of_entries feed (take i entries))
 
-module _ (feed : List Spot) (entries : List RunEntry) (long : length entries ≡ most_runs) where
+module _ (feed : List Spot) (entries : List RunEntry) (short : length entries ≤ most_runs) where
   -- None yet.
-  pub put_none : (legs : List Leg) → legs ≡ leg_entries [] → Put feed entries legs 0 0
-  unfolding legs_of_entries
-  put_none legs e = record { many = refl; few = omega arith; are = e }
+  pub put_none : Put feed entries (replicate most_legs no_leg) 0 0
+  unfolding legs_of_entries leg_entries
+  put_none = record { many = refl; few = omega arith; are = refl }
 
-  module _ (legs : List Leg) (filled i n : ℕ) (within : i < most_runs) (p : Put feed entries legs filled i) (near far : Place) (a : Leg) where
+  module _ (legs : List Leg) (filled i n : ℕ) (within : i < length entries) (p : Put feed entries legs filled i) (near far : Place) (a : Leg) where
     abbrev x : RunEntry
     x = get_or entries i no_run
 
@@ -254,7 +259,7 @@ module _ (feed : List Spot) (entries : List RunEntry) (long : length entries ≡
         (rw (p.are, p.many, ea, eb, ← en, ← ef) (two_more old x.shape near far n c h (omega (arith, p.many, p.few))))
 
   -- All of them, with their number.
-  pub put_all : (legs : List Leg) (filled i count : ℕ) → count ≤ i → i ≤ count → Put feed entries legs filled i
-      → record { count = filled; list = legs } ≡ strip (legs_of_entries feed (take count entries))
+  pub put_all : (legs : List Leg) (filled i : ℕ) → length entries ≤ i → Put feed entries legs filled i
+      → record { count = filled; list = legs } ≡ strip (legs_of_entries feed entries)
   unfolding strip
-  put_all legs filled i count h k p = let e : i ≡ count = omega arith in rw (← e, p.are, p.many)
+  put_all legs filled i h p = let e : take i entries ≡ entries = take_all i entries h in rw (p.are, p.many, e)

@@ -2,7 +2,7 @@
 use Rattle.std.specs.Prelude.{List, ℕ, ◌*◌}
 use Rattle.basics.specs.Lists.{padded}
 use Rattle.board.specs.declared.Place.{Place}
-use Rattle.board.specs.declared.Spot.{Spot}
+use Rattle.board.specs.Spots.{Spot}
 use Rattle.board.specs.Place.{middle}
 use Rattle.board.specs.Spots.{place_at}
 use Rattle.tree.specs.declared.Run.{Run}

@@ -1,10 +1,10 @@
 -- How the best shapes are found: the pins as they are reached, and the shapes that a mask holds. No entry point's promise rests on these.
-use Rattle.std.specs.Prelude.{Bool, List, [], ◌∷◌, ◌++◌, ℕ, zero, suc, ◌/◌, ◌%◌, ◌≤◌, ◌<◌, ℤ, eqb, length}
+use Rattle.std.specs.Prelude.{Bool, List, [], ◌∷◌, ◌++◌, ℕ, zero, suc, ◌/◌, ◌%◌, ◌≤◌, ◌<◌, eqb, length}
 use Rattle.basics.specs.Tests.{choose}
 use Rattle.basics.specs.Lists.{padded, values_from}
-use Rattle.board.specs.declared.Spot.{Spot}
+use Rattle.board.specs.declared.Place.{Place}
 use Rattle.tree.specs.declared.Run.{Run}
-use Rattle.board.specs.Spots.{most_pins, place_at}
+use Rattle.board.specs.Spots.{Spot, most_pins, place_at}
 use Rattle.tree.specs.Reached.{run_at, reached_place}
 use Rattle.tree.specs.Trees.{most_runs}
 use Rattle.copper.specs.declared.Shape.{Shape}
@@ -15,28 +15,24 @@ use Rattle.laying.specs.declared.RunEntry.{RunEntry}
 use Rattle.laying.specs.declared.Strip.{Strip}
 use Rattle.laying.specs.Entries.{near_end, far_end, run_entry, run_entries, leg_entries}
 
--- The x of the pins, as they are reached.
-unfoldable pub xs_of : List Spot → List Run → List ℤ
-xs_of feed runs = values_from (λ i. (reached_place feed runs i).x) 0 most_pins
-
--- Their y.
-unfoldable pub ys_of : List Spot → List Run → List ℤ
-ys_of feed runs = values_from (λ i. (reached_place feed runs i).y) 0 most_pins
+-- Where the pins stand, as they are reached.
+unfoldable pub places_of : List Spot → List Run → List Place
+places_of feed runs = values_from (reached_place feed runs) 0 most_pins
 
 -- The number as which a pin is reached by the first k runs: that of the last of them that reaches it; 0 where none does.
 unfoldable pub reached_as : List Run → ℕ → ℕ → ℕ
 reached_as runs zero pin = 0
 reached_as runs (suc k) pin = choose (eqb (run_at runs k).far pin) (suc k) (reached_as runs k pin)
 
--- The numbers as which the near pins of the first runs are reached, each by the runs before its own; 0 after these.
-unfoldable pub nears_of : List Run → ℕ → List ℕ
-nears_of runs count = padded most_runs 0 (values_from (λ r. reached_as runs r (run_at runs r).near) 0 count)
+-- The numbers as which the near pins of the runs are reached, each by the runs before its own; 0 after these.
+unfoldable pub nears_of : List Run → List ℕ
+nears_of runs = padded most_runs 0 (values_from (λ r. reached_as runs r (run_at runs r).near) 0 (length runs))
 
 -- At most 31 runs between pins from 0 to 31.
-pub record Numbered (runs : List Run) (count : ℕ) : Type 0 where
-  pub few : count ≤ most_runs
-  pub near : (r : ℕ) → r < count → (run_at runs r).near < most_pins
-  pub far : (r : ℕ) → r < count → (run_at runs r).far < most_pins
+pub record Numbered (runs : List Run) : Type 0 where
+  pub few : length runs ≤ most_runs
+  pub near : (r : ℕ) → r < length runs → (run_at runs r).near < most_pins
+  pub far : (r : ℕ) → r < length runs → (run_at runs r).far < most_pins
 
 -- The shape of run r in a mask is the other than the favoured where its mark is there.
 unfoldable pub upper_in : Bool → ℕ → ℕ → Bool
@@ -51,8 +47,8 @@ unfoldable pub shaped_in : List Spot → Bool → ℕ → List Run → ℕ → R
 shaped_in feed favoured mask runs r = shaped_run feed (run_at runs r) (upper_in favoured mask r)
 
 -- The run entries that a mask gives.
-unfoldable pub entries_in : List Spot → Bool → ℕ → List Run → ℕ → List RunEntry
-entries_in feed favoured mask runs count = run_entries (values_from (shaped_in feed favoured mask runs) 0 count)
+unfoldable pub entries_in : List Spot → Bool → ℕ → List Run → List RunEntry
+entries_in feed favoured mask runs = run_entries (values_from (shaped_in feed favoured mask runs) 0 (length runs))
 
 -- The legs of a run entry.
 unfoldable pub legs_of_entry : List Spot → RunEntry → List Leg

@@ -1,16 +1,17 @@
 // Laying runs in copper: what the best shapes of the runs cost, the run entries that a mask of shapes gives, and the legs of these.
 #![tactic(auto)]
 
-ghost use Rattle.std.specs.Prelude.{◌≡◌, ◌≤◌, ◌<◌, take};
-ghost use Rattle.board.specs.Spots.{place_in, spots_from};
+ghost use Rattle.std.specs.Prelude.{◌≡◌, ◌≤◌, ◌<◌, length};
+ghost use Rattle.board.specs.Spots.{place_in};
 ghost use Rattle.tree.specs.Trees.{most_runs};
+ghost use Rattle.tree.specs.Reached.{reached_pin};
 ghost use Rattle.least.specs.Asking.{near_pin, least_of_tree, Grown};
-ghost use Rattle.laying.specs.Entries.{no_run, no_leg};
-ghost use Rattle.laying.specs.Reaching.{xs_of, ys_of, nears_of, Numbered, upper_in, shaped_run, entries_in, legs_of_entries, strip};
+ghost use Rattle.laying.specs.Reaching.{places_of, nears_of, Numbered, upper_in, shaped_run, entries_in, legs_of_entries, strip};
 
-use board::{PINS, spots};
+use board::{MIDDLE, PINS, Place, Spot, spots};
 use copper::{Leg, Shape};
-use least::Least;
+use least::{Least, Reached};
+use std::array;
 use tree::{RUNS, Run};
 
 // The most legs that a board has: 31 runs of two legs each.
@@ -24,7 +25,7 @@ pub struct RunEntry {
     pub shape: Shape,
 }
 
-// A list of legs, with their number.
+// A list of legs, with their number. The number stands beside the list: memory is fixed, and there is no heap.
 #[derive(Clone, Copy)]
 pub struct Strip {
     pub count: usize,
@@ -32,81 +33,66 @@ pub struct Strip {
 }
 
 // A run entry after the last.
-pub fn no_run() -> RunEntry
-    ensures { result ≡ no_run }
-{
-    RunEntry {
-        near: 0,
-        far: 0,
-        shape: Shape::Straight,
-    }
-}
+pub const NO_RUN: RunEntry = RunEntry {
+    near: 0,
+    far: 0,
+    shape: Shape::Straight,
+};
 
 // A leg that is not filled.
-pub fn no_leg() -> Leg
-    ensures { result ≡ no_leg }
-{
-    let middle = board::middle();
-    Leg {
-        from: middle,
-        to: middle,
-    }
-}
+pub const NO_LEG: Leg = Leg {
+    from: MIDDLE,
+    to: MIDDLE,
+};
 
 // The numbers as which the near pins of the runs are reached: each by the runs before its own.
-fn nears_of(runs: [Run; RUNS], count: usize) -> [usize; RUNS]
-    requires { Numbered runs count }
-    ensures { result ≡ nears_of runs count }
+fn nears_of(runs: &[Run]) -> [usize; RUNS]
+    requires { Numbered runs.now }
+    ensures { result ≡ nears_of runs.now }
 {
-    let mut order = [0usize; PINS];
-    let mut nears = [0usize; RUNS];
-    let mut at = 0;
-    while at < count {
-        let run = runs[at];
-        let near = run.near;
-        let far = run.far;
-        nears[at] = order[near];
-        at += 1;
-        order[far] = at;
+    let mut order = [0; PINS];
+    let mut nears = [0; RUNS];
+    for (at, run) in runs.iter().enumerate() {
+        nears[at] = order[run.near];
+        order[run.far] = at + 1;
     }
     nears
 }
 
-// What the best shapes of the runs cost, and the choices weighed: least costs are asked of the pins in the order in which they are reached.
-pub fn best_cost(
-    xs: &[i32; PINS],
-    ys: &[i32; PINS],
-    there: &[bool; PINS],
-    runs: [Run; RUNS],
-    count: usize,
-    favoured: bool,
-) -> Least
-    requires { (Numbered runs count) × (Grown (xs_of (spots_from xs.now ys.now there.now) runs) (ys_of (spots_from xs.now ys.now there.now) runs) (nears_of runs count) count) }
-    ensures { result ≡ least_of_tree (place_in (xs_of (spots_from xs.now ys.now there.now) runs) (ys_of (spots_from xs.now ys.now there.now) runs)) (near_pin (nears_of runs count)) favoured count }
+// The pin that is reached as this number: the near pin of the first run, then the far pins in run order; 0 where there is none.
+#[tactic(auto, unfolding(tree::specs::Reached::reached_pin))]
+fn reached_pin(runs: &[Run], number: usize) -> usize
+    ensures { result ≡ reached_pin runs.now number }
 {
-    let mut across = [0i32; PINS];
-    let mut up = [0i32; PINS];
-    let first = runs[0];
-    let start = spots::place_at(xs, ys, there, first.near);
-    let x = start.x;
-    let y = start.y;
-    across[0] = x;
-    up[0] = y;
-    let mut at = 0;
-    while at < RUNS {
-        let run = runs[at];
-        let place = spots::place_at(xs, ys, there, run.far);
-        let x = place.x;
-        let y = place.y;
-        at += 1;
-        across[at] = x;
-        up[at] = y;
+    if number == 0 {
+        runs.first().map_or(0, |run| run.near)
+    } else {
+        runs.get(number - 1).map_or(0, |run| run.far)
     }
-    let nears = nears_of(runs, count);
-    least::least_cost(&across, &up, &nears, count, favoured)
+}
+
+// Where the pins stand, as they are reached.
+fn places_of(spots: &[Spot; PINS], runs: &[Run]) -> [Place; PINS]
+    ensures { result ≡ places_of spots.now runs.now }
+{
+    array::from_fn(|number| spots::place_at(spots, reached_pin(runs, number)))
+}
+
+// What the best shapes of the runs cost, and the choices weighed: least costs are asked of the pins in the order in which they are reached.
+pub fn best_cost(spots: &[Spot; PINS], runs: &[Run], favoured: bool) -> Least
+    requires { (Numbered runs.now) × (Grown (places_of spots.now runs.now) (nears_of runs.now) (length runs.now)) }
+    ensures { result ≡ least_of_tree (place_in (places_of spots.now runs.now)) (near_pin (nears_of runs.now)) favoured (length runs.now) }
+{
+    let reached = Reached {
+        places: places_of(spots, runs),
+        near: nears_of(runs),
+        count: runs.len(),
+    };
+    reached.least_cost(favoured)
 }
 
 // How a mask bends a run if it does.
+#[tactic(auto, using(crate::proofs::Filling::upper_marked, crate::proofs::Filling::upper_unmarked))]
 fn upper_in(favoured: bool, mask: u64, run: usize) -> bool
     requires { run < most_runs }
     ensures { result ≡ upper_in favoured mask run }
@@ -116,80 +102,47 @@ fn upper_in(favoured: bool, mask: u64, run: usize) -> bool
 }
 
 // A run with its shape, where `upper` says how it bends if it does.
-fn shaped(
-    xs: &[i32; PINS],
-    ys: &[i32; PINS],
-    there: &[bool; PINS],
-    run: Run,
-    upper: bool,
-) -> RunEntry
-    ensures { result ≡ shaped_run (spots_from xs.now ys.now there.now) run upper }
+#[tactic(auto, unfolding(crate::specs::Reaching::shaped_run))]
+fn shaped(spots: &[Spot; PINS], run: Run, upper: bool) -> RunEntry
+    ensures { result ≡ shaped_run spots.now run upper }
 {
-    let near = spots::place_at(xs, ys, there, run.near);
-    let far = spots::place_at(xs, ys, there, run.far);
-    let shape = copper::shape_of(upper, near, far);
+    let near = spots::place_at(spots, run.near);
+    let far = spots::place_at(spots, run.far);
     RunEntry {
         near: run.near,
         far: run.far,
-        shape,
+        shape: Shape::between(upper, near, far),
     }
 }
 
 // The run entries that a mask gives.
-pub fn entries_in(
-    xs: &[i32; PINS],
-    ys: &[i32; PINS],
-    there: &[bool; PINS],
-    favoured: bool,
-    mask: u64,
-    runs: [Run; RUNS],
-    count: usize,
-) -> [RunEntry; RUNS]
-    requires { count ≤ most_runs }
-    ensures { result ≡ entries_in (spots_from xs.now ys.now there.now) favoured mask runs count }
+pub fn entries_in(spots: &[Spot; PINS], favoured: bool, mask: u64, runs: &[Run]) -> [RunEntry; RUNS]
+    requires { length runs.now ≤ most_runs }
+    ensures { result ≡ entries_in spots.now favoured mask runs.now }
 {
-    let blank = no_run();
-    let mut entries = [blank; RUNS];
-    let mut at = 0;
-    while at < count {
-        let run = runs[at];
-        let upper = upper_in(favoured, mask, at);
-        entries[at] = shaped(xs, ys, there, run, upper);
-        at += 1;
+    let mut entries = [NO_RUN; RUNS];
+    for (at, run) in runs.iter().enumerate() {
+        entries[at] = shaped(spots, *run, upper_in(favoured, mask, at));
     }
     entries
 }
 
-// The legs of the first run entries, with their number.
-pub fn legs_of(
-    xs: &[i32; PINS],
-    ys: &[i32; PINS],
-    there: &[bool; PINS],
-    entries: [RunEntry; RUNS],
-    count: usize,
-) -> Strip
-    requires { count ≤ most_runs }
-    ensures { result ≡ strip (legs_of_entries (spots_from xs.now ys.now there.now) (take count entries)) }
+// The legs of some run entries, with their number. The place of the next leg is counted by hand: a run has one leg or two.
+pub fn legs_of(spots: &[Spot; PINS], entries: &[RunEntry]) -> Strip
+    requires { length entries.now ≤ most_runs }
+    ensures { result ≡ strip (legs_of_entries spots.now entries.now) }
 {
-    let none = no_leg();
-    let mut legs = [none; LEGS];
-    let mut filled = 0;
-    let mut at = 0;
-    while at < count {
-        let entry = entries[at];
-        let shape = entry.shape;
-        let near = spots::place_at(xs, ys, there, entry.near);
-        let far = spots::place_at(xs, ys, there, entry.far);
-        let more = copper::leg_count(shape);
-        legs[filled] = copper::first_leg(shape, near, far);
+    let mut list = [NO_LEG; LEGS];
+    let mut count = 0;
+    for entry in entries {
+        let near = spots::place_at(spots, entry.near);
+        let far = spots::place_at(spots, entry.far);
+        let more = entry.shape.leg_count();
+        list[count] = entry.shape.first_leg(near, far);
         if more == 2 {
-            legs[filled + 1] = copper::second_leg(shape, near, far);
+            list[count + 1] = entry.shape.second_leg(near, far);
         }
-        filled += more;
-        at += 1;
+        count += more;
     }
-    Strip {
-        count: filled,
-        list: legs,
-    }
+    Strip { count, list }
 }

@@ -11,7 +11,7 @@ use lib.ListN.{length}
 use borrow.Author.Tests.{eq-eqb}
 use Rattle.basics.proofs.Tests.{both_of}
 use Rattle.board.specs.declared.Place.{Place}
-use Rattle.board.specs.declared.Spot.{Spot}
+use Rattle.board.specs.Spots.{Spot}
 use Rattle.board.specs.Place.{same_number, same_place}
 use Rattle.board.proofs.Signed.{off, I32}
 use Rattle.board.proofs.Flat.{Site, span, site, PlaceI32}

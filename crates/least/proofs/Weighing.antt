@@ -5,16 +5,16 @@ use mathlib.Core.Bool.{Bool, true, false, not}
 use mathlib.Core.List.{List}
 use Prim.Native.Nat.{ℕ, ◌+◌, ◌-◌, ◌≤◌, ◌<◌, min}
 use native.Mathlib.Omega.{arith}
-use lib.IntN.{ℤ}
 use borrow.Author.Tests.{not-true, not-false}
 use Rattle.basics.specs.Tests.{choose}
 use Rattle.board.specs.declared.Place.{Place}
-use Rattle.board.specs.Spots.{most_pins, place_in}
+use Rattle.board.specs.Place.{inside}
 use Rattle.tree.specs.Trees.{most_runs}
 use Rattle.copper.specs.declared.Tally.{Tally}
 use Rattle.copper.specs.Least.{lesser_of, is_bent, next_tally}
+use Rattle.least.specs.declared.Asked.{Asked}
 use Rattle.least.specs.declared.Least.{Least}
-use Rattle.least.specs.Asking.{base, near_pin, kept, doubled_if, owed_alone, with_run, lesser_found, cost_kept, least_kept, KeptFits, Weighable}
+use Rattle.least.specs.Asking.{base, kept, doubled_if, owed_alone, with_run, lesser_found, cost_kept, least_kept, KeptFits, Weighable}
 use Rattle.least.proofs.Modesty.{modest_next}
 use Rattle.least.proofs.Stepping.{choices_sum, choices_on, choices_past, choices_end, cost_on, cost_past, cost_end}
 use Rattle.least.proofs.Bounds.{kept_most, found_few}
@@ -36,15 +36,6 @@ doubled_bent t e = rw e
 pub doubled_straight : (t : Bool) → t ≡ false → doubled_if t 1 ≡ 1
 unfolding doubled_if choose
 doubled_straight t e = rw e
-
-module _ (lower upper : Least) where
-  -- What is found for upper is kept where it costs less ..
-  pub upper_lesser : upper.cost < lower.cost → record { cost = upper.cost; weighed = lower.weighed + upper.weighed } ≡ lesser_found lower upper
-  upper_lesser l = rw (let z : min lower.cost upper.cost ≡ upper.cost = omega arith in z)
-
-  -- .. and what is found for lower otherwise.
-  pub lower_lesser : lower.cost ≤ upper.cost → record { cost = lower.cost; weighed = lower.weighed + upper.weighed } ≡ lesser_found lower upper
-  lower_lesser l = rw (let z : min lower.cost upper.cost ≡ lower.cost = omega arith in z)
 
 module _ (at : ℕ → Place) (near : ℕ → ℕ) (cost : ℕ → Bool → ℕ) (n i next : ℕ) (t : Tally) where
   -- No run is left.
@@ -96,26 +87,15 @@ module _ (at : ℕ → Place) (near : ℕ → ℕ) (cost : ℕ → Bool → ℕ)
           choices_sum at near (n - (next + 1)) i (next + 1) 1 1,
         )
 
-module _ (xs ys : List ℤ) (nears lower upper : List ℕ) (n : ℕ) (t : Tally) (w : Weighable xs ys nears lower upper n t) where
-  -- Where its pins stand,
-  abbrev at : ℕ → Place
-  at = place_in xs ys
-
-  -- the near pins of its runs,
-  abbrev near : ℕ → ℕ
-  near = near_pin nears
-
-  -- and what is kept for them.
+module _ (at : ℕ → Place) (near : ℕ → ℕ) (n : ℕ) (few : n ≤ most_runs) (on_board : (i : ℕ) → inside (at i) ≡ true)
+    (asked : List Asked) (t : Tally) (w : Weighable asked t) where
+  -- What is kept for the runs.
   abbrev cost : ℕ → Bool → ℕ
-  cost = kept lower upper
-
-  -- A run and its near pin are in range.
-  pub run_in : (r : ℕ) → r < n → (r < most_runs) × (near r < most_pins)
-  run_in r l = (omega (arith, w.grown.few), omega (arith, w.grown.few, w.grown.near_first r l))
+  cost = kept asked
 
   -- With a run more in either shape the later runs can be weighed.
-  pub asks_on : (r : ℕ) (u : Bool) (s : Tally) → s ≡ next_tally at near t r u → Weighable xs ys nears lower upper n s
-  asks_on r u s e = record { grown = w.grown; fits = w.fits; modest = rw e (modest_next at near w.grown.on_board t r u w.modest) }
+  pub asks_on : (r : ℕ) (u : Bool) (s : Tally) → s ≡ next_tally at near t r u → Weighable asked s
+  asks_on r u s e = record { fits = w.fits; modest = rw e (modest_next at near on_board t r u w.modest) }
 
   -- What is found of the later runs.
   module _ (r : ℕ) (l : r < n) (i : ℕ) (f : Least) (s : Tally) (g : f ≡ least_kept at near cost n i (r + 1) s) where
@@ -124,11 +104,11 @@ module _ (xs ys : List ℤ) (nears lower upper : List ℕ) (n : ℕ) (t : Tally)
     unfolding least_kept KeptFits
     sum_fits u v e =
         let c : f.cost ≡ cost_kept at near cost (n - (r + 1)) i (r + 1) s = ap (λ (z : Least). z.cost) g in
-        let m = kept_most at near w.grown.on_board cost w.fits (n - (r + 1)) i (r + 1) s (asks_on r v s e).modest in
-        omega (arith, c, m, w.fits r u, w.grown.few)
+        let m = kept_most at near on_board cost w.fits (n - (r + 1)) i (r + 1) s (asks_on r v s e).modest in
+        omega (arith, c, m, w.fits r u, few)
 
     -- With the run in one shape there are as many choices as without it, at most so many.
     pub weighed_few : (c : ℕ) (x : Least) → x ≡ with_run c f → x.weighed ≤ base
     weighed_few c x e =
         let z : x.weighed ≡ f.weighed = ap (λ (y : Least). y.weighed) e in
-        omega (arith, z, found_few at near cost n i (r + 1) f s w.grown.few g)
+        omega (arith, z, found_few at near cost n i (r + 1) f s few g)

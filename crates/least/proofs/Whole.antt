@@ -7,7 +7,6 @@ use Prim.Native.Nat.{ℕ, zero, suc, ◌+◌, ◌-◌, ◌≤◌, ◌<◌}
 use native.Mathlib.Nat.{sub-zero}
 use native.Mathlib.Omega.{arith}
 use lib.Dec.{eqb}
-use lib.IntN.{ℤ}
 use Rattle.basics.specs.Tests.{choose}
 use Rattle.board.specs.declared.Place.{Place}
 use Rattle.tree.specs.Trees.{most_runs}
@@ -15,7 +14,7 @@ use Rattle.copper.specs.Least.{best, is_bent, first_tally}
 use Rattle.basics.proofs.Sums.{sum_below, sum_same, sum-none}
 use Rattle.least.proofs.Choices.{shown, total, best_least, best_reached}
 use Rattle.least.proofs.Tallies.{least_of}
-use Rattle.least.specs.Asking.{base, near_pin, mark_of, doubled_if, is_bent_into, pin_cost, pin_best, weighed_from, weighed_below, size_from, Grown, Askable}
+use Rattle.least.specs.Asking.{base, near_pin, mark_of, doubled_if, is_bent_into, pin_cost, pin_best, weighed_from, weighed_below, size_from, Askable}
 
 -- As many ones as runs.
 sum_ones : (n : ℕ) → sum_below n (λ r. 1) ≡ n
@@ -38,10 +37,10 @@ module _ (near : ℕ → ℕ) where
       omega (arith, size_is n 0 0, l, sum_ones n, sum-none (suc n) (λ i. 0) (λ i k. refl))
 
 -- So the first pin can be asked.
-pub askable : (xs ys : List ℤ) (nears : List ℕ) (n : ℕ) → Grown xs ys nears n → Askable xs ys nears n 0
-askable xs ys nears n g =
-    let z : size_from (near_pin nears) n 0 0 ≤ most_runs = omega (arith, size_most (near_pin nears) n g.near_first, g.few) in
-    record { grown = g; upto = omega arith; small = rw (sub-zero n) z }
+pub askable : (nears : List ℕ) (n : ℕ) → n ≤ most_runs → ((r : ℕ) → r < n → near_pin nears r ≤ r) → Askable nears n 0
+askable nears n few near_first =
+    let z : size_from (near_pin nears) n 0 0 ≤ most_runs = omega (arith, size_most (near_pin nears) n near_first) in
+    record { upto = omega arith; small = rw (sub-zero n) z }
 
 module _ (at : ℕ → Place) (near : ℕ → ℕ) where
   -- What the first pin costs is the least cost, asked pin by pin: base for each unit of length, and the marks of the shapes.

@@ -1,7 +1,7 @@
 -- How the least cost is found: what a pin costs is asked of the runs below it, and what a run costs of the pin at its far end. No entry point's promise rests on these.
 -- Pins are numbered by when they were reached: 0 is the first, and run r reaches pin r + 1 from pin `near r`; `at` tells where pins stand.
 -- A shape is a Bool: false is lower, true is upper. A cost is a length and a mask of shapes as one number, of which the length decides.
-use Rattle.std.specs.Prelude.{◌≡◌, Bool, true, false, not, ℕ, zero, suc, ◌+◌, ◌-◌, ◌*◌, ◌^◌, ◌≤◌, ◌<◌, min, List, ℤ, eqb, get_or}
+use Rattle.std.specs.Prelude.{◌≡◌, Bool, true, false, not, ℕ, zero, suc, ◌+◌, ◌-◌, ◌*◌, ◌^◌, ◌≤◌, ◌<◌, min, List, Option, None, Some, eqb, get_or}
 use Rattle.basics.specs.Tests.{choose}
 use Rattle.board.specs.declared.Place.{Place}
 use Rattle.board.specs.Place.{limit, inside}
@@ -22,10 +22,14 @@ base = 2147483648
 abbrev pub near_pin : List ℕ → ℕ → ℕ
 near_pin near r = get_or near r 0
 
+-- What is kept for a run that was not asked.
+abbrev pub unasked : Asked
+unasked = record { lower = 0; upper = 0; weighed = 0 }
+
 -- The cost that is kept for a run in this shape, false for lower and true for upper.
-abbrev pub kept : List ℕ → List ℕ → ℕ → Bool → ℕ
-kept lower upper r false = get_or lower r 0
-kept lower upper r true = get_or upper r 0
+abbrev pub kept : List Asked → ℕ → Bool → ℕ
+kept asked r false = (get_or asked r unasked).lower
+kept asked r true = (get_or asked r unasked).upper
 
 -- Two shapes are not the same.
 abbrev pub differs : Bool → Bool → Bool
@@ -137,43 +141,40 @@ size_from near zero i next = 0
 size_from near (suc k) i next =
     choose (eqb (near next) i) (1 + size_from near k (suc next) (suc next) + size_from near k i (suc next)) (size_from near k i (suc next))
 
--- The first of the k runs from `next` on that leads on from pin i; the number after them where there is none.
-unfoldable pub own_from : (ℕ → ℕ) → ℕ → ℕ → ℕ → ℕ
-own_from near zero i next = next
-own_from near (suc k) i next = choose (eqb (near next) i) next (own_from near k i (suc next))
+-- The first of the k runs from `next` on that leads on from pin i, where there is one.
+unfoldable pub own_from : (ℕ → ℕ) → ℕ → ℕ → ℕ → Option ℕ
+own_from near zero i next = None
+own_from near (suc k) i next = choose (eqb (near next) i) (Some next) (own_from near k i (suc next))
 
 -- A pin shows arms as places on the board give them: none is longer than the board is wide.
 abbrev pub Modest : Tally → Type 0
 Modest tally = Bounded (2 * limit) tally
 
 -- A tree of at most 31 runs, each from a pin that was reached before it, with all pins on the board.
-pub record Grown (xs ys : List ℤ) (near : List ℕ) (count : ℕ) : Type 0 where
+pub record Grown (places : List Place) (near : List ℕ) (count : ℕ) : Type 0 where
   pub few : count ≤ most_runs
   pub near_first : (r : ℕ) → r < count → near_pin near r ≤ r
-  pub on_board : (i : ℕ) → inside (place_in xs ys i) ≡ true
+  pub on_board : (i : ℕ) → inside (place_in places i) ≡ true
 
 -- So much, or less, is kept for a run: the costs of 31 runs, and what a pin owes, still fit a number together.
 abbrev pub most_kept : ℕ
 most_kept = 288230376151711744
 
 -- What is kept for the runs is no more than that.
-unfoldable pub KeptFits : List ℕ → List ℕ → Type 0
-KeptFits lower upper = (r : ℕ) (u : Bool) → kept lower upper r u ≤ most_kept
+unfoldable pub KeptFits : List Asked → Type 0
+KeptFits asked = (r : ℕ) (u : Bool) → kept asked r u ≤ most_kept
 
--- What weighing demands: a grown tree, costs that fit, and modest arms.
-pub record Weighable (xs ys : List ℤ) (near lower upper : List ℕ) (count : ℕ) (tally : Tally) : Type 0 where
-  pub grown : Grown xs ys near count
-  pub fits : KeptFits lower upper
+-- What weighing demands: costs that fit, and modest arms.
+pub record Weighable (asked : List Asked) (tally : Tally) : Type 0 where
+  pub fits : KeptFits asked
   pub modest : Modest tally
 
--- What a pin's answer demands: a grown tree, costs that fit, and a pin of the tree.
-pub record Answerable (xs ys : List ℤ) (near lower upper : List ℕ) (count i : ℕ) : Type 0 where
-  pub grown : Grown xs ys near count
-  pub fits : KeptFits lower upper
+-- What a pin's answer demands: costs that fit, and a pin of the tree.
+pub record Answerable (asked : List Asked) (count i : ℕ) : Type 0 where
+  pub fits : KeptFits asked
   pub upto : i ≤ count
 
--- What asking a pin demands: a grown tree, a pin of it, and at most 31 runs below the pin.
-pub record Askable (xs ys : List ℤ) (near : List ℕ) (count i : ℕ) : Type 0 where
-  pub grown : Grown xs ys near count
+-- What asking a pin demands: a pin of the tree, and at most 31 runs below the pin.
+pub record Askable (near : List ℕ) (count i : ℕ) : Type 0 where
   pub upto : i ≤ count
   pub small : size_from (near_pin near) (count - i) i i ≤ most_runs

@@ -1,5 +1,4 @@
 -- What the proofs of lent lists share.
-pub mod Filling
 pub mod Fitting
 pub mod Untouched
 pub mod Demand

@@ -6,8 +6,8 @@ use Prim.Native.Nat.{ℕ}
 use Rattle.basics.specs.Tests.{choose}
 use Rattle.refusal.specs.Refusals.{accepted}
 use Rattle.refusal.specs.Rows.{first_of}
-use Rattle.refusal.specs.declared.Verdict.{Verdict}
-use Rattle.board.specs.declared.Spot.{Spot}
+use Rattle.refusal.specs.Refusals.{Verdict}
+use Rattle.board.specs.Spots.{Spot}
 use Rattle.tree.specs.Growth.{runs_of}
 use Rattle.copper.specs.declared.Favour.{Favour}
 use Rattle.copper.specs.Shapes.{favours_upper}

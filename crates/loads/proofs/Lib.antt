@@ -1,2 +1,3 @@
 -- What is proved of loads beside the functions' contracts.
+pub mod Between
 pub mod Ranges

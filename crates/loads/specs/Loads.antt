@@ -7,7 +7,6 @@ use Rattle.basics.specs.Tests.{both, each_of}
 use Rattle.loads.specs.declared.Sheet.{Sheet}
 use Rattle.loads.specs.declared.Load.{Load}
 use Rattle.loads.specs.declared.Load.TheVariants.{Amps, Watts, Spare}
-use Rattle.loads.specs.declared.Loaded.{Loaded}
 
 -- 0.
 abbrev pub nought : Float
@@ -47,16 +46,12 @@ load_fits (Amps a) = is_from nought a five_hundred
 load_fits (Watts w) = is_from nought w twelve_thousand
 load_fits Spare = true
 
--- A spare load, which a list of loads has past its end.
-abbrev pub spare : Loaded
-spare = record { load = Spare }
-
--- The load of a pin number.
-abbrev pub load_at : List Loaded → ℕ → Load
-load_at loads pin = (get_or loads pin spare).load
+-- The load of a pin number; a list of loads has spare ones past its end.
+abbrev pub load_at : List Load → ℕ → Load
+load_at loads pin = get_or loads pin Spare
 
 -- The loads of these pins are in their ranges; those of other pins are not looked at.
-abbrev pub loads_fit : List Loaded → List ℕ → Bool
+abbrev pub loads_fit : List Load → List ℕ → Bool
 loads_fit loads pins = each_of (λ (pin : ℕ). load_fits (load_at loads pin)) pins
 
 -- Watts become amps by one division by the supply volts; spare is 0.

@@ -13,7 +13,8 @@ use borrow.Author.Tests.{lt-ltb, eqb-true}
 use Rattle.basics.specs.Tests.{both, either, choose, any_of, each_of, no_two}
 use Rattle.refusal.specs.Refusals.{accepted}
 use Rattle.refusal.specs.Rows.{first_of}
-use Rattle.refusal.specs.declared.Verdict.TheVariants.{JobZero, MapLength}
+use Rattle.refusal.specs.declared.Refusal.TheVariants.{JobZero, MapLength}
+use Rattle.std.specs.Prelude.{Ok, Err}
 use Rattle.board.specs.Spots.{spots_too_near, within}
 use Rattle.drawing.specs.Pins.{lawful, has_net, is_net, is_of, feed_spot, feed_of, spot_of, spots_of}
 use Rattle.tree.specs.Growth.{kept_if, pins_from, pins_of}
@@ -43,12 +44,12 @@ empty_input = refl
 -- A single byte is 13.
 pub single_byte : (b : ℕ) → map_answer (b ∷ []) ≡ text "refused 13\n"
 unfolding job_of_map wrong_length accepted first_of either choose told_line carried_text digits
-single_byte b = printed-refused (b ∷ []) {v = MapLength} (opened (b ∷ [])) refl
+single_byte b = printed-refused (b ∷ []) {v = Err MapLength} (opened (b ∷ [])) refl
 
 -- Job 0 is 4, whatever follows.
-job_zero : (input : List ℕ) → job_of_map input ≡ 0 → map_answer input ≡ verdict_line JobZero
+job_zero : (input : List ℕ) → job_of_map input ≡ 0 → map_answer input ≡ verdict_line (Err JobZero)
 unfolding first_of choose accepted
-job_zero input e = printed-refused input {v = JobZero} (opened input ∙ rw e) refl
+job_zero input e = printed-refused input {v = Err JobZero} (opened input ∙ rw e) refl
 
 -- Two bytes of zero at the front give 4 at any length from two up, before 13.
 pub two_zeros : (rest : List ℕ) → map_answer (0 ∷ 0 ∷ rest) ≡ text "refused 4\n"
@@ -58,7 +59,7 @@ two_zeros rest = job_zero (0 ∷ 0 ∷ rest) refl
 -- Under any other job more than 384 bytes are 13.
 pub above_384 : (input : List ℕ) → eqb (job_of_map input) 0 ≡ false → most_bytes Old < length input → map_answer input ≡ text "refused 13\n"
 unfolding first_of choose either accepted wrong_length told_line carried_text digits
-above_384 input e h = printed-refused input {v = MapLength} (opened input ∙ rw (e, lt-ltb (most_bytes Old) (length input) h)) refl
+above_384 input e h = printed-refused input {v = Err MapLength} (opened input ∙ rw (e, lt-ltb (most_bytes Old) (length input) h)) refl
 
 -- The job is read from what is kept.
 job_kept : (input : List ℕ) → job_of_map (take most_read input) ≡ job_of_map input

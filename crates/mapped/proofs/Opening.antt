@@ -7,17 +7,20 @@ use lib.Dec.{eqb}
 use Rattle.basics.specs.Tests.{both, either, choose, any_of, each_of, no_two}
 use Rattle.refusal.specs.Refusals.{accepted}
 use Rattle.refusal.specs.Rows.{first_of}
-use Rattle.refusal.specs.declared.Verdict.{Verdict}
+use Rattle.refusal.specs.Refusals.{Verdict}
 use Rattle.basics.proofs.Tests.{choose_yes}
-use Rattle.drawing.specs.declared.Pin.{Pin}
-use Rattle.board.specs.declared.Spot.{Spot}
+use Rattle.drawing.specs.Pins.{Pin}
+use Rattle.board.specs.Spots.{Spot}
 use Rattle.drawing.specs.Pins.{is_net, lawful, spots_of, feed_of}
 use Rattle.pinmap.specs.declared.Form.TheVariants.{Old}
-use Rattle.readmap.specs.declared.Reading.{Reading}
-use Rattle.readmap.specs.Map.{under_rows, read_by, read_map}
-use Rattle.readmap.proofs.Judging.{under_passed}
+use Rattle.std.specs.Prelude.{Result, Ok, Err}
+use Rattle.refusal.specs.declared.Refusal.{Refusal}
+use Rattle.refusal.specs.Rows.{granted}
+use Rattle.drawing.specs.Pins.{no_pins}
+use Rattle.readmap.specs.Map.{records_of, with_pins_of, under_rows, read_by, read_map, pins_of}
+use Rattle.readmap.proofs.Judging.{under_passed, read_passed}
 use Rattle.roundtrip.proofs.Holding.{plain_feed}
-use Rattle.roundtrip.proofs.RoundTrip.{opened_lawful, read_held}
+use Rattle.roundtrip.proofs.RoundTrip.{read_lawful, read_held}
 use Rattle.journal.specs.Journal.{own, filled, in_turn}
 use Rattle.desk.specs.declared.Desk.{Desk}
 use Rattle.seats.specs.declared.Seat.{Seat}
@@ -78,7 +81,7 @@ named job l e k = ap (λ (b : Bool). accepted (first_of (naming_rows (not b) 0 t
 
 -- so that it is wired as the feed of that net is.
 wired_there : (job : ℕ) (l : List Pin) → eqb job 0 ≡ false → lawful l ≡ true
-    → (wired_of (opened_for job l) 0 1 most_legs Favour.Lower).laid ≡ wiring_of (feed_of l 1) most_legs Favour.Lower
+    → (wired_of (opened_for job l) 0 1 most_legs Favour.Lower).answer ≡ wiring_of (feed_of l 1) most_legs Favour.Lower
 unfolding wired_of empty_desk
 wired_there job l e k = choose_yes _ _ (named job l e k)
 
@@ -90,55 +93,60 @@ wired_open job l e = rw e
 
 -- A map that passes 4, 13, 14 and 15 is open at seat 0.
 opened_there : (map : List ℕ) → accepted (opened_with map).verdict ≡ true
-    → (opened_with map).desk ≡ opened_for (job_of_map map) (read_map Old map (job_of_map map)).pins
+    → (opened_with map).desk ≡ opened_for (job_of_map map) (pins_of (read_map Old map (job_of_map map)))
 unfolding opened_with step effect
 opened_there map y = choose_yes _ _ y
 
 -- What the program reads under the job of a map.
-module _ (map : List ℕ) {job : ℕ} {r : Reading} (j : job ≡ job_of_map map) (o : r ≡ read_by (under_rows Old map job) Old map) where
-  -- The verdict is that of the program's opening.
-  read_so : r.verdict ≡ (opened_with map).verdict
-  read_so =
-      ap (λ (x : Reading). x.verdict) o ∙ ap (λ (n : ℕ). first_of (under_rows Old map n)) j ∙ sym (opened map)
+module _ (map : List ℕ) {job : ℕ} {r : Result (List Pin) Refusal} (j : job ≡ job_of_map map) (o : r ≡ read_by (under_rows Old map job) Old map) where
+  -- The rows are those of the program's opening.
+  rows_so : first_of (under_rows Old map job) ≡ (opened_with map).verdict
+  rows_so = ap (λ (n : ℕ). first_of (under_rows Old map n)) j ∙ sym (opened map)
 
-  -- Refused, it is the answer.
-  pub answer_refused : accepted r.verdict ≡ false → verdict_line r.verdict ≡ map_answer map
-  answer_refused e = sym (printed-refused map (sym read_so) e)
+  -- Refused, that is the answer.
+  pub answer_refused : (x : Refusal) → r ≡ Err x → verdict_line (Err x) ≡ map_answer map
+  unfolding accepted
+  answer_refused x e = sym (printed-refused map (sym rows_so ∙ refused_by (first_of (under_rows Old map job)) (sym o ∙ e)) refl)
+    where
+      refused_by : (v : Verdict) → granted v (with_pins_of Old no_pins (records_of Old map)) ≡ Err x → v ≡ Err x
+      refused_by (Ok tt) q = cc
+      refused_by (Err y) q = ap (λ (z : Refusal). Err z) (cc)
 
-  -- Accepted, the job is not 0 and the pins are those of the map,
-  read_passed : accepted r.verdict ≡ true → (eqb job 0 ≡ false) × (r ≡ read_map Old map job)
-  read_passed y =
-      let p = under_passed Old map job (ap (λ (x : Reading). accepted x.verdict) (sym o) ∙ y) in
-      (p.0, o ∙ p.1)
+  module _ (l : List Pin) (e : r ≡ Ok l) where
+    -- Accepted, the job is not 0 and the pins are those of the map,
+    rows_pass : accepted (first_of (under_rows Old map job)) ≡ true
+    unfolding accepted
+    rows_pass = sym (ap accepted (read_passed (under_rows Old map job) Old map (sym o ∙ e)).0)
 
-  -- which keep the rules,
-  pub read_lawful : accepted r.verdict ≡ true → lawful r.pins ≡ true
-  read_lawful y =
-      let q = (read_passed y).1 in
-      ap (λ (x : Reading). lawful x.pins) q ∙ opened_lawful Old job map (ap (λ (x : Reading). accepted x.verdict) (sym q) ∙ y)
+    job_given : eqb job 0 ≡ false
+    job_given = (under_passed Old map job rows_pass).0
 
-  -- and the answer is their wiring.
-  pub answer_wired : {w : Laid} → w ≡ wiring_of (feed_of r.pins 1) most_legs Favour.Lower → accepted r.verdict ≡ true
-      → map_text job w.wiring ≡ map_answer map
-  unfolding wired_with
-  answer_wired {w} q y =
-      let z : accepted (opened_with map).verdict ≡ true = ap accepted (sym read_so) ∙ y in
-      let m : r ≡ read_map Old map (job_of_map map) = (read_passed y).1 ∙ ap (read_map Old map) j in
-      let d : (opened_with map).desk ≡ opened_for (job_of_map map) r.pins =
-      opened_there map z ∙ ap (λ (x : Reading). opened_for (job_of_map map) x.pins) (sym m) in
-      let x : (wired_of (opened_with map).desk 0 1 most_legs Favour.Lower).laid ≡ w =
-      ap (λ (k : Desk). (wired_of k 0 1 most_legs Favour.Lower).laid) d
-      ∙ wired_there (job_of_map map) r.pins (ap (λ (n : ℕ). eqb n 0) (sym j) ∙ (read_passed y).0) (read_lawful y) ∙ sym q in
-      ap₂ (λ (n : ℕ) (k : Laid). map_text n k.wiring) j (sym x) ∙ sym (printed_wired map z)
+    pins_read : l ≡ pins_of (read_map Old map job)
+    pins_read = ap pins_of (sym e ∙ o ∙ (under_passed Old map job rows_pass).1)
+
+    -- which keep the rules,
+    pub read_keeps_rules : lawful l ≡ true
+    read_keeps_rules = rw pins_read (read_lawful Old job map)
+
+    -- and the answer is their wiring.
+    pub answer_wired : {w : Laid} → w ≡ wiring_of (feed_of l 1) most_legs Favour.Lower → map_text job w.wiring ≡ map_answer map
+    unfolding wired_with
+    answer_wired {w} q =
+        let z : accepted (opened_with map).verdict ≡ true = ap accepted (sym rows_so) ∙ rows_pass in
+        let d : (opened_with map).desk ≡ opened_for (job_of_map map) l =
+        opened_there map z ∙ ap (λ (k : List Pin). opened_for (job_of_map map) k) (ap (λ (n : ℕ). pins_of (read_map Old map n)) (sym j) ∙ sym pins_read) in
+        let x : (wired_of (opened_with map).desk 0 1 most_legs Favour.Lower).answer ≡ w =
+        ap (λ (k : Desk). (wired_of k 0 1 most_legs Favour.Lower).answer) d
+        ∙ wired_there (job_of_map map) l (ap (λ (n : ℕ). eqb n 0) (sym j) ∙ job_given) read_keeps_rules ∙ sym q in
+        ap₂ (λ (n : ℕ) (k : Laid). map_text n k.wiring) j (sym x) ∙ sym (printed_wired map z)
 
 -- ALL PINS OF THE MAP ARE WIRED, AS BEFORE THERE WERE NETS: where a map is opened, what is printed is the wiring of all its pins.
 pub all_pins_wired : (map : List ℕ) → accepted (opened_with map).verdict ≡ true
-    → wired_with map ≡ (wiring_of (spots_of (read_map Old map (job_of_map map)).pins) most_legs Favour.Lower).wiring
+    → wired_with map ≡ (wiring_of (spots_of (pins_of (read_map Old map (job_of_map map)))) most_legs Favour.Lower).wiring
 unfolding wired_with
 all_pins_wired map y =
-    let l = (read_map Old map (job_of_map map)).pins in
+    let l = pins_of (read_map Old map (job_of_map map)) in
     let p = under_passed Old map (job_of_map map) (ap accepted (sym (opened map)) ∙ y) in
-    let k = opened_lawful Old (job_of_map map) map (ap (λ (x : Reading). accepted x.verdict) (sym p.1) ∙ ap accepted (sym (opened map)) ∙ y) in
-    ap (λ (d : Desk). (wired_of d 0 1 most_legs Favour.Lower).laid.wiring) (opened_there map y)
-    ∙ ap (λ (w : Laid). w.wiring) (wired_there (job_of_map map) l p.0 k)
+    ap (λ (d : Desk). (wired_of d 0 1 most_legs Favour.Lower).answer.wiring) (opened_there map y)
+    ∙ ap (λ (w : Laid). w.wiring) (wired_there (job_of_map map) l p.0 (read_lawful Old (job_of_map map) map))
     ∙ ap (λ (f : List Spot). (wiring_of f most_legs Favour.Lower).wiring) (plain_feed l (read_held Old (job_of_map map) map))

@@ -6,7 +6,8 @@ use Rattle.basics.specs.Tests.{both, either, choose, any_of, each_of, no_two}
 use Rattle.basics.specs.Sums.{sum, different}
 use Rattle.refusal.specs.Refusals.{accepted}
 use Rattle.refusal.specs.Rows.{first_of}
-use Rattle.refusal.specs.declared.Verdict.TheVariants.{OtherJob, FaultyRecord}
+use Rattle.refusal.specs.declared.Refusal.TheVariants.{OtherJob, FaultyRecord}
+use Rattle.std.specs.Prelude.{Ok, Err}
 use Rattle.pinmap.specs.Number.{bits_at, number_at}
 use Rattle.board.specs.Place.{difference, larger, same_number, same_place, on_board, inside, closer, too_near, is_straight}
 use Rattle.tree.specs.Weight.{weight_of, pair_of, by_part, by_number, comes_before}
@@ -68,7 +69,7 @@ third_other = placed 0 0 (0 ∷ 0 ∷ 0 ∷ 0 ∷ []) ++ placed 1 80 (0 ∷ 0 �
 other_job : map_answer third_other ≡ text "refused 14 record 2\n"
 unfolding job_of_map wrong_length rows_from records_in record_of number_at bits_at faulty with_pin_of spots_too_near any_of too_near_other crowded spot_of spots_of difference closer
     too_near inside on_board accepted first_of both either choose told_line carried_text digits
-other_job = printed-refused third_other {v = OtherJob 2} (opened third_other) refl
+other_job = printed-refused third_other {v = Err (OtherJob 2)} (opened third_other) refl
 
 -- The second record's pin is not above the one before: 15.
 abbrev pin_twice : List ℕ
@@ -78,4 +79,4 @@ pin_twice = placed 0 0 (0 ∷ 0 ∷ 0 ∷ 0 ∷ []) ++ placed 0 80 (0 ∷ 0 ∷ 
 pin_twice_lem : map_answer pin_twice ≡ text "refused 15 record 1\n"
 unfolding job_of_map wrong_length rows_from records_in record_of number_at bits_at faulty with_pin_of spots_too_near any_of too_near_other crowded spot_of spots_of difference closer
     too_near inside on_board accepted first_of both either choose told_line carried_text digits
-pin_twice_lem = printed-refused pin_twice {v = FaultyRecord 1} (opened pin_twice) refl
+pin_twice_lem = printed-refused pin_twice {v = Err (FaultyRecord 1)} (opened pin_twice) refl

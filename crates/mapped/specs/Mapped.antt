@@ -26,7 +26,7 @@ opened_with map = step empty_desk (opening 0 (job_of_map map) Old map)
 
 -- And wires net 1, that of all its pins, with room for all legs and lower asked for.
 unfoldable pub wired_with : List ℕ → Wiring
-wired_with map = (wired_of (opened_with map).desk 0 1 most_legs Favour.Lower).laid.wiring
+wired_with map = (wired_of (opened_with map).desk 0 1 most_legs Favour.Lower).answer.wiring
 
 -- What it prints: the wiring, or the refusal of the wiring or of the opening.
 unfoldable pub map_answer : List ℕ → List ℕ

@@ -16,6 +16,7 @@ use laying::LEGS;
 use pinmap::{Form, OLD_BYTES};
 use printed::print_verdict;
 use rows::Found;
+use seats::Seat;
 use shown::print_map;
 use text::ANSWER_BYTES;
 use wiring::Laid;
@@ -45,13 +46,12 @@ fn wire_opened(job: u16, pins: [Pin; PINS]) -> Laid
     requires { lawful pins ≡ true }
     ensures { result ≡ wiring_of (feed_of pins 1) most_legs Lower }
 {
-    let state = seats::open_seat(job, pins);
     let found = Found {
         broken: false,
         seat: 0,
-        state,
+        state: Seat::open(job, pins),
     };
-    asking::feed_wired(found, 1, LEGS, Favour::Lower)
+    asking::feed_wired(&found, 1, LEGS, Favour::Lower)
 }
 
 // Opens a map of the old form at seat 0 of an empty desk under its job, wires net 1 with lower asked for, and prints the answer; says how many bytes that is.
@@ -60,13 +60,8 @@ pub fn map_answer(map: &[u8], out: &mut [u8; ANSWER_BYTES]) -> usize
     ensures { ((result ≡ length (map_answer map.now)) × (result ≤ answer_bytes)) × (out.new ≡ over (map_answer map.now) out.old) }
 {
     let job = job_of_map(map);
-    let reading = readmap::read_under(Form::Old, map, job);
-    let verdict = reading.verdict;
-    if refusal::is_accepted(verdict) {
-        let pins = reading.pins;
-        let laid = wire_opened(job, pins);
-        let wiring = laid.wiring;
-        return print_map(job, wiring, out);
+    match readmap::read_under(Form::Old, map, job) {
+        Ok(pins) => print_map(job, &wire_opened(job, pins).wiring, out),
+        Err(refusal) => print_verdict(Err(refusal), out),
     }
-    print_verdict(verdict, out)
 }

@@ -5,14 +5,16 @@ use mathlib.Core.Bool.{Bool, true, false, not}
 use mathlib.Core.List.{List, [], ◌∷◌}
 use Prim.Native.Nat.{ℕ, ◌≤◌, ◌<◌}
 use lib.Dec.{ltb}
-use lib.ListN.{length}
+use lib.ListN.{length, length-take}
+use native.Mathlib.Omega.{arith}
 use borrow.Author.Tests.{lt-ltb, le-ltb, not-true, not-false}
 use Rattle.basics.specs.Tests.{choose, each_of}
 use Rattle.refusal.specs.Refusals.{accepted}
 use Rattle.refusal.specs.Rows.{Row, given, first_of}
-use Rattle.refusal.specs.declared.Verdict.TheVariants.{Accepted, RoomTooSmall}
+use Rattle.refusal.specs.declared.Refusal.TheVariants.{RoomTooSmall}
+use Rattle.std.specs.Prelude.{Ok, Err}
 use Rattle.refusal.proofs.Rows.{decided_away, decided_on}
-use Rattle.board.specs.declared.Spot.{Spot}
+use Rattle.board.specs.Spots.{Spot}
 use Rattle.board.specs.Spots.{most_pins, all_within}
 use Rattle.tree.specs.Growth.{runs_of}
 use Rattle.tree.specs.Trees.{tree_rows}
@@ -82,7 +84,11 @@ module _ (feed : List Spot) (full : length feed ≡ most_pins) (ok : all_within 
     pub legs_few : laid.wiring.legs ≤ most_legs
     legs_few = rw laid_is (unfold answer_with in needed_few feed shapes full)
 
-    -- and lie on the board.
+    -- so that the list of them is no longer,
+    pub legs_short : length (legs_in laid) ≤ most_legs
+    legs_short = omega (arith, legs_few, length-take laid.wiring.legs laid.list)
+
+    -- and they lie on the board.
     pub legs_inside : each_of is_inside (legs_in laid) ≡ true
     legs_inside = rw legs_are (wired_inside feed ok (runs_of feed) shapes)
 
@@ -97,18 +103,18 @@ module _ (feed : List Spot) (full : length feed ≡ most_pins) (ok : all_within 
       many = ap (λ (s : Strip). s.count) cut_is ∙ (unfold strip in refl)
 
       -- Too little room.
-      pub feed_room : room < cut.count → cut_with RoomTooSmall [] ≡ cut_of feed room favour
+      pub feed_room : room < cut.count → cut_with (Err RoomTooSmall) [] ≡ cut_of feed room favour
       feed_room h = sym (refuses (lt-ltb room (length copper) (rw many at h))) ∙ room_decides
         where
-          refuses : ltb room (length copper) ≡ true → cut_by room_row copper ≡ cut_with RoomTooSmall []
+          refuses : ltb room (length copper) ≡ true → cut_by room_row copper ≡ cut_with (Err RoomTooSmall) []
           refuses e = unfold first_of choose accepted in rw e
 
       -- The answer.
-      pub feed_cut : cut.count ≤ room → record { milling = record { verdict = Accepted; segments = cut.count }; list = cut.list } ≡ cut_of feed room favour
+      pub feed_cut : cut.count ≤ room → record { milling = record { verdict = (Ok tt); segments = cut.count }; list = cut.list } ≡ cut_of feed room favour
       feed_cut h = made ∙ sym (accepts (le-ltb room (length copper) (rw many at h))) ∙ room_decides
         where
-          made : record { milling = record { verdict = Accepted; segments = cut.count }; list = cut.list } ≡ cut_with Accepted copper
+          made : record { milling = record { verdict = (Ok tt); segments = cut.count }; list = cut.list } ≡ cut_with (Ok tt) copper
           made = rw cut_is (unfold strip cut_with in refl)
 
-          accepts : ltb room (length copper) ≡ false → cut_by room_row copper ≡ cut_with Accepted copper
+          accepts : ltb room (length copper) ≡ false → cut_by room_row copper ≡ cut_with (Ok tt) copper
           accepts e = unfold first_of choose accepted in rw e

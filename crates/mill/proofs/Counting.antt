@@ -134,14 +134,24 @@ read_on z e = rw (read_is e) e
 pub read_same : (a b : ℤ) → on_board a ≡ true → on_board b ≡ true → eqb (of_z w32 a) (of_z w32 b) ≡ same_number a b
 read_same a b p q = same_bits {a = a} {b = b} (record { sfits = number_held a p }) (record { sfits = number_held b q })
 
--- What it counts is small.
-pub record Told (z : ℤ) (n : ℕ) : Type 0 where
-  pub is : n ≡ counted z
-  pub few : n ≤ longest
+-- So it reads the numbers of a place of the board: x is on the board,
+pub x_read : (a : Place) → inside a ≡ true → on_board (rd a.x) ≡ true
+x_read a e = read_on a.x (x_on a e)
 
--- So it is for a number of the board.
-pub told : {z : ℤ} {n : ℕ} → on_board z ≡ true → n ≡ counted (rd z) → Told z n
-told {z} e f = let is = rw (read_is e) at f in record { is = is; few = omega (arith, (count z e).few) }
+-- and y is;
+pub y_read : (a : Place) → inside a ≡ true → on_board (rd a.y) ≡ true
+y_read a e = read_on a.y (y_on a e)
+
+-- what it counts is small, of x
+pub x_told : (a : Place) → inside a ≡ true → (counted (rd a.x) ≡ counted a.x) × (counted a.x ≤ longest)
+x_told a e = (ap counted (read_is (x_on a e)), (count a.x (x_on a e)).few)
+
+-- and of y.
+pub y_told : (a : Place) → inside a ≡ true → (counted (rd a.y) ≡ counted a.y) × (counted a.y ≤ longest)
+y_told a e = (ap counted (read_is (y_on a e)), (count a.y (y_on a e)).few)
+
+-- So much is read of a place of the board.
+pub ruleset place_read = (x_read, y_read, x_told, y_told)
 
 -- The sum by which it counts is the count,
 pub count_sum : (z : ℤ) → on_board z ≡ true → z +ℤ pos limit ≡ pos (counted z)
@@ -168,3 +178,7 @@ back_fits n h = record { sfits = by_test (ltb n limit) refl }
     by_test : (t : Bool) → ltb n limit ≡ t → mag (cond t (negsuc (limit - suc n)) (pos (n - limit))) < 2147483648
     by_test true e = omega arith
     by_test false e = omega arith
+
+-- A number counted back is read as it is.
+pub back_read : (n : ℕ) → n < width → rd (uncounted n) ≡ uncounted n
+back_read n h = held (uncounted n) (back_fits n h).sfits

@@ -7,9 +7,9 @@ use lib.ListN.{length, take}
 use Rattle.basics.specs.Tests.{choose, each_of}
 use Rattle.refusal.specs.Refusals.{accepted}
 use Rattle.refusal.specs.Rows.{Row, first_of}
-use Rattle.refusal.specs.declared.Verdict.TheVariants.{Accepted}
+use Rattle.std.specs.Prelude.{Ok}
 use Rattle.refusal.proofs.Rows.{Apart, none-holds, none-accepted}
-use Rattle.board.specs.declared.Spot.{Spot}
+use Rattle.board.specs.Spots.{Spot}
 use Rattle.board.specs.Spots.{most_pins, all_within}
 use Rattle.tree.specs.Growth.{runs_of}
 use Rattle.copper.specs.declared.Favour.{Favour}
@@ -42,7 +42,7 @@ module _ (feed : List Spot) (favour : Favour) (full : length feed ≡ most_pins)
   on = wired_inside feed ok (runs_of feed) best
 
   -- Of the answer with the best choice of shapes the copper is what is demanded.
-  answer_clean : CleanCopper (answer_with feed best) (cut_with Accepted (copper_of feed favour))
+  answer_clean : CleanCopper (answer_with feed best) (cut_with (Ok tt) (copper_of feed favour))
   unfolding answer_with cut_with copper_of length_of_choice
   answer_clean =
       record {
@@ -56,18 +56,18 @@ module _ (feed : List Spot) (favour : Favour) (full : length feed ≡ most_pins)
 
   -- THE COPPER OF EVERY ACCEPTED WIRING, as an answer that gives its segments has it.
   pub copper_demanded : (room : ℕ) → accepted (wiring_of feed room favour).wiring.verdict ≡ true
-      → {cut : Cut} → cut ≡ cut_with Accepted (copper_of feed favour) → CleanCopper (wiring_of feed room favour) cut
+      → {cut : Cut} → cut ≡ cut_with (Ok tt) (copper_of feed favour) → CleanCopper (wiring_of feed room favour) cut
   unfolding wiring_of wiring_favouring wiring_with
   copper_demanded room z e =
       let h = answer_comes (answer_with feed best) (first_of (wiring_rows feed best room)) z in
-      rw e (subst (λ (l : Laid). CleanCopper l (cut_with Accepted (copper_of feed favour))) (sym h.0) answer_clean)
+      rw e (subst (λ (l : Laid). CleanCopper l (cut_with (Ok tt) (copper_of feed favour))) (sym h.0) answer_clean)
 
 -- An accepted answer gives the segments, whatever its rows.
 pub cut_accepted : (rows : List Row) → Apart rows → (segments : List Leg) → accepted (cut_by rows segments).milling.verdict ≡ true
-    → cut_by rows segments ≡ cut_with Accepted segments
+    → cut_by rows segments ≡ cut_with (Ok tt) segments
 unfolding cut_with
 cut_accepted rows apart segments z =
-    let e : first_of rows ≡ Accepted = none-accepted rows (none-holds rows apart z) in
+    let e : first_of rows ≡ Ok tt = none-accepted rows (none-holds rows apart z) in
     rw e (unfold accepted choose in refl)
 
 -- EVERY ACCEPTED MILLING OF A FEED IS WHAT DOCUMENT 02, [5] SAYS, beside every accepted wiring of it with the same favoured shape.

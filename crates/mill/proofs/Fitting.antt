@@ -10,7 +10,7 @@ use Rattle.basics.specs.Tests.{choose}
 use Rattle.refusal.specs.Refusals.{accepted}
 use Rattle.refusal.specs.Rows.{Row, first_of, NoneHolds}
 use Rattle.refusal.proofs.Rows.{Apart, none-accepted, none_before, none_after, none-holds}
-use Rattle.board.specs.declared.Spot.{Spot}
+use Rattle.board.specs.Spots.{Spot}
 use Rattle.board.specs.Spots.{most_pins}
 use Rattle.tree.specs.Growth.{runs_of}
 use Rattle.copper.specs.declared.Favour.{Favour}

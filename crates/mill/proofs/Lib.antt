@@ -1,5 +1,6 @@
 -- What is proved of milling beside the functions' contracts.
 pub mod Counting
+pub mod Reading
 pub mod Lines
 pub mod Steps
 pub mod Stretches

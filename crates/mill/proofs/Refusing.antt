@@ -5,7 +5,7 @@ use Prim.Native.Nat.{ℕ}
 use Rattle.basics.specs.Tests.{both}
 use Rattle.refusal.specs.Refusals.{accepted}
 use Rattle.refusal.proofs.Rows.{distinct, unlike, Apart, apart_by}
-use Rattle.board.specs.declared.Spot.{Spot}
+use Rattle.board.specs.Spots.{Spot}
 use Rattle.copper.specs.declared.Favour.{Favour}
 use Rattle.mill.specs.Answer.{mill_rows}
 

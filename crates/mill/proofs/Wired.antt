@@ -7,7 +7,7 @@ use Rattle.basics.specs.Tests.{choose, each_of}
 use Rattle.basics.proofs.Tests.{both_left, both_right, both_of}
 use Rattle.basics.proofs.Anyone.{each_end, each_more, each_append}
 use Rattle.board.specs.declared.Place.{Place}
-use Rattle.board.specs.declared.Spot.{Spot}
+use Rattle.board.specs.Spots.{Spot}
 use Rattle.board.specs.Place.{inside}
 use Rattle.board.specs.Spots.{all_within}
 use Rattle.board.proofs.Rules.{inside_at}

@@ -3,9 +3,9 @@ use Rattle.std.specs.Prelude.{List, [], ◌∷◌, ◌++◌, ℕ, ltb, length}
 use Rattle.basics.specs.Tests.{choose}
 use Rattle.refusal.specs.Refusals.{accepted}
 use Rattle.refusal.specs.Rows.{Row, given, first_of}
-use Rattle.refusal.specs.declared.Verdict.{Verdict}
-use Rattle.refusal.specs.declared.Verdict.TheVariants.{RoomTooSmall}
-use Rattle.board.specs.declared.Spot.{Spot}
+use Rattle.refusal.specs.Refusals.{Verdict}
+use Rattle.refusal.specs.declared.Refusal.TheVariants.{RoomTooSmall}
+use Rattle.board.specs.Spots.{Spot}
 use Rattle.tree.specs.Growth.{runs_of}
 use Rattle.tree.specs.Trees.{tree_rows}
 use Rattle.copper.specs.declared.Favour.{Favour}

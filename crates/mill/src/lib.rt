@@ -1,20 +1,21 @@
 // The copper of a wired feed as a clean list of segments for the mill.
 #![tactic(auto)]
 
-ghost use Rattle.std.specs.Prelude.{◌≡◌, true, [], map, ◌++◌, ◌*◌, ◌≤◌, ◌<◌, take, drop};
+ghost use Rattle.std.specs.Prelude.{◌≡◌, true, [], map, ◌*◌, ◌≤◌, ◌<◌, length, IfOk, IfErr, Err};
 ghost use Rattle.basics.specs.Tests.{each_of};
+ghost use Rattle.basics.specs.Lists.{padded};
 ghost use Rattle.board.specs.Place.{on_board, inside};
-ghost use Rattle.board.specs.Spots.{spots_from, all_within, all_apart};
-ghost use Rattle.spans.specs.Spans.{spans_from, Long, lows_of, highs_of};
+ghost use Rattle.board.specs.Spots.{all_within, all_apart};
+ghost use Rattle.spans.specs.Spans.{span};
 ghost use Rattle.laying.specs.Entries.{most_legs, leg_entries};
 ghost use Rattle.laying.specs.Reaching.{strip};
 ghost use Rattle.mill.specs.Numbered.{width, columns, counted, uncounted, row_number, column_number, span_of, is_inside, is_numbered, place_of, segment_of, segments_of};
 ghost use Rattle.mill.specs.Answer.{cut_with, cut_of, strip_of_cut};
 
-use board::{PINS, Place};
+use board::{PINS, Place, Spot};
 use copper::{Favour, Leg};
-use laying::{LEGS, Strip};
-use refusal::Verdict;
+use laying::{LEGS, NO_LEG, Strip};
+use refusal::{Refusal, Verdict};
 use spans::Span;
 
 // How many numbers a line of steps has.
@@ -23,7 +24,7 @@ const WIDTH: usize = 131072;
 // The number where columns begin.
 const COLUMNS: usize = WIDTH * WIDTH;
 
-// The answer of milling: its verdict and the number of segments.
+// The answer of milling: its verdict and the number of segments, side by side, since a refused answer has no segments (mill/Answer: cut_with).
 #[derive(Clone, Copy)]
 pub struct Milling {
     pub verdict: Verdict,
@@ -38,6 +39,7 @@ pub struct Cut {
 }
 
 // A number of the board, counted from the lowest.
+#[tactic(auto, using(crate::proofs::Counting::count_sum, crate::proofs::Counting::count_fits))]
 fn count_of(z: i32) -> usize
     requires { on_board z ≡ true }
     ensures { result ≡ counted z }
@@ -46,6 +48,7 @@ fn count_of(z: i32) -> usize
 }
 
 // The number of the board that is so many from the lowest.
+#[tactic(auto, using(crate::proofs::Counting::back_is, crate::proofs::Counting::back_fits))]
 fn count_back(n: usize) -> i32
     requires { n < width }
     ensures { result ≡ uncounted n }
@@ -54,167 +57,157 @@ fn count_back(n: usize) -> i32
 }
 
 // The number of the step of a row that begins at a place.
+#[tactic(auto, using(crate::proofs::Counting::place_read), unfolding(crate::specs::Numbered::row_number))]
 fn row_number(a: Place) -> usize
     requires { inside a ≡ true }
     ensures { result ≡ row_number a }
 {
-    let line = count_of(a.y);
-    let at = count_of(a.x);
-    line * WIDTH + at
+    count_of(a.y) * WIDTH + count_of(a.x)
 }
 
 // The number of the step of a column that begins at a place.
+#[tactic(auto, using(crate::proofs::Counting::place_read), unfolding(crate::specs::Numbered::column_number))]
 fn column_number(a: Place) -> usize
     requires { inside a ≡ true }
     ensures { result ≡ column_number a }
 {
-    let line = count_of(a.x);
-    let at = count_of(a.y);
-    COLUMNS + line * WIDTH + at
+    COLUMNS + count_of(a.x) * WIDTH + count_of(a.y)
 }
 
 // The numbers of the steps of a leg.
+#[tactic(auto, using(crate::proofs::Reading::leg_read))]
 fn span_of(leg: Leg) -> Span
     requires { is_inside leg ≡ true }
     ensures { result ≡ span_of leg }
 {
-    let from = leg.from;
-    let to = leg.to;
-    if from.y == to.y {
-        return spans::between(row_number(from), row_number(to));
+    if leg.from.y == leg.to.y {
+        spans::between(row_number(leg.from), row_number(leg.to))
+    } else if leg.from.x == leg.to.x {
+        spans::between(column_number(leg.from), column_number(leg.to))
+    } else {
+        Span { low: 0, high: 0 }
     }
-    if from.x == to.x {
-        return spans::between(column_number(from), column_number(to));
-    }
-    Span { low: 0, high: 0 }
 }
 
 // The place where the step with a number begins.
+#[tactic(auto, using(crate::proofs::Counting::back_read), unfolding(crate::specs::Numbered::place_of, basics::specs::Tests::choose))]
 fn place_of(n: usize) -> Place
     requires { n < 2 * columns }
     ensures { result ≡ place_of n }
 {
     if n < COLUMNS {
-        return Place {
+        Place {
             x: count_back(n % WIDTH),
             y: count_back(n / WIDTH),
-        };
-    }
-    Place {
-        x: count_back((n - COLUMNS) / WIDTH),
-        y: count_back(n % WIDTH),
+        }
+    } else {
+        Place {
+            x: count_back((n - COLUMNS) / WIDTH),
+            y: count_back(n % WIDTH),
+        }
     }
 }
 
 // The segment of a span.
+#[tactic(auto, using(crate::proofs::Filling::low_numbered, crate::proofs::Filling::high_numbered))]
 fn segment_of(span: Span) -> Leg
     requires { is_numbered span ≡ true }
     ensures { result ≡ segment_of span }
 {
-    let from = place_of(span.low);
-    let to = place_of(span.high);
-    Leg { from, to }
-}
-
-// The spans of the first legs, in two lent lists of their low and their high ends.
-fn fill_spans(legs: [Leg; LEGS], count: usize, lows: &mut [usize; LEGS], highs: &mut [usize; LEGS])
-    requires { (count ≤ most_legs) × Long lows.old highs.old × (each_of is_inside (take count legs) ≡ true) }
-    ensures lows_after { lows.new ≡ lows_of (map span_of (take count legs)) ++ drop count lows.old }
-    ensures highs_after { highs.new ≡ highs_of (map span_of (take count legs)) ++ drop count highs.old }
-{
-    let mut at = 0;
-    while at < count {
-        let leg = legs[at];
-        let span = span_of(leg);
-        lows[at] = span.low;
-        highs[at] = span.high;
-        at += 1;
+    Leg {
+        from: place_of(span.low),
+        to: place_of(span.high),
     }
 }
 
-// The segments of the first spans, as many entries as a board can have legs.
-fn segments_of(lows: &[usize; LEGS], highs: &[usize; LEGS], count: usize) -> [Leg; LEGS]
-    requires { (count ≤ most_legs) × Long lows.now highs.now × (each_of is_numbered (take count (spans_from lows.now highs.now)) ≡ true) }
-    ensures { result ≡ leg_entries (map segment_of (take count (spans_from lows.now highs.now))) }
+// The spans of some legs, as many entries as a board can have legs.
+fn spans_of(legs: &[Leg]) -> [Span; LEGS]
+    requires { (length legs.now ≤ most_legs) × (each_of is_inside legs.now ≡ true) }
+    ensures { result ≡ padded most_legs (span 0 0) (map span_of legs.now) }
 {
-    let none = laying::no_leg();
-    let mut segments = [none; LEGS];
-    let mut at = 0;
-    while at < count {
-        segments[at] = segment_of(Span {
-            low: lows[at],
-            high: highs[at],
-        });
-        at += 1;
+    let mut spans = [Span { low: 0, high: 0 }; LEGS];
+    for (at, leg) in legs.iter().enumerate() {
+        spans[at] = span_of(*leg);
+    }
+    spans
+}
+
+// The segments of some spans, as many entries as a board can have legs. A loop beside that of the spans, and not one function over what is made of an
+// entry: it would have to say what that may be asked of each, and what it answers, which is longer than the loop.
+#[tactic(auto, unfolding(laying::specs::Entries::leg_entries))]
+fn segments_of(spans: &[Span]) -> [Leg; LEGS]
+    requires { (length spans.now ≤ most_legs) × (each_of is_numbered spans.now ≡ true) }
+    ensures { result ≡ leg_entries (map segment_of spans.now) }
+{
+    let mut segments = [laying::NO_LEG; LEGS];
+    for (at, span) in spans.iter().enumerate() {
+        segments[at] = segment_of(*span);
     }
     segments
 }
 
-// The first legs as a clean list of segments, with their number.
-fn cut_legs(legs: [Leg; LEGS], count: usize) -> Strip
-    requires { (count ≤ most_legs) × (each_of is_inside (take count legs) ≡ true) }
-    ensures { result ≡ strip (segments_of (take count legs)) }
+// Some legs as a clean list of segments, with their number.
+fn cut_legs(legs: &[Leg]) -> Strip
+    requires { (length legs.now ≤ most_legs) × (each_of is_inside legs.now ≡ true) }
+    ensures { result ≡ strip (segments_of legs.now) }
 {
-    let mut lows = [0usize; LEGS];
-    let mut highs = [0usize; LEGS];
-    fill_spans(legs, count, &mut lows, &mut highs);
-    let kept = spans::clean(&mut lows, &mut highs, count);
-    let list = segments_of(&lows, &highs, kept);
-    Strip { count: kept, list }
+    let mut spans = spans_of(legs);
+    let count = spans::clean(&mut spans, legs.len());
+    let list = segments_of(&spans[..count]);
+    Strip { count, list }
 }
 
 // A refused milling: no segments.
+#[tactic(auto, unfolding(crate::specs::Answer::cut_with, laying::specs::Entries::leg_entries))]
 pub fn refused(verdict: Verdict) -> Cut
     ensures { result ≡ cut_with verdict [] }
 {
-    let none = laying::no_leg();
-    let list = [none; LEGS];
-    let milling = Milling {
-        verdict,
-        segments: 0,
-    };
-    Cut { milling, list }
+    Cut {
+        milling: Milling {
+            verdict,
+            segments: 0,
+        },
+        list: [laying::NO_LEG; LEGS],
+    }
 }
 
 // The segments of an answer, with their number.
 pub fn strip_of(cut: Cut) -> Strip
     ensures { result ≡ strip_of_cut cut }
 {
-    let milling = cut.milling;
+    // The list is read into a variable: an array that goes straight from a field into a struct is not covered by the prover.
     let list = cut.list;
     Strip {
-        count: milling.segments,
+        count: cut.milling.segments,
         list,
     }
 }
 
-// The copper as segments of a feed whose pins stand on the board, no two of them too near, with room for so many, where this is said of the shape to favour.
-#[tactic(auto, using(crate::proofs::Room::room_short))]
-pub fn mill_feed(
-    xs: &[i32; PINS],
-    ys: &[i32; PINS],
-    there: &[bool; PINS],
-    room: usize,
-    favour: Favour,
-) -> Cut
-    requires { (all_within (spots_from xs.now ys.now there.now) ≡ true) × (all_apart (spots_from xs.now ys.now there.now) ≡ true) }
-    ensures { result ≡ cut_of (spots_from xs.now ys.now there.now) room favour }
+// The copper as segments of a feed whose pins stand on the board, no two of them too near, or why it is not given.
+#[tactic(auto, using(crate::proofs::Room::wiring_refuses))]
+fn cut_feed(spots: &[Spot; PINS], room: usize, favour: Favour) -> Result<Cut, Refusal>
+    requires { (all_within spots.now ≡ true) × (all_apart spots.now ≡ true) }
+    ensures ok { IfOk result (λ cut. cut ≡ cut_of spots.now room favour) }
+    ensures err { IfErr result (λ r. cut_with (Err r) [] ≡ cut_of spots.now room favour) }
 {
-    let laid = wiring::wire_feed(xs, ys, there, LEGS, favour);
-    let wired = laid.wiring;
-    let verdict = wired.verdict;
-    if !refusal::is_accepted(verdict) {
-        return refused(verdict);
-    }
-    let legs = laid.list;
-    let strip = cut_legs(legs, wired.legs);
+    let laid = wiring::wire_feed(spots, LEGS, favour);
+    laid.wiring.verdict?;
+    let strip = cut_legs(&laid.list[..laid.wiring.legs]);
     if room < strip.count {
-        return refused(Verdict::RoomTooSmall);
+        return Err(Refusal::RoomTooSmall);
     }
     let list = strip.list;
     let milling = Milling {
-        verdict: Verdict::Accepted,
+        verdict: Ok(()),
         segments: strip.count,
     };
-    Cut { milling, list }
+    Ok(Cut { milling, list })
+}
+
+// The copper as segments of a feed whose pins stand on the board, no two of them too near, with room for so many, where this is said of the shape to favour.
+pub fn mill_feed(spots: &[Spot; PINS], room: usize, favour: Favour) -> Cut
+    requires { (all_within spots.now ≡ true) × (all_apart spots.now ≡ true) }
+    ensures { result ≡ cut_of spots.now room favour }
+{
+    cut_feed(spots, room, favour).unwrap_or_else(|refusal| refused(Err(refusal)))
 }

@@ -17,45 +17,20 @@ pub most_records_lem : (form : Form) → most_pins * record_size form ≡ most_b
 most_records_lem Old = refl
 most_records_lem New = refl
 
--- No bytes are a whole number of records,
-pub none_whole : (form : Form) → 0 % record_size form ≡ 0
-none_whole Old = refl
-none_whole New = refl
+-- Fewer bytes than a record has are counted as none.
+pub none_left : (form : Form) (bytes : ℕ) → bytes < record_size form → bytes / record_size form ≡ 0
+none_left Old bytes h = omega arith
+none_left New bytes h = omega arith
 
--- and counted as none;
-pub none_count : (form : Form) → 0 / record_size form ≡ 0
-none_count Old = refl
-none_count New = refl
+-- The bytes of so many records are a whole number of them,
+pub whole : (form : Form) (n : ℕ) → n * record_size form % record_size form ≡ 0
+whole Old n = omega arith
+whole New n = omega arith
 
--- one is a whole number,
-pub one_whole : (form : Form) → record_size form % record_size form ≡ 0
-one_whole Old = refl
-one_whole New = refl
-
--- and so are two such numbers of bytes together.
-pub more_whole : (form : Form) (a b : ℕ) → a % record_size form ≡ 0 → b % record_size form ≡ 0 → (a + b) % record_size form ≡ 0
-more_whole Old a b h k = omega arith
-more_whole New a b h k = omega arith
-
--- One record at most and so many more are at most one more.
-pub more_most : (form : Form) (a b n : ℕ) → a ≤ record_size form → b ≤ n * record_size form → a + b ≤ suc n * record_size form
-more_most Old a b n h k = omega arith
-more_most New a b n h k = omega arith
-
--- Record n ends where the next begins,
-pub next_start : (form : Form) (n : ℕ) → n * record_size form + record_size form ≡ (n + 1) * record_size form
-next_start Old n = omega arith
-next_start New n = omega arith
-
--- and that is within the bytes of a map that has more than n records.
-pub ends-within : (form : Form) (n bytes : ℕ) → n < bytes / record_size form → n * record_size form + record_size form ≤ bytes
-ends-within Old n bytes h = omega arith
-ends-within New n bytes h = omega arith
-
--- There are no more records than bytes.
-pub count_low : (form : Form) (bytes : ℕ) → bytes / record_size form ≤ bytes
-count_low Old bytes = omega arith
-count_low New bytes = omega arith
+-- and fewer records have no more.
+pub fewer : (form : Form) (a b : ℕ) → a ≤ b → a * record_size form ≤ b * record_size form
+fewer Old a b h = omega arith
+fewer New a b h = omega arith
 
 -- A whole number of records is as many as are counted;
 pub whole_count : (form : Form) (bytes : ℕ) → bytes % record_size form ≡ 0 → bytes ≡ bytes / record_size form * record_size form

@@ -1,9 +1,7 @@
 -- What a pin map is, in the old form or the new: how many bytes its records and itself have, and which pins a form can hold.
-use Rattle.std.specs.Prelude.{Bool, true, List, ℕ, ◌<◌, eqb, ltb, get_or}
+use Rattle.std.specs.Prelude.{Bool, true, List, ℕ, ◌<◌, eqb, ltb, get_or, None, Some}
 use Rattle.basics.specs.Tests.{both, each_of}
-use Rattle.drawing.specs.declared.Stand.{Stand}
-use Rattle.drawing.specs.declared.Stand.TheVariants.{Absent, There}
-use Rattle.drawing.specs.declared.Pin.{Pin}
+use Rattle.drawing.specs.Pins.{Pin}
 use Rattle.pinmap.specs.declared.Form.{Form}
 use Rattle.pinmap.specs.declared.Form.TheVariants.{Old, New}
 
@@ -21,28 +19,20 @@ abbrev pub most_bytes : Form → ℕ
 most_bytes Old = 384
 most_bytes New = 512
 
--- A pin stands there with net 1 and part number 0, or is absent.
-abbrev pub plain_in : Stand → Bool
-plain_in Absent = true
-plain_in (There held) = both (eqb held.net 1) (eqb held.part 0)
-
 -- The pin, if it is there, has net 1 and part number 0.
 unfoldable pub plain : Pin → Bool
-plain q = plain_in q.stand
+plain None = true
+plain (Some held) = both (eqb held.net 1) (eqb held.part 0)
 
 -- A form can hold a pin of a drawing that keeps the rules: the old one a pin of net 1 with part number 0, the new one any.
 abbrev pub holds : Form → Pin → Bool
 holds Old q = plain q
 holds New q = true
 
--- A pin stands there with a part number that four bytes hold, or is absent.
-abbrev pub part_in : Stand → Bool
-part_in Absent = true
-part_in (There held) = ltb held.part 4294967296
-
 -- The part number of the pin, if it is there, takes at most the four bytes that a record has for it.
 unfoldable pub part_fits : Pin → Bool
-part_fits q = part_in q.stand
+part_fits None = true
+part_fits (Some held) = ltb held.part 4294967296
 
 -- So does that of each pin.
 abbrev pub parts_fit : List Pin → Bool

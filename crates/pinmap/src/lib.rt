@@ -21,19 +21,22 @@ pub enum Form {
     New,
 }
 
-// How many bytes a record of this form has.
-pub fn record_bytes(form: Form) -> usize
-    ensures { result ≡ record_size form }
-{
-    match form {
-        Form::Old => OLD_BYTES,
-        Form::New => NEW_BYTES,
+impl Form {
+    // How many bytes a record of this form has.
+    pub fn record_bytes(self) -> usize
+        ensures { result ≡ record_size self }
+    {
+        match self {
+            Form::Old => OLD_BYTES,
+            Form::New => NEW_BYTES,
+        }
     }
-}
 
-// How many bytes a map of this form has at most.
-pub fn most_bytes(form: Form) -> usize
-    ensures { result ≡ most_bytes form }
-{
-    PINS * record_bytes(form)
+    // How many bytes a map of this form has at most.
+    #[tactic(auto, using(crate::proofs::Sizes::size_range, crate::proofs::Sizes::most_records_lem))]
+    pub fn most_bytes(self) -> usize
+        ensures { result ≡ most_bytes self }
+    {
+        PINS * self.record_bytes()
+    }
 }

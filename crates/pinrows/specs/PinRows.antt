@@ -2,11 +2,10 @@
 use Rattle.std.specs.Prelude.{Bool, not, List, [], ◌∷◌, ℕ, leb}
 use Rattle.basics.specs.Tests.{either}
 use Rattle.refusal.specs.Rows.{Row, given}
-use Rattle.refusal.specs.declared.Verdict.TheVariants.{NoSuchPin, PinThere, Outside, PinTooNear, NoSuchNet}
+use Rattle.refusal.specs.declared.Refusal.TheVariants.{NoSuchPin, PinThere, Outside, PinTooNear, NoSuchNet}
 use Rattle.board.specs.Place.{inside}
 use Rattle.board.specs.Spots.{most_pins, crowded}
-use Rattle.drawing.specs.declared.Pin.{Pin}
-use Rattle.drawing.specs.Pins.{is_there, is_net, spots_of, pin_at, stands_at}
+use Rattle.drawing.specs.Pins.{Pin, is_there, is_net, spots_of, pin_at, stands_at}
 use Rattle.edits.specs.declared.stated.Making.{Making}
 use Rattle.edits.specs.declared.stated.Making.TheVariants.{Placing, Moving, Removing}
 

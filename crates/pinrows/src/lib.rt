@@ -9,73 +9,60 @@ ghost use Rattle.pinrows.specs.PinRows.{making_rows};
 use board::{PINS, Place};
 use drawing::{Held, Pin};
 use edits::stated::Making;
-use refusal::Verdict;
+use refusal::{Refusal, Verdict};
 
 // Placing on these pins: 6, 7, 21, 8, 9.
-fn turned_placing(pins: [Pin; PINS], pin: usize, held: Held) -> Verdict
-    ensures { result ≡ first_of (making_rows pins (Placing pin held)) }
+#[tactic(auto, unfolding(refusal::specs::Rows::first_of, basics::specs::Tests::choose, drawing::specs::Pins::is_there))]
+fn turned_placing(pins: &[Pin; PINS], pin: usize, held: Held) -> Verdict
+    ensures { result ≡ first_of (making_rows pins.now (Placing pin held)) }
 {
     if PINS <= pin {
-        return Verdict::NoSuchPin;
+        return Err(Refusal::NoSuchPin);
     }
-    let there = drawing::pin_at(pins, pin);
-    if drawing::is_there(there) {
-        return Verdict::PinThere;
+    if drawing::pin_at(pins, pin).is_some() {
+        return Err(Refusal::PinThere);
     }
     if !drawing::is_net(held.net) {
-        return Verdict::NoSuchNet;
+        return Err(Refusal::NoSuchNet);
     }
-    let at = held.place;
-    if !board::is_inside(at) {
-        return Verdict::Outside;
+    if !board::is_inside(held.place) {
+        return Err(Refusal::Outside);
     }
-    if drawing::is_crowded(pins, pin, at) {
-        Verdict::PinTooNear
-    } else {
-        Verdict::Accepted
+    if drawing::is_crowded(pins, pin, held.place) {
+        return Err(Refusal::PinTooNear);
     }
+    Ok(())
 }
 
 // Removing from these pins, and what moving is turned away by first: 6.
-fn turned_removing(pins: [Pin; PINS], pin: usize) -> Verdict
-    ensures { result ≡ first_of (making_rows pins (Removing pin)) }
+#[tactic(auto, unfolding(refusal::specs::Rows::first_of, basics::specs::Tests::choose, basics::specs::Tests::either, drawing::specs::Pins::is_there))]
+fn turned_removing(pins: &[Pin; PINS], pin: usize) -> Verdict
+    ensures { result ≡ first_of (making_rows pins.now (Removing pin)) }
 {
-    if PINS <= pin {
-        return Verdict::NoSuchPin;
-    }
-    let there = drawing::pin_at(pins, pin);
-    if drawing::is_there(there) {
-        Verdict::Accepted
-    } else {
-        Verdict::NoSuchPin
+    match drawing::pin_at(pins, pin) {
+        Some(_) => Ok(()),
+        None => Err(Refusal::NoSuchPin),
     }
 }
 
 // Moving on these pins: 6, 8, 9.
-fn turned_moving(pins: [Pin; PINS], pin: usize, to: Place) -> Verdict
-    ensures { result ≡ first_of (making_rows pins (Moving pin to)) }
+#[tactic(auto, unfolding(refusal::specs::Rows::first_of, basics::specs::Tests::choose, basics::specs::Tests::either))]
+fn turned_moving(pins: &[Pin; PINS], pin: usize, to: Place) -> Verdict
+    ensures { result ≡ first_of (making_rows pins.now (Moving pin to)) }
 {
-    let verdict = turned_removing(pins, pin);
-    if !refusal::is_accepted(verdict) {
-        return verdict;
-    }
+    turned_removing(pins, pin)?;
     if !board::is_inside(to) {
-        return Verdict::Outside;
+        return Err(Refusal::Outside);
     }
-    let there = drawing::pin_at(pins, pin);
-    if drawing::stands_at(there, to) {
-        return Verdict::PinTooNear;
+    if drawing::stands_at(drawing::pin_at(pins, pin), to) || drawing::is_crowded(pins, pin, to) {
+        return Err(Refusal::PinTooNear);
     }
-    if drawing::is_crowded(pins, pin, to) {
-        Verdict::PinTooNear
-    } else {
-        Verdict::Accepted
-    }
+    Ok(())
 }
 
 // Making an edit on these pins, by what the call states.
-pub fn turned_edit(pins: [Pin; PINS], making: Making) -> Verdict
-    ensures { result ≡ first_of (making_rows pins making) }
+pub fn turned_edit(pins: &[Pin; PINS], making: Making) -> Verdict
+    ensures { result ≡ first_of (making_rows pins.now making) }
 {
     match making {
         Making::Placing(pin, held) => turned_placing(pins, pin, held),

@@ -17,7 +17,7 @@ use std::io::{self, ErrorKind, Read, Write};
 use text::ANSWER_BYTES;
 
 // A log in play: the desk as it stands, how many bytes of the line that is being read are kept, how many lines were played,
-// and whether the input has ended.
+// and whether the input has ended, a flag of its own: a log of which nothing is kept may go on.
 #[derive(Clone, Copy)]
 pub struct Session {
     pub desk: Desk,
@@ -31,6 +31,7 @@ fn send<W: Write>(writer: &mut W, out: &[u8; ANSWER_BYTES], bytes: usize) -> io:
     requires { bytes ≤ answer_bytes }
     ensures { Writes result (W.contents writer.old) (W.contents writer.new) (take bytes out.now) }
 {
+    // A loop over `write`: of what `write_all` has written when it fails the library says nothing, and `Writes` does.
     let mut done = 0;
     while done < bytes {
         let n = writer.write(&out[done..bytes])?;
@@ -71,16 +72,13 @@ fn end_line<W: Write>(
     ensures kept_value { IfOk result (λ s. s.kept ≡ 0) }
     ensures written { Writes result (W.contents writer.old) (W.contents writer.new) (line_answer (log_of session line.now out.old)) }
 {
-    let d = session.desk;
-    let kept = session.kept;
-    let lines = std::num::wrapping_add_usize(session.lines, 1);
-    let ended = session.ended;
-    let desk = play_line(writer, d, lines, &line[..kept], out)?;
+    let lines = session.lines.wrapping_add(1);
+    let desk = play_line(writer, session.desk, lines, &line[..session.kept], out)?;
     Ok(Session {
         desk,
         kept: 0,
         lines,
-        ended,
+        ended: session.ended,
     })
 }
 
@@ -121,6 +119,7 @@ fn play_window<W: Write>(
     ensures kept_le_most_kept { IfOk result (λ s. s.kept ≤ most_kept) }
     ensures written { Writes result (W.contents writer.old) (W.contents writer.new) (heard_answers (log_of session line.old out.old) window.now) }
 {
+    // By positions: the pieces between newlines do not tell whether the last of them ends in one, which `take_in` has to know.
     let mut s = session;
     let mut at = 0;
     while at < window.len() {
@@ -155,8 +154,7 @@ fn play_some<R: Read, W: Write>(
     play_window(writer, s, line, out, &window[..heard])
 }
 
-// Reads to the end of the input, and takes in what comes. Nothing says that an input ends, so the turns are counted down from a
-// number that no run uses up.
+// Reads to the end of the input, and takes in what comes. Nothing says that an input ends, so there are as many turns as no run uses up.
 fn play_all<R: Read, W: Write>(
     reader: &mut R,
     writer: &mut W,
@@ -170,10 +168,11 @@ fn play_all<R: Read, W: Write>(
     ensures failed { OnErr result (Failed (log_of session line.old out.old) (R.remaining reader.old) (R.remaining reader.new) (W.contents writer.old) (W.contents writer.new)) }
 {
     let mut s = session;
-    let mut turns = u64::MAX;
-    while turns > 0 && !s.ended {
+    for _ in 0..u64::MAX {
+        if s.ended {
+            break;
+        }
         s = play_some(reader, writer, s, line, out)?;
-        turns -= 1;
     }
     Ok(s)
 }
@@ -187,9 +186,8 @@ pub fn play_log<R: Read, W: Write>(reader: &mut R, writer: &mut W) -> io::Result
 {
     let mut line = [0u8; MOST_KEPT];
     let mut out = [0u8; ANSWER_BYTES];
-    let desk = Desk::empty();
     let session = Session {
-        desk,
+        desk: Desk::empty(),
         kept: 0,
         lines: 0,
         ended: false,

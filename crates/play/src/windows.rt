@@ -4,7 +4,6 @@ ghost use Rattle.std.proofs.lemmas.List.Edits.{sets};
 ghost use Rattle.text.specs.Words.{newline as newlineByte, stop_at};
 ghost use Rattle.play.specs.Log.{most_kept, bytes_heard, window_heard};
 
-use basics::smaller;
 use text::words::stop_at;
 
 // Of a longer line it is enough to keep so many bytes.
@@ -28,17 +27,13 @@ pub(crate) fn keep(line: &mut [u8; MOST_KEPT], kept: usize, bytes: &[u8]) -> usi
     ensures value { result ≡ min (kept + length bytes.now) most_kept }
     ensures line_after { line.new ≡ sets line.old kept (take (most_kept - kept) bytes.now) }
 {
-    let n = smaller(bytes.len(), MOST_KEPT - kept);
-    let mut i = 0;
-    while i < n {
-        line[kept + i] = bytes[i];
-        i += 1;
-    }
+    let n = bytes.len().min(MOST_KEPT - kept);
+    line[kept..kept + n].copy_from_slice(&bytes[..n]);
     kept + n
 }
 
 // Where no byte came, the input has ended: the window gets the newline that the last line lacks, if one was begun. Says how many bytes are to be taken in.
-#[tactic(auto, using(crate::proofs::Ended::ended_before, crate::proofs::Ended::ended_window))]
+#[tactic(auto, using(crate::proofs::Ended::ended_window))]
 pub(crate) fn to_hear(window: &mut [u8], came: usize, line: &[u8]) -> usize
     requires { (came ≤ length window.old) × (0 < length window.old) }
     ensures value { result ≡ bytes_heard came line.now }
@@ -49,8 +44,5 @@ pub(crate) fn to_hear(window: &mut [u8], came: usize, line: &[u8]) -> usize
         return came;
     }
     window[0] = b'\n';
-    if line.len() == 0 {
-        return 0;
-    }
-    1
+    usize::from(!line.is_empty())
 }

@@ -7,8 +7,10 @@ use native.Mathlib.Omega.{arith}
 use lib.ListN.{length}
 use borrow.Author.Tests.{eq-eqb, ne_eqb}
 use Rattle.basics.specs.Tests.{choose}
-use Rattle.basics.proofs.Tests.{choose_yes, choose_no}
-use Rattle.refusal.specs.Refusals.{accepted}
+use Rattle.basics.proofs.Tests.{opposite, choose_yes, choose_no}
+use Rattle.std.specs.Prelude.{Ok, Err}
+use Rattle.std.specs.Result.{is_err}
+use Rattle.refusal.specs.Refusals.{Verdict, accepted}
 use Rattle.refusal.specs.declared.Told.{Told}
 use Rattle.drops.specs.declared.Lost.{Lost}
 use Rattle.text.specs.Text.{text, text_for_each}
@@ -37,12 +39,23 @@ unfolding hex_part
 lent_some [] h = absurd (h refl)
 lent_some (b ∷ rest) h = refl
 
+-- The library's test of an Err says which of the two a verdict is.
+pub refused_is : (v : Verdict) → is_err v ≡ true → accepted v ≡ false
+unfolding accepted
+refused_is (Ok a) e = absurd (opposite e refl)
+refused_is (Err r) e = refl
+
+pub passed_is : (v : Verdict) → is_err v ≡ false → accepted v ≡ true
+unfolding accepted
+passed_is (Ok a) e = refl
+passed_is (Err r) e = absurd (opposite refl e)
+
 -- Drops that are refused print the line of the verdict,
-pub lost_refused : (lost : Lost) → accepted lost.verdict ≡ false → verdict_line lost.verdict ≡ lost_line lost
+pub lost_refused : (lost : Lost) → is_err lost.verdict ≡ true → verdict_line lost.verdict ≡ lost_line lost
 unfolding lost_line
-lost_refused lost h = sym (choose_no (drops_line lost.drops) (verdict_line lost.verdict) h)
+lost_refused lost h = sym (choose_no (drops_line lost.drops) (verdict_line lost.verdict) (refused_is lost.verdict h))
 
 -- and accepted ones every drop.
-pub lost_accepted : (lost : Lost) → accepted lost.verdict ≡ true → text "0" ++ text_for_each drop_text lost.drops ++ text "\n" ≡ lost_line lost
+pub lost_accepted : (lost : Lost) → is_err lost.verdict ≡ false → text "0" ++ text_for_each drop_text lost.drops ++ text "\n" ≡ lost_line lost
 unfolding lost_line drops_line
-lost_accepted lost h = sym (choose_yes (drops_line lost.drops) (verdict_line lost.verdict) h)
+lost_accepted lost h = sym (choose_yes (drops_line lost.drops) (verdict_line lost.verdict) (passed_is lost.verdict h))

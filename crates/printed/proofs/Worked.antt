@@ -6,14 +6,15 @@ use lib.IntN.{pos, negsuc}
 use lib.Ieee.{nan, inf, fin, to_bits}
 use Rattle.basics.specs.Tests.{choose}
 use Rattle.refusal.specs.Refusals.{accepted}
-use Rattle.refusal.specs.declared.Verdict.{Verdict}
+use Rattle.refusal.specs.declared.Refusal.TheVariants.{MapLength, OtherJob, OutOfRange}
+use Rattle.std.specs.Prelude.{Ok, Err}
 use Rattle.text.specs.Text.{text, text_for_each}
 use Rattle.text.specs.Digits.{digits, integer, place_text, hex_digit, hex, float_text}
 use Rattle.printed.specs.Answers.{carried_text, told_line, verdict_line, hex_part, written_line, wired_line, milled_line, job_line, run_line, leg_line, closed_line, drawing_line, pin_line, drop_text, drops_line, lost_line, not_a_call_line}
 
 -- Answers of each kind.
 pub printed :
-    not_a_call_line 5 ++ verdict_line Verdict.Accepted ++ verdict_line Verdict.MapLength ++ verdict_line (Verdict.OtherJob 2) ++ written_line 0 []
+    not_a_call_line 5 ++ verdict_line (Ok tt) ++ verdict_line (Err MapLength) ++ verdict_line (Err (OtherJob 2)) ++ written_line 0 []
     ++ written_line 12 (0 ∷ 9 ∷ 255 ∷ 238 ∷ []) ++ wired_line 80000 1 2 4 ++ milled_line 62 ++ job_line 7 160 2 5 ++ run_line 0 31 (text "lower")
     ++ leg_line (text "leg ") (record { x = negsuc 19999; y = pos 0 }) (record { x = pos 2147483647; y = negsuc 2147483647 })
     ++ leg_line (text "segment ") (record { x = pos 0; y = negsuc 39 }) (record { x = pos 0; y = pos 40 }) ++ closed_line
@@ -28,10 +29,10 @@ printed = refl
 pub printed_drops :
     lost_line
     (record {
-      verdict = Verdict.Accepted;
+      verdict = Ok tt;
       drops = fin false 0 (pos 0) ∷ fin false 3 (pos 2) ∷ fin true 0 (pos 0) ∷ fin false 1 (negsuc 148) ∷ inf true ∷ nan ∷ [];
     })
-    ++ lost_line (record { verdict = Verdict.OutOfRange; drops = [] })
+    ++ lost_line (record { verdict = Err OutOfRange; drops = [] })
     ≡ text "0 00000000 41400000 80000000 00000001 ff800000 7fc00000\nrefused 20\n"
 unfolding choose accepted digits to_bits hex_digit hex float_text text_for_each carried_text told_line drop_text drops_line lost_line
 printed_drops = refl

@@ -1,10 +1,8 @@
 -- How answers are printed: each line with its newline.
-use Rattle.std.specs.Prelude.{List, [], ◌∷◌, ◌++◌, ℕ, eqb, take, Float}
+use Rattle.std.specs.Prelude.{List, [], ◌∷◌, ◌++◌, ℕ, eqb, take, Float, Option, None, Some}
 use Rattle.basics.specs.Tests.{choose}
 use Rattle.refusal.specs.Refusals.{accepted, told_of}
-use Rattle.refusal.specs.declared.Verdict.{Verdict}
-use Rattle.refusal.specs.declared.Carried.{Carried}
-use Rattle.refusal.specs.declared.Carried.TheVariants.{Nothing, Record}
+use Rattle.refusal.specs.Refusals.{Verdict}
 use Rattle.refusal.specs.declared.Told.{Told}
 use Rattle.board.specs.declared.Place.{Place}
 use Rattle.drops.specs.declared.Lost.{Lost}
@@ -44,9 +42,9 @@ abbrev pub most_drop_bytes : ℕ
 most_drop_bytes = 9
 
 -- What a refusal carries: nothing, or ` record R`.
-unfoldable pub carried_text : Carried → List ℕ
-carried_text Nothing = []
-carried_text (Record r) = field " record " r
+unfoldable pub carried_text : Option ℕ → List ℕ
+carried_text None = []
+carried_text (Some r) = field " record " r
 
 -- `0` where a call is accepted; `refused N`, or `refused N record R`.
 unfoldable pub told_line : Told → List ℕ

@@ -8,10 +8,9 @@ ghost use Rattle.board.specs.Spots.{most_pins};
 ghost use Rattle.text.specs.Text.{text_for_each, over, most_room, answer_bytes, Holds};
 ghost use Rattle.printed.specs.Answers.{most_line_bytes, most_run_bytes, most_leg_bytes, most_pin_bytes, most_word_bytes, most_carried_bytes, most_hex_bytes, most_drop_bytes, hex_part, carried_text, told_line, verdict_line, written_line, wired_line, milled_line, job_line, run_line, leg_line, closed_line, drawing_line, pin_line, drop_text, lost_line, not_a_call_line};
 
-use basics::smaller;
 use board::{PINS, Place};
 use drops::Lost;
-use refusal::{Carried, Told, Verdict};
+use refusal::{Told, Verdict};
 use text::put::{put, put_decimal, put_field, put_float, put_hex, put_place};
 use text::{ANSWER_BYTES, MOST_ROOM};
 
@@ -140,14 +139,15 @@ pub fn print_pin(
 }
 
 // What a refusal carries.
-fn put_carried(out: &mut [u8; ANSWER_BYTES], at: usize, carried: Carried) -> usize
+#[tactic(auto, unfolding(crate::specs::Answers::carried_text))]
+fn put_carried(out: &mut [u8; ANSWER_BYTES], at: usize, carried: Option<usize>) -> usize
     requires { at + most_carried_bytes ≤ answer_bytes }
     ensures value { (result ≡ at + length (carried_text carried)) × (result ≤ at + most_carried_bytes) }
     ensures out_after { out.new ≡ sets out.old at (carried_text carried) }
 {
     match carried {
-        Carried::Nothing => at,
-        Carried::Record(r) => put_field(out, at, b" record ", r),
+        None => at,
+        Some(record) => put_field(out, at, b" record ", record),
     }
 }
 
@@ -155,12 +155,11 @@ fn put_carried(out: &mut [u8; ANSWER_BYTES], at: usize, carried: Carried) -> usi
 fn print_told(told: Told, out: &mut [u8; ANSWER_BYTES]) -> usize
     ensures { Holds most_line_bytes (told_line told) out.old result out.new }
 {
-    let carried = told.carried;
     if told.number == 0 {
         return put(out, 0, b"0\n");
     }
     let one = put_field(out, 0, b"refused ", told.number as usize);
-    let two = put_carried(out, one, carried);
+    let two = put_carried(out, one, told.carried);
     put(out, two, b"\n")
 }
 
@@ -188,7 +187,7 @@ fn put_lent(out: &mut [u8; ANSWER_BYTES], at: usize, bytes: &[u8]) -> usize
 pub fn print_written(bytes: usize, buffer: &[u8], out: &mut [u8; ANSWER_BYTES]) -> usize
     ensures { ((result ≡ length (written_line bytes buffer.now)) × (result ≤ answer_bytes)) × (out.new ≡ over (written_line bytes buffer.now) out.old) }
 {
-    let shown = smaller(buffer.len(), MOST_ROOM);
+    let shown = buffer.len().min(MOST_ROOM);
     let one = put_field(out, 0, b"0 ", bytes);
     let two = put_lent(out, one, &buffer[..shown]);
     put(out, two, b"\n")
@@ -205,16 +204,14 @@ fn put_drop(drop: f32, out: &mut [u8; ANSWER_BYTES], at: usize) -> usize
 }
 
 // The drops of all pin numbers, from a position on.
-fn put_drops(drops: [f32; PINS], out: &mut [u8; ANSWER_BYTES], at: usize) -> usize
+fn put_drops(drops: &[f32; PINS], out: &mut [u8; ANSWER_BYTES], at: usize) -> usize
     requires { at + most_pins * most_drop_bytes ≤ answer_bytes }
-    ensures value { (result ≡ at + length (text_for_each drop_text drops)) × (result ≤ at + most_pins * most_drop_bytes) }
-    ensures out_after { out.new ≡ sets out.old at (text_for_each drop_text drops) }
+    ensures value { (result ≡ at + length (text_for_each drop_text drops.now)) × (result ≤ at + most_pins * most_drop_bytes) }
+    ensures out_after { out.new ≡ sets out.old at (text_for_each drop_text drops.now) }
 {
     let mut next = at;
-    let mut pin = 0;
-    while pin < PINS {
-        next = put_drop(drops[pin], out, next);
-        pin += 1;
+    for &drop in drops {
+        next = put_drop(drop, out, next);
     }
     next
 }
@@ -223,12 +220,10 @@ fn put_drops(drops: [f32; PINS], out: &mut [u8; ANSWER_BYTES], at: usize) -> usi
 pub fn print_drops(lost: Lost, out: &mut [u8; ANSWER_BYTES]) -> usize
     ensures { ((result ≡ length (lost_line lost)) × (result ≤ answer_bytes)) × (out.new ≡ over (lost_line lost) out.old) }
 {
-    let verdict = lost.verdict;
-    if !refusal::is_accepted(verdict) {
-        return print_verdict(verdict, out);
+    if lost.verdict.is_err() {
+        return print_verdict(lost.verdict, out);
     }
-    let drops = lost.drops;
     let one = put(out, 0, b"0");
-    let two = put_drops(drops, out, one);
+    let two = put_drops(&lost.drops, out, one);
     put(out, two, b"\n")
 }

@@ -1,106 +1,74 @@
 -- A map read record by record: the first faulty one ends the reading, and the rows of a map are apart. From the laws of rows; assumes nothing.
-use mathlib.Core.Path.{◌≡◌, refl, ap}
-use mathlib.Core.Bool.{Bool, true, false, false≢true}
+use mathlib.Core.Path.{◌≡◌, refl, sym, ap}
+use mathlib.Core.Bool.{Bool, true, false}
 use mathlib.Core.List.{List, [], ◌∷◌}
 use Prim.Native.Nat.{ℕ, ◌+◌, ◌≤◌}
 use lib.Dec.{eqb}
 use native.Mathlib.Omega.{arith}
 use borrow.Author.Tests.{eq-eqb, ne_eqb}
+use Rattle.std.specs.Prelude.{Result, Ok, Err}
 use Rattle.basics.specs.Tests.{choose}
-use Rattle.refusal.specs.declared.Verdict.{Verdict}
-use Rattle.refusal.specs.declared.Verdict.TheVariants.{JobZero, MapLength, OtherJob, FaultyRecord}
-use Rattle.refusal.specs.Refusals.{accepted}
-use Rattle.refusal.specs.Rows.{Row, given, first_of}
-use Rattle.refusal.proofs.Rows.{number_of, unlike, Differs, Apart, differs_by, joined}
-use Rattle.drawing.specs.declared.Pin.{Pin}
-use Rattle.drawing.specs.Pins.{no_pins, spots_of}
+use Rattle.basics.proofs.Tests.{opposite, choose_no}
+use Rattle.refusal.specs.declared.Refusal.{Refusal}
+use Rattle.refusal.specs.declared.Refusal.TheVariants.{JobZero, MapLength, OtherJob, FaultyRecord}
+use Rattle.refusal.specs.Refusals.{Verdict, number_of, accepted}
+use Rattle.refusal.specs.Rows.{Row, given, first_of, granted}
+use Rattle.refusal.proofs.Rows.{unlike, Differs, Apart, differs_by, hit, granted_on, granted_away}
+use Rattle.drawing.specs.Pins.{Pin, no_pins, spots_of}
 use Rattle.pinmap.specs.declared.Form.{Form}
 use Rattle.records.specs.declared.MapRecord.{MapRecord}
-use Rattle.readmap.specs.declared.Reading.{Reading}
 use Rattle.records.specs.Record.{record_rows}
 use Rattle.records.proofs.Faults.{judged, record_apart}
 use Rattle.readmap.specs.Map.{records_of, with_pin_of, with_pins_of, rows_from, wrong_length, map_rows, under_rows, read_by, read_as, read_map}
 
--- A refusal comes with no pins.
-abbrev pub refused_by : Verdict → Reading
-refused_by v = record { verdict = v; pins = no_pins }
-
--- So it is told part by part.
-pub refused_as : {r : Reading} {v : Verdict} → (r.verdict ≡ v) × (r.pins ≡ no_pins) → r ≡ refused_by v
-refused_as e = λ i. record { verdict = e.0 i; pins = e.1 i }
-
 -- The reading of some records after earlier ones.
-unfoldable pub read_from : Form → ℕ → ℕ → ℕ → List Pin → List MapRecord → Reading
-read_from form job number next earlier records =
-    record {
-      verdict = first_of (rows_from form job number next earlier records);
-      pins = choose (accepted (first_of (rows_from form job number next earlier records))) (with_pins_of form earlier records) no_pins;
-    }
+unfoldable pub read_from : Form → ℕ → ℕ → ℕ → List Pin → List MapRecord → Result (List Pin) Refusal
+read_from form job number next earlier records = granted (first_of (rows_from form job number next earlier records)) (with_pins_of form earlier records)
 
 -- With no record left the pins are those read.
 pub read_none : (form : Form) (job number next : ℕ) (earlier : List Pin) → read_from form job number next earlier [] ≡ read_as earlier
-unfolding read_from rows_from with_pins_of first_of accepted choose
+unfolding read_from rows_from with_pins_of first_of
 read_none form job number next earlier = refl
 
--- A faulty record ends the reading; after a good one the next is read, with its pin.
-pub read_next : (form : Form) (job number next : ℕ) (earlier : List Pin) (r : MapRecord) (records : List MapRecord)
-    → read_from form job number next earlier (r ∷ records)
-    ≡ choose (accepted (judged form job number next earlier r)) (read_from form job (number + 1) (r.pin + 1) (with_pin_of form earlier r) records)
-    (refused_by (judged form job number next earlier r))
-unfolding read_from rows_from with_pins_of choose
-read_next form job number next earlier r records =
-    let v = judged form job number next earlier r in
-    let l = rows_from form job (number + 1) (r.pin + 1) (with_pin_of form earlier r) records in
-    rw (joined (record_rows form job number next (spots_of earlier) r) l (record_apart form job number next earlier r)) (by (accepted v) refl)
-  where
-    by : (b : Bool) → accepted (judged form job number next earlier r) ≡ b
-        → ◌≡◌ {A = Reading}
-        (record {
-          verdict = choose b (first_of (rows_from form job (number + 1) (r.pin + 1) (with_pin_of form earlier r) records)) (judged form job number next earlier r);
-          pins = choose
-              (accepted
-              (choose b (first_of (rows_from form job (number + 1) (r.pin + 1) (with_pin_of form earlier r) records)) (judged form job number next earlier r)))
-              (with_pins_of form (with_pin_of form earlier r) records) no_pins;
-        })
-        (choose b (read_from form job (number + 1) (r.pin + 1) (with_pin_of form earlier r) records) (refused_by (judged form job number next earlier r)))
-    by true e = refl
-    by false e = rw e
+module _ (form : Form) (job number next : ℕ) (earlier : List Pin) (r : MapRecord) (records : List MapRecord) where
+  -- A faulty record ends the reading;
+  pub read_stops : {x : Refusal} → Err x ≡ judged form job number next earlier r → Err x ≡ read_from form job number next earlier (r ∷ records)
+  unfolding read_from rows_from
+  read_stops e = granted_away (record_rows form job number next (spots_of earlier) r) _ (record_apart form job number next earlier r) e _
 
--- A map of a wrong length is turned away with 13; the records of any other are read.
-pub read_by_length : (form : Form) (map : List ℕ) (job : ℕ)
-    → read_map form map job ≡ choose (wrong_length form map) (refused_by MapLength) (read_from form job 0 0 no_pins (records_of form map))
-unfolding read_map read_from first_of accepted choose
-read_by_length form map job = by (wrong_length form map)
-  where
-    by : (b : Bool)
-        → ◌≡◌ {A = Reading}
-        (record {
-          verdict = choose b MapLength (first_of (rows_from form job 0 0 no_pins (records_of form map)));
-          pins = choose (accepted (choose b MapLength (first_of (rows_from form job 0 0 no_pins (records_of form map)))))
-              (with_pins_of form no_pins (records_of form map)) no_pins;
-        })
-        (choose b (refused_by MapLength) (read_from form job 0 0 no_pins (records_of form map)))
-    by true = refl
-    by false = refl
-
--- ---- where nothing else is looked at
+  -- after a good one the next is read, with its pin.
+  pub read_goes : Ok tt ≡ judged form job number next earlier r
+      → read_from form job (number + 1) (r.pin + 1) (with_pin_of form earlier r) records ≡ read_from form job number next earlier (r ∷ records)
+  unfolding read_from rows_from with_pins_of accepted
+  read_goes e = granted_on (record_rows form job number next (spots_of earlier) r) _ (record_apart form job number next earlier r) e refl _
 
 module _ (form : Form) (map : List ℕ) (job : ℕ) where
+  -- A map of a wrong length is turned away with 13;
+  pub turned_away : wrong_length form map ≡ true → Err MapLength ≡ read_map form map job
+  unfolding read_map
+  turned_away e = ap (λ (v : Verdict). granted v (with_pins_of form no_pins (records_of form map))) (hit MapLength _ e)
+
+  -- the records of any other are read.
+  pub right_read : wrong_length form map ≡ false → read_map form map job ≡ read_from form job 0 0 no_pins (records_of form map)
+  unfolding read_map read_from first_of
+  right_read e = ap (λ (v : Verdict). granted v (with_pins_of form no_pins (records_of form map))) (choose_no _ _ e)
+
+  -- ---- where nothing else is looked at
+
   -- Under job 0 the reading is turned away with 4;
-  pub under-zero : job ≡ 0 → refused_by JobZero ≡ read_by (under_rows form map job) form map
-  unfolding first_of accepted choose
-  under-zero e = rw (eq-eqb job 0 e)
+  pub under_zero : job ≡ 0 → Err JobZero ≡ read_by (under_rows form map job) form map
+  under_zero e = ap (λ (v : Verdict). granted v (with_pins_of form no_pins (records_of form map))) (hit JobZero _ (eq-eqb job 0 e))
 
   -- under any other it is that of the map.
   pub under_job : (job ≡ 0 → ⊥) → read_map form map job ≡ read_by (under_rows form map job) form map
-  unfolding read_map first_of choose
-  under_job h = rw (ne_eqb job 0 h)
+  unfolding read_map first_of
+  under_job h = ap (λ (v : Verdict). granted v (with_pins_of form no_pins (records_of form map))) (sym (choose_no _ _ (ne_eqb job 0 h)))
 
 -- By whether the job is 0: such a reading that is accepted has another job, and is that of the map.
 under_by : (form : Form) (map : List ℕ) (job : ℕ) (t : Bool) → accepted (first_of (given t JobZero ∷ map_rows form map job)) ≡ true
     → (t ≡ false) × (read_by (given t JobZero ∷ map_rows form map job) form map ≡ read_map form map job)
 unfolding first_of choose accepted read_map
-under_by form map job true y = absurd (false≢true y)
+under_by form map job true y = absurd (opposite y refl)
 under_by form map job false y = (refl, refl)
 
 -- Where 4, 13, 14 and 15 turn nothing away, the job is not 0, and the reading is that of the map.
@@ -108,10 +76,28 @@ pub under_passed : (form : Form) (map : List ℕ) (job : ℕ) → accepted (firs
     → (eqb job 0 ≡ false) × (read_by (under_rows form map job) form map ≡ read_map form map job)
 under_passed form map job y = under_by form map job (eqb job 0) y
 
+-- A reading that is accepted has the pins of the map's records, and no row applied.
+pub read_passed : (rows : List Row) (form : Form) (map : List ℕ) {l : List Pin} → read_by rows form map ≡ read_as l
+    → (Ok tt ≡ first_of rows) × (l ≡ with_pins_of form no_pins (records_of form map))
+read_passed rows form map {l} e = by (first_of rows) refl e
+  where
+    by : (v : Verdict) → v ≡ first_of rows → granted v (with_pins_of form no_pins (records_of form map)) ≡ read_as l
+        → (Ok tt ≡ first_of rows) × (l ≡ with_pins_of form no_pins (records_of form map))
+    by (Ok tt) q e = (q, cc)
+    by (Err r) q e = cc
+
+-- One that is refused is refused by the rows.
+pub read_refused : (rows : List Row) (form : Form) (map : List ℕ) {x : Refusal} → read_by rows form map ≡ Err x → Err x ≡ first_of rows
+read_refused rows form map {x} e = by (first_of rows) refl e
+  where
+    by : (v : Verdict) → v ≡ first_of rows → granted v (with_pins_of form no_pins (records_of form map)) ≡ Err x → Err x ≡ first_of rows
+    by (Ok tt) q e = cc
+    by (Err r) q e = cc
+
 -- ---- the rows of a map are apart
 
--- A verdict that no record from a number on gives differs from the rows of the records from there on.
-records_differ : (form : Form) (v : Verdict) (job number next : ℕ) (earlier : List Pin) (records : List MapRecord)
+-- A refusal that no record from a number on gives differs from the rows of the records from there on.
+records_differ : (form : Form) (v : Refusal) (job number next : ℕ) (earlier : List Pin) (records : List MapRecord)
     → ((n : ℕ) → number ≤ n → v ≡ OtherJob n → ⊥) → ((n : ℕ) → number ≤ n → v ≡ FaultyRecord n → ⊥) → Differs v (rows_from form job number next earlier records)
 unfolding rows_from Differs
 records_differ form v job number next earlier [] f g = tt
@@ -125,16 +111,14 @@ records_differ form v job number next earlier (r ∷ records) f g = (
 
 -- The rows of records are apart: each names its own record.
 records_apart : (form : Form) (job number next : ℕ) (earlier : List Pin) (records : List MapRecord) → Apart (rows_from form job number next earlier records)
-unfolding rows_from Apart Differs accepted
+unfolding rows_from Apart Differs
 records_apart form job number next earlier [] = tt
 records_apart form job number next earlier (r ∷ records) =
     let other : (n : ℕ) → number + 1 ≤ n → OtherJob number ≡ OtherJob n → ⊥ = λ n h e. let z : number ≡ n = cc in omega arith in
     let faulty : (n : ℕ) → number + 1 ≤ n → FaultyRecord number ≡ FaultyRecord n → ⊥ = λ n h e. let z : number ≡ n = cc in omega arith in
     let no : (n : ℕ) → OtherJob number ≡ FaultyRecord n → ⊥ = λ n e. omega (arith, ap number_of e) in (
-      refl,
       (no number, records_differ form (OtherJob number) job (number + 1) _ _ records other (λ n h. no n)),
       (
-        refl,
         records_differ form (FaultyRecord number) job (number + 1) _ _ records (λ n h e. omega (arith, ap number_of e)) faulty,
         records_apart form job (number + 1) (r.pin + 1) (with_pin_of form earlier r) records,
       ),
@@ -144,12 +128,12 @@ records_apart form job number next earlier (r ∷ records) =
 abbrev of_map : ℕ → List Row
 of_map n = given true MapLength ∷ given true (OtherJob n) ∷ given true (FaultyRecord n) ∷ []
 
--- The number of a verdict is none of a map's: 13, 14 or 15.
-unfoldable pub not_of_map : Verdict → Bool
+-- The number of a refusal is none of a map's: 13, 14 or 15.
+unfoldable pub not_of_map : Refusal → Bool
 not_of_map v = unlike v (of_map 0)
 
--- Such a verdict differs from the rows of a map,
-pub map-differs : (form : Form) (map : List ℕ) (job : ℕ) (v : Verdict) → not_of_map v ≡ true → Differs v (map_rows form map job)
+-- Such a refusal differs from the rows of a map,
+pub map-differs : (form : Form) (map : List ℕ) (job : ℕ) (v : Refusal) → not_of_map v ≡ true → Differs v (map_rows form map job)
 unfolding Differs unlike not_of_map
 map-differs form map job v t =
     let d : (n : ℕ) → Differs v (of_map n) = λ n. differs_by v (of_map n) t in
@@ -157,9 +141,8 @@ map-differs form map job v t =
 
 -- which are apart.
 pub map_apart : (form : Form) (map : List ℕ) (job : ℕ) → Apart (map_rows form map job)
-unfolding Apart accepted
+unfolding Apart
 map_apart form map job = (
-  refl,
   records_differ form MapLength job 0 0 no_pins (records_of form map) (λ n h e. omega (arith, ap number_of e)) (λ n h e. omega (arith, ap number_of e)),
   records_apart form job 0 0 no_pins (records_of form map),
 )

@@ -1,16 +1,15 @@
 -- Reading a pin map in the old form or the new: its records, the pins that they give, and what reading it under a job comes to.
-use Rattle.std.specs.Prelude.{Bool, not, List, [], ◌∷◌, ◌++◌, ℕ, zero, suc, ◌+◌, ◌/◌, ◌%◌, eqb, ltb, length, take, drop, set}
-use Rattle.basics.specs.Tests.{either, choose}
-use Rattle.refusal.specs.Refusals.{accepted}
-use Rattle.refusal.specs.declared.Verdict.TheVariants.{Accepted, JobZero, MapLength}
-use Rattle.refusal.specs.Rows.{Row, given, first_of}
-use Rattle.drawing.specs.declared.Pin.{Pin}
-use Rattle.drawing.specs.Pins.{no_pins, there, spots_of}
+use Rattle.std.specs.Prelude.{Bool, not, List, [], ◌∷◌, ◌++◌, ℕ, zero, suc, ◌+◌, ◌/◌, ◌%◌, eqb, ltb, length, take, drop, set, Result, Ok}
+use Rattle.std.specs.Result.{result_unwrap_or}
+use Rattle.basics.specs.Tests.{either}
+use Rattle.refusal.specs.declared.Refusal.{Refusal}
+use Rattle.refusal.specs.declared.Refusal.TheVariants.{JobZero, MapLength}
+use Rattle.refusal.specs.Rows.{Row, given, first_of, granted}
+use Rattle.drawing.specs.Pins.{Pin, no_pins, there, spots_of}
 use Rattle.pinmap.specs.declared.Form.{Form}
 use Rattle.pinmap.specs.Map.{record_size, most_bytes}
 use Rattle.records.specs.declared.MapRecord.{MapRecord}
 use Rattle.records.specs.Record.{record_of, held_of, record_rows}
-use Rattle.readmap.specs.declared.Reading.{Reading}
 
 -- Each record is read from its own part of the map: so many of them.
 unfoldable pub records_in : Form → ℕ → List ℕ → List MapRecord
@@ -48,15 +47,18 @@ map_rows form map job = given (wrong_length form map) MapLength ∷ rows_from fo
 abbrev pub under_rows : Form → List ℕ → ℕ → List Row
 under_rows form map job = given (eqb job 0) JobZero ∷ map_rows form map job
 
--- A reading that these rows decide: the pins of the map's records, no pins where it is refused.
-abbrev pub read_by : List Row → Form → List ℕ → Reading
-read_by rows form map =
-    record { verdict = first_of rows; pins = choose (accepted (first_of rows)) (with_pins_of form no_pins (records_of form map)) no_pins }
+-- A reading that these rows decide: the pins of the map's records, or the refusal.
+abbrev pub read_by : List Row → Form → List ℕ → Result (List Pin) Refusal
+read_by rows form map = granted (first_of rows) (with_pins_of form no_pins (records_of form map))
 
 -- A reading that is accepted, with these pins.
-abbrev pub read_as : List Pin → Reading
-read_as l = record { verdict = Accepted; pins = l }
+abbrev pub read_as : List Pin → Result (List Pin) Refusal
+read_as l = Ok l
 
 -- Reading a map of a form under a job. An empty map is a drawing without pins.
-unfoldable pub read_map : Form → List ℕ → ℕ → Reading
+unfoldable pub read_map : Form → List ℕ → ℕ → Result (List Pin) Refusal
 read_map form map job = read_by (map_rows form map job) form map
+
+-- The pins that a reading hands back: no pins where it is refused.
+abbrev pub pins_of : Result (List Pin) Refusal → List Pin
+pins_of reading = result_unwrap_or reading no_pins

@@ -1,90 +1,81 @@
 // Reading a pin map in either form under a job: its length, then record after record, up to the first faulty one.
 #![tactic(auto)]
 
-ghost use Rattle.std.specs.Prelude.{◌≡◌, false};
-ghost use Rattle.drawing.specs.Pins.{no_pins};
+ghost use Rattle.std.specs.Prelude.{◌≡◌, false, ◌<◌, length, IfOk};
+ghost use Rattle.board.specs.Spots.{most_pins};
+ghost use Rattle.refusal.specs.Rows.{first_of, granted};
+ghost use Rattle.pinmap.specs.Map.{record_size};
+ghost use Rattle.records.specs.Record.{record_of, record_rows};
 ghost use Rattle.readmap.specs.Map.{wrong_length, under_rows, read_by, read_map};
 
-use board::PINS;
-use drawing::Pin;
+use board::{PINS, Spot};
+use drawing::{NO_PINS, Pin};
 use pinmap::Form;
-use refusal::Verdict;
+use records::MapRecord;
+use refusal::Refusal;
 
-// What reading a map comes to: accepted, with the drawing's pins, or refused, with no pin.
-#[derive(Clone, Copy)]
-pub struct Reading {
-    pub verdict: Verdict,
-    pub pins: [Pin; PINS],
+// Whether a map has a length that no map of this form has.
+#[tactic(auto, unfolding(crate::specs::Map::wrong_length, basics::specs::Tests::either), using(pinmap::proofs::Sizes::size_range))]
+fn is_wrong_length(form: Form, map: &[u8]) -> bool
+    ensures { result ≡ wrong_length form map.now }
+{
+    map.len() > form.most_bytes() || !map.len().is_multiple_of(form.record_bytes())
 }
 
-// A reading that was turned away.
-fn refuse(verdict: Verdict) -> Reading
-    ensures { (result.verdict ≡ verdict) × (result.pins ≡ no_pins) }
+// What the record in its own part of the map says, as the one of this number after those that were read, or why it is turned away.
+#[tactic(auto, using(crate::proofs::Progress::pin_low))]
+fn judged_record(
+    form: Form,
+    bytes: &[u8],
+    job: u16,
+    number: usize,
+    next: usize,
+    spots: &[Spot; PINS],
+) -> Result<MapRecord, Refusal>
+    requires { length bytes.now ≡ record_size form }
+    ensures value { result ≡ granted (first_of (record_rows form job number next spots.now (record_of form bytes.now))) (record_of form bytes.now) }
+    ensures pin { IfOk result (λ given. given.pin < most_pins) }
 {
-    Reading {
-        verdict,
-        pins: drawing::no_pins(),
-    }
+    let given = records::read_record(form, bytes);
+    records::judge(form, given, job, number, next, spots)?;
+    Ok(given)
 }
 
 // Reads the records of a map of a right length one after the other, up to the first faulty one.
-fn read_records(form: Form, map: &[u8], job: u16) -> Reading
+fn read_records(form: Form, map: &[u8], job: u16) -> Result<[Pin; PINS], Refusal>
     requires { wrong_length form map.now ≡ false }
     ensures { result ≡ read_map form map.now job }
 {
-    let size = pinmap::record_bytes(form);
-    let count = map.len() / size;
-    let mut pins = drawing::no_pins();
-    let mut xs = [0i32; PINS];
-    let mut ys = [0i32; PINS];
-    let mut there = [false; PINS];
-    let mut next: usize = 0;
-    let mut number: usize = 0;
-    while number < count {
-        let at = number * size;
-        let end = at + size;
-        let given = records::read_record(form, &map[at..end]);
-        let verdict = records::judge(form, given, job, number, next, &xs, &ys, &there);
-        if !refusal::is_accepted(verdict) {
-            return refuse(verdict);
-        }
-        let pin = given.pin;
-        let place = given.place;
-        let held = records::held_of(form, given);
-        pins[pin] = drawing::pin_with(held);
-        let x = place.x;
-        xs[pin] = x;
-        let y = place.y;
-        ys[pin] = y;
-        there[pin] = true;
-        next = pin + 1;
-        number += 1;
+    let mut pins = NO_PINS;
+    let mut spots = [None; PINS];
+    let mut next = 0;
+    for (number, bytes) in map.chunks_exact(form.record_bytes()).enumerate() {
+        let given = judged_record(form, bytes, job, number, next, &spots)?;
+        pins[given.pin] = Some(records::held_of(form, given));
+        spots[given.pin] = Some(given.place);
+        next = given.pin + 1;
     }
-    Reading {
-        verdict: Verdict::Accepted,
-        pins,
-    }
+    Ok(pins)
 }
 
 // Reads a map of a form under a job: the pins of its drawing, or why it is turned away.
-pub fn read_map(form: Form, map: &[u8], job: u16) -> Reading
+#[tactic(auto, using(crate::proofs::Judging::turned_away))]
+pub fn read_map(form: Form, map: &[u8], job: u16) -> Result<[Pin; PINS], Refusal>
     ensures { result ≡ read_map form map.now job }
 {
-    if pinmap::most_bytes(form) < map.len() {
-        return refuse(Verdict::MapLength);
-    }
-    if map.len() % pinmap::record_bytes(form) != 0 {
-        return refuse(Verdict::MapLength);
+    if is_wrong_length(form, map) {
+        return Err(Refusal::MapLength);
     }
     read_records(form, map, job)
 }
 
 // Reads a map of a form where nothing but the map and its job is looked at: 4, then 13, 14 or 15.
-pub fn read_under(form: Form, map: &[u8], job: u16) -> Reading
+#[tactic(auto, using(crate::proofs::Judging::under_zero, crate::proofs::Judging::under_job))]
+pub fn read_under(form: Form, map: &[u8], job: u16) -> Result<[Pin; PINS], Refusal>
     ensures { result ≡ read_by (under_rows form map.now job) form map.now }
 {
     if job == 0 {
-        return refuse(Verdict::JobZero);
+        return Err(Refusal::JobZero);
     }
     read_map(form, map, job)
 }

@@ -6,16 +6,13 @@ use Prim.Native.Nat.{ℕ, ◌<◌, ◌≤◌}
 use borrow.Author.Tests.{leb-false, ltb-false, eqb-true, not-false, eq-eqb, lt-leb, le-ltb}
 use Rattle.basics.specs.Tests.{both}
 use Rattle.basics.proofs.Tests.{either-false, either_no}
-use Rattle.refusal.specs.declared.Verdict.{Verdict}
-use Rattle.refusal.specs.declared.Verdict.TheVariants.{Accepted}
-use Rattle.refusal.specs.Refusals.{accepted}
+use Rattle.std.specs.Prelude.{Ok, Some}
+use Rattle.refusal.specs.Refusals.{Verdict, accepted}
 use Rattle.refusal.specs.Rows.{first_of, NoneHolds}
 use Rattle.refusal.proofs.Rows.{unlike, distinct, Apart, apart_by, none-holds, none-accepted}
 use Rattle.board.specs.Place.{inside}
-use Rattle.drawing.specs.declared.Pin.{Pin}
-use Rattle.board.specs.declared.Spot.TheVariants.{At}
 use Rattle.board.specs.Spots.{most_pins, too_near_any}
-use Rattle.drawing.specs.Pins.{spots_of}
+use Rattle.drawing.specs.Pins.{Pin, spots_of}
 use Rattle.pinmap.specs.declared.Form.{Form}
 use Rattle.records.specs.declared.MapRecord.{MapRecord}
 use Rattle.records.specs.Record.{wrong_byte, faulty, record_rows}
@@ -36,7 +33,7 @@ pub record Faultless (form : Form) (job next : ℕ) (earlier : List Pin) (r : Ma
   pub byte : wrong_byte form r.byte3 ≡ false
   pub on_board : inside r.place ≡ true
   pub above : next ≤ r.pin
-  pub free : too_near_any (At r.place) (spots_of earlier) ≡ false
+  pub free : too_near_any (Some r.place) (spots_of earlier) ≡ false
 
 module _ (form : Form) (job number next : ℕ) (earlier : List Pin) (r : MapRecord) where
   -- A record that is accepted has no fault,
@@ -58,7 +55,7 @@ module _ (form : Form) (job number next : ℕ) (earlier : List Pin) (r : MapReco
       }
 
   -- and one that has none is accepted.
-  pub no_fault : Faultless form job next earlier r → judged form job number next earlier r ≡ Accepted
+  pub no_fault : Faultless form job next earlier r → judged form job number next earlier r ≡ Ok tt
   unfolding faulty NoneHolds
   no_fault h =
       none-accepted (record_rows form job number next (spots_of earlier) r) (

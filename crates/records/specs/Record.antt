@@ -1,12 +1,10 @@
 -- One record of a pin map in the old form or the new: what its bytes say, what it gives its pin, and its faults.
-use Rattle.std.specs.Prelude.{Bool, not, List, [], ◌∷◌, ℕ, ◌+◌, ◌*◌, eqb, leb, ltb, get_or}
+use Rattle.std.specs.Prelude.{Bool, not, List, [], ◌∷◌, ℕ, ◌+◌, ◌*◌, eqb, leb, ltb, get_or, Some}
 use Rattle.basics.specs.Tests.{either}
-use Rattle.refusal.specs.declared.Verdict.TheVariants.{OtherJob, FaultyRecord}
+use Rattle.refusal.specs.declared.Refusal.TheVariants.{OtherJob, FaultyRecord}
 use Rattle.refusal.specs.Rows.{Row, given}
 use Rattle.board.specs.Place.{inside}
-use Rattle.board.specs.declared.Spot.{Spot}
-use Rattle.board.specs.declared.Spot.TheVariants.{At}
-use Rattle.board.specs.Spots.{most_pins, too_near_any}
+use Rattle.board.specs.Spots.{Spot, most_pins, too_near_any}
 use Rattle.drawing.specs.declared.Held.{Held}
 use Rattle.drawing.specs.Pins.{holding, is_net}
 use Rattle.pinmap.specs.declared.Form.{Form}
@@ -56,7 +54,7 @@ faulty form next earlier r =
     either (leb most_pins r.pin)
     (either (ltb r.pin next)
     (either (wrong_byte form r.byte3)
-    (either (not (inside r.place)) (too_near_any (At r.place) earlier))))
+    (either (not (inside r.place)) (too_near_any (Some r.place) earlier))))
 
 -- A record after earlier ones, with its number, counted from 0: 14, a job other than the one opened, before 15.
 abbrev pub record_rows : Form → ℕ → ℕ → ℕ → List Spot → MapRecord → List Row

@@ -1,7 +1,7 @@
 -- A map that is read without a fault: its pins are written with the same bytes and keep the rules. By the records that are left, the pins so far
 -- having been read from what was before. Assumes nothing.
 use mathlib.Core.Path.{◌≡◌, refl, sym, ap, ◌∙◌}
-use mathlib.Core.Bool.{Bool, true, false}
+use mathlib.Core.Bool.{true}
 use mathlib.Core.Logic.{⊎_elim}
 use mathlib.Core.List.{List, [], ◌∷◌, ◌++◌, append-nil, append_assoc}
 use Prim.Native.Nat.{ℕ, zero, suc, ◌+◌, ◌*◌, ◌<◌, ◌≤◌}
@@ -9,30 +9,26 @@ use native.Mathlib.Omega.{arith}
 use borrow.Author.Tests.{lt-ltb}
 use lib.ListN.{length, get_or, take, drop, set, length-take, length-drop, take-append-drop, get_or-eq_default}
 use lib.Seq.{get_or-set_other, get_or-take, get_or-drop}
-use Rattle.refusal.specs.declared.Verdict.{Verdict}
-use Rattle.basics.specs.Tests.{choose, each_of}
-use Rattle.refusal.specs.Refusals.{accepted}
-use Rattle.basics.proofs.Tests.{opposite}
+use Rattle.std.specs.Prelude.{Ok, Err, Some}
+use Rattle.refusal.specs.Refusals.{Verdict, accepted}
+use Rattle.basics.specs.Tests.{each_of}
 use Rattle.basics.proofs.Anyone.{each_set}
 use Rattle.basics.proofs.Lists.{empty}
 use Rattle.board.proofs.Flat.{order}
 use Rattle.drawing.specs.declared.Held.{Held}
-use Rattle.drawing.specs.declared.Pin.{Pin}
-use Rattle.board.specs.declared.Spot.TheVariants.{At}
 use Rattle.board.specs.Spots.{within}
 use Rattle.board.proofs.Rules.{clear_other}
-use Rattle.drawing.specs.Pins.{absent, there, has_net, lawful, spot_of, spots_of}
+use Rattle.drawing.specs.Pins.{Pin, absent, there, has_net, lawful, spot_of, spots_of}
 use Rattle.drawing.proofs.Rules.{lawful_parts, lawful-set}
 use Rattle.pinmap.specs.declared.Form.{Form}
 use Rattle.records.specs.declared.MapRecord.{MapRecord}
-use Rattle.readmap.specs.declared.Reading.{Reading}
 use Rattle.pinmap.specs.Map.{record_size, Bytes, holds, part_fits, parts_fit}
 use Rattle.records.specs.Record.{record_of, held_of}
 use Rattle.writemap.specs.Record.{record_bytes, pin_bytes}
-use Rattle.readmap.specs.Map.{records_in, with_pin_of}
+use Rattle.readmap.specs.Map.{records_in, with_pin_of, read_as}
 use Rattle.writemap.specs.Map.{map_from, map_of}
 use Rattle.pinmap.proofs.Sizes.{one_more}
-use Rattle.readmap.proofs.Judging.{refused_by, read_from, read_none, read_next}
+use Rattle.readmap.proofs.Judging.{read_from, read_none, read_stops, read_goes}
 use Rattle.records.proofs.Faults.{judged, Faultless, faultless}
 use Rattle.roundtrip.proofs.Holding.{holds-given, net_given_lem}
 use Rattle.roundtrip.proofs.Records.{record_written, part_given_lem}
@@ -83,7 +79,7 @@ kept_next form job next earlier bytes s f =
     let q : Pin = there (held_of form r) in
     record {
       rules = lawful-set earlier r.pin q s.rules (net_given_lem form r.byte3 f.byte) f.on_board
-          (clear_other (At r.place) (spots_of earlier) r.pin f.free);
+          (clear_other (Some r.place) (spots_of earlier) r.pin f.free);
       held = each_set (holds form) earlier r.pin q s.held (holds-given form bytes);
       clear = λ k h. get_or-set_other earlier r.pin k q absent (λ g. omega arith) ∙ s.clear k (omega (arith, f.above));
     }
@@ -96,37 +92,37 @@ parts_next form earlier bytes b e =
     let r : MapRecord = record_of form bytes in
     each_set part_fits earlier r.pin (there (held_of form r)) e (lt-ltb _ _ (part_given_lem form bytes b))
 
--- What an accepted reading gives back.
-pub record Back (form : Form) (job : ℕ) (m : List ℕ) (earlier : List Pin) (r : Reading) : Type 0 where
-  pub bytes : Bytes m → map_of form job r.pins ≡ map_of form job earlier ++ m
-  pub rules : lawful r.pins ≡ true
-  pub held : each_of (holds form) r.pins ≡ true
-  pub parts : Bytes m → parts_fit earlier ≡ true → parts_fit r.pins ≡ true
+-- What an accepted reading with these pins gives back.
+pub record Back (form : Form) (job : ℕ) (m : List ℕ) (earlier l : List Pin) : Type 0 where
+  pub bytes : Bytes m → map_of form job l ≡ map_of form job earlier ++ m
+  pub rules : lawful l ≡ true
+  pub held : each_of (holds form) l ≡ true
+  pub parts : Bytes m → parts_fit earlier ≡ true → parts_fit l ≡ true
 
 -- So many records, read to the end after any such pins, give that back.
 abbrev pub BackFrom : Form → ℕ → ℕ → Type 0
 BackFrom form job left =
-    (m : List ℕ) (number next : ℕ) (earlier : List Pin) → length m ≡ left * record_size form → Kept form next earlier
-    → accepted (read_from form job number next earlier (records_in form left m)).verdict ≡ true
-    → Back form job m earlier (read_from form job number next earlier (records_in form left m))
+    (m : List ℕ) (number next : ℕ) (earlier l : List Pin) → length m ≡ left * record_size form → Kept form next earlier
+    → read_from form job number next earlier (records_in form left m) ≡ read_as l → Back form job m earlier l
 
 -- If so many records give that back, so do one more, where the first is accepted.
 back_next : (form : Form) (job left : ℕ) → BackFrom form job left
-    → (m : List ℕ) (number next : ℕ) (earlier : List Pin) → length m ≡ suc left * record_size form → Kept form next earlier
+    → (m : List ℕ) (number next : ℕ) (earlier l : List Pin) → length m ≡ suc left * record_size form → Kept form next earlier
     → accepted (judged form job number next earlier (record_of form (take (record_size form) m))) ≡ true
     → let r : MapRecord = record_of form (take (record_size form) m) in
-    let x : Reading = read_from form job (number + 1) (r.pin + 1) (with_pin_of form earlier r) (records_in form left (drop (record_size form) m)) in
-    accepted x.verdict ≡ true → Back form job m earlier x
+    read_from form job (number + 1) (r.pin + 1) (with_pin_of form earlier r) (records_in form left (drop (record_size form) m)) ≡ read_as l
+    → Back form job m earlier l
 unfolding map_of with_pin_of
-back_next form job left rec m number next earlier n s a c =
+back_next form job left rec m number next earlier l n s a c =
     let part : List ℕ = take (record_size form) m in
     let more : List ℕ = drop (record_size form) m in
     let r : MapRecord = record_of form part in
     let o : suc left * record_size form ≡ record_size form + left * record_size form = one_more form left in
     let w : length part ≡ record_size form = omega (arith, length-take (record_size form) m) in
     let f : Faultless form job next earlier r = faultless form job number next earlier r a in
-    let g : Back form job more (with_pin_of form earlier r) (read_from form job (number + 1) (r.pin + 1) (with_pin_of form earlier r) (records_in form left more)) =
-    rec more (number + 1) (r.pin + 1) (with_pin_of form earlier r) (omega (arith, length-drop (record_size form) m)) (kept_next form job next earlier part s f) c in
+    let g : Back form job more (with_pin_of form earlier r) l =
+    rec more (number + 1) (r.pin + 1) (with_pin_of form earlier r) l (omega (arith, length-drop (record_size form) m))
+    (kept_next form job next earlier part s f) c in
     let z : 0 + r.pin ≡ r.pin = omega arith in
     let p : Bytes m → map_from form job 0 (set earlier r.pin (there (held_of form r))) ≡ map_from form job 0 earlier ++ part =
     λ b.
@@ -143,28 +139,34 @@ back_next form job left rec m number next earlier n s a c =
       parts = λ b k. g.parts (bytes_drop (record_size form) m b) (parts_next form earlier part (bytes_take (record_size form) m b) k);
     }
 
--- A reading that goes on only where a record is accepted gives that back, if what it goes on with does.
-back_by : (form : Form) (job : ℕ) (m : List ℕ) (earlier : List Pin) (t : Bool) (x : Reading) (v : Verdict) → accepted v ≡ t
-    → (t ≡ true → accepted x.verdict ≡ true → Back form job m earlier x)
-    → accepted (choose t x (refused_by v)).verdict ≡ true → Back form job m earlier (choose t x (refused_by v))
-unfolding choose
-back_by form job m earlier true x v e f a = f refl a
-back_by form job m earlier false x v e f a = absurd (opposite a e)
+-- The first of them was accepted, since a faulty one would end the reading.
+back_by : (form : Form) (job left : ℕ) → BackFrom form job left
+    → (m : List ℕ) (number next : ℕ) (earlier l : List Pin) → length m ≡ suc left * record_size form → Kept form next earlier
+    → read_from form job number next earlier (records_in form (suc left) m) ≡ read_as l
+    → (v : Verdict) → v ≡ judged form job number next earlier (record_of form (take (record_size form) m)) → Back form job m earlier l
+unfolding records_in accepted
+back_by form job left rec m number next earlier l n s a (Ok tt) e =
+    back_next form job left rec m number next earlier l n s (ap accepted (sym e))
+    (read_goes form job number next earlier (record_of form (take (record_size form) m)) (records_in form left (drop (record_size form) m)) e ∙ a)
+back_by form job left rec m number next earlier l n s a (Err x) e =
+    let q = read_stops form job number next earlier (record_of form (take (record_size form) m)) (records_in form left (drop (record_size form) m)) e ∙ a in
+    cc
 
 -- So it is with any number of records.
 pub back_from : (form : Form) (job left : ℕ) → BackFrom form job left
 unfolding records_in
-back_from form job zero m number next earlier n s a =
-    rw (read_none form job number next earlier)
+back_from form job zero m number next earlier l n s a =
+    let e : earlier ≡ l = same_as (sym (read_none form job number next earlier) ∙ a) in
+    rw (← e)
     record {
       bytes = λ b. sym (rw (empty m (omega arith)) (append-nil (map_of form job earlier)));
       rules = s.rules;
       held = s.held;
       parts = λ b k. k;
     }
-back_from form job (suc left) m number next earlier n s a =
-    let r : MapRecord = record_of form (take (record_size form) m) in
-    let v : Verdict = judged form job number next earlier r in
-    let q = read_next form job number next earlier r (records_in form left (drop (record_size form) m)) in
-    rw q (back_by form job m earlier (accepted v) _ v refl
-    (back_next form job left (back_from form job left) m number next earlier n s) (rw q at a))
+  where
+    same_as : read_as earlier ≡ read_as l → earlier ≡ l
+    same_as q = cc
+back_from form job (suc left) m number next earlier l n s a =
+    back_by form job left (back_from form job left) m number next earlier l n s a
+    (judged form job number next earlier (record_of form (take (record_size form) m))) refl

@@ -18,7 +18,8 @@ unfolding first_byte second_byte third_byte fourth_byte
 join_split n = omega arith
 
 -- in two's complement too: for every i32.
-pub number_split : (z : ℤ) → SFits w32 z → to_z w32 (joined (first_byte (bits_of z)) (second_byte (bits_of z)) (third_byte (bits_of z)) (fourth_byte (bits_of z))) ≡ z
+pub number_split : (z : ℤ) → SFits w32 z
+    → to_z w32 (joined (first_byte (bits_of z)) (second_byte (bits_of z)) (third_byte (bits_of z)) (fourth_byte (bits_of z))) ≡ z
 number_split z h = ap (to_z w32) (join_split (bits_of z)) ∙ to_z-of_z h
 
 -- The bytes of the number that four bytes make are those bytes: for every four bytes.
@@ -109,5 +110,6 @@ module _ (l : List ℕ) (k : ℕ) (bytes : Bytes l) where
   pub written_read : k + 4 ≤ length l → put_at l k (bits_at l k) ≡ l
   unfolding put_at bits_at
   written_read h =
-      let s : _ = split_join (get_or l k 0) (get_or l (k + 1) 0) (get_or l (k + 2) 0) (get_or l (k + 3) 0) (bytes k) (bytes (k + 1)) (bytes (k + 2)) (bytes (k + 3)) in
+      let s : _ = split_join (get_or l k 0) (get_or l (k + 1) 0) (get_or l (k + 2) 0) (get_or l (k + 3) 0)
+      (bytes k) (bytes (k + 1)) (bytes (k + 2)) (bytes (k + 3)) in
       rw (s.0, s.1, s.2, s.3) (simp set-get_or)

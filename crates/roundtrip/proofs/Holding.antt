@@ -10,14 +10,11 @@ use Rattle.basics.specs.Tests.{both, choose, each_of}
 use Rattle.basics.proofs.Tests.{both_left, both_right, both_of}
 use Rattle.basics.proofs.Anyone.{each_at}
 use Rattle.drawing.specs.declared.Held.{Held}
-use Rattle.drawing.specs.declared.Stand.{Stand}
-use Rattle.drawing.specs.declared.Stand.TheVariants.{Absent, There}
-use Rattle.drawing.specs.declared.Pin.{Pin}
-use Rattle.board.specs.declared.Spot.TheVariants as spot
-use Rattle.drawing.specs.Pins.{absent, there, holding, is_net, of_net_in, is_of, spot_in, spot_of, spots_of, feed_spot, feed_of}
+use Rattle.std.specs.Prelude.{None, Some}
+use Rattle.drawing.specs.Pins.{Pin, absent, there, holding, is_net, is_of, spot_of, spots_of, feed_spot, feed_of}
 use Rattle.pinmap.specs.declared.Form.{Form}
 use Rattle.pinmap.specs.declared.Form.TheVariants.{Old, New}
-use Rattle.pinmap.specs.Map.{plain_in, plain, holds}
+use Rattle.pinmap.specs.Map.{plain, holds}
 use Rattle.records.specs.Record.{record_of, net_given, wrong_byte, held_of}
 use Rattle.writemap.specs.Record.{byte_for}
 
@@ -35,15 +32,12 @@ new_holds (q ∷ l) = new_holds l
 
 -- Each pin of net 1 with part number 0, told pin by pin: the old form holds them.
 pub old_holds : (l : List Pin) → ((p : ℕ) (held : Held) → get_or l p absent ≡ there held → (held.net ≡ 1) × (held.part ≡ 0)) → each_of (holds Old) l ≡ true
-unfolding each_of plain
+unfolding each_of plain both
 old_holds [] f = refl
-old_holds (q ∷ l) f = both_of (by_stand q.stand refl) (old_holds l (λ p. f (suc p)))
-  where
-    by_stand : (t : Stand) → q.stand ≡ t → plain_in t ≡ true
-    by_stand Absent e = refl
-    by_stand (There held) e =
-        let h = f 0 held (λ i. record { stand = e i }) in
-        both_of (eq-eqb held.net 1 h.0) (eq-eqb held.part 0 h.1)
+old_holds (None ∷ l) f = old_holds l (λ p. f (suc p))
+old_holds (Some held ∷ l) f =
+    let h = f 0 held refl in
+    both_of (both_of (eq-eqb held.net 1 h.0) (eq-eqb held.part 0 h.1)) (old_holds l (λ p. f (suc p)))
 
 -- And the other way round: a pin that the old form holds has net 1 and part number 0.
 pub old_plain : (l : List Pin) → each_of (holds Old) l ≡ true → (p : ℕ) (held : Held) → get_or l p absent ≡ there held → (held.net ≡ 1) × (held.part ≡ 0)
@@ -100,13 +94,13 @@ holds-given New bytes = refl
 -- ---- the feed of net 1
 
 -- A pin of net 1 with part number 0 is in the feed of net 1,
-plain_fed : (t : Stand) → plain_in t ≡ true → choose (of_net_in 1 t) (spot_in t) spot.Absent ≡ spot_in t
-unfolding choose
-plain_fed Absent e = refl
-plain_fed (There h) e = rw (eqb-true h.net 1 (both_left _ _ e))
+plain_fed : (q : Pin) → plain q ≡ true → feed_spot 1 q ≡ spot_of q
+unfolding feed_spot is_of spot_of choose plain
+plain_fed None e = refl
+plain_fed (Some h) e = rw (eqb-true h.net 1 (both_left _ _ e))
 
 -- so that the feed of net 1 is all pins where all are such.
 pub plain_feed : (l : List Pin) → each_of (holds Old) l ≡ true → feed_of l 1 ≡ spots_of l
-unfolding feed_of spots_of each_of feed_spot is_of spot_of plain
+unfolding feed_of spots_of each_of
 plain_feed [] e = refl
-plain_feed (q ∷ l) e = rw (plain_fed q.stand (both_left _ _ e), plain_feed l (both_right (plain q) _ e))
+plain_feed (q ∷ l) e = rw (plain_fed q (both_left _ _ e), plain_feed l (both_right (plain q) _ e))

@@ -8,19 +8,15 @@ use Prim.Native.Nat.{ℕ, zero, suc, ◌+◌, ◌/◌, ◌<◌, ◌≤◌}
 use native.Mathlib.Omega.{arith}
 use lib.ListN.{length, get_or, take, drop, set, length-append, length-set}
 use lib.Seq.{get_or-set_same, get_or-set_other, ext_get_or, take_at, drop_at}
-use Rattle.basics.specs.Tests.{choose, each_of}
+use Rattle.basics.specs.Tests.{each_of}
 use Rattle.basics.proofs.Lists.{blank_at}
 use Rattle.basics.proofs.Anyone.{none_by, each_at}
-use Rattle.refusal.specs.Refusals.{accepted}
+use Rattle.std.specs.Prelude.{None, Some}
 use Rattle.board.specs.Place.{inside}
 use Rattle.board.proofs.Flat.{order}
 use Rattle.drawing.specs.declared.Held.{Held}
-use Rattle.drawing.specs.declared.Stand.{Stand}
-use Rattle.drawing.specs.declared.Stand.TheVariants.{Absent, There}
-use Rattle.drawing.specs.declared.Pin.{Pin}
 use Rattle.board.specs.Spots.{most_pins, spot_at, within, all_apart, spots_too_near, too_near_any}
-use Rattle.drawing.specs.Pins.{absent, there, is_net, lawful, spot_of, spots_of, no_pins}
-use Rattle.board.specs.declared.Spot.TheVariants as spot
+use Rattle.drawing.specs.Pins.{Pin, absent, there, is_net, has_net, lawful, spot_of, spots_of, no_pins}
 use Rattle.board.proofs.Rules.{spots_turned, apart_pair, within_at}
 use Rattle.drawing.proofs.Rules.{lawful_parts, spots_at}
 use Rattle.pinmap.specs.declared.Form.{Form}
@@ -29,10 +25,10 @@ use Rattle.pinmap.specs.Map.{record_size, holds}
 use Rattle.writemap.specs.Record.{byte_for, record_bytes, pin_bytes}
 use Rattle.readmap.specs.Map.{records_in, records_of, with_pin_of, read_as}
 use Rattle.writemap.specs.Map.{map_from}
-use Rattle.pinmap.proofs.Sizes.{none_count, count_more}
-use Rattle.readmap.proofs.Judging.{read_from, read_none, read_next}
+use Rattle.pinmap.proofs.Sizes.{size_range, none_left, count_more}
+use Rattle.readmap.proofs.Judging.{read_from, read_none, read_goes}
 use Rattle.records.proofs.Faults.{Faultless, no_fault}
-use Rattle.writemap.proofs.Written.{record_length, absent_bytes, there_bytes, there_net, net_at, map_next, map_end}
+use Rattle.writemap.proofs.Written.{record_length, net_at, map_next, map_end}
 use Rattle.roundtrip.proofs.Holding.{holds-absent, part_given, same_held_lem, right_byte}
 use Rattle.roundtrip.proofs.Records.{record_read}
 
@@ -80,10 +76,10 @@ module _ (l : List Pin) (i : ℕ) (earlier : List Pin) (u : Upto l i earlier) wh
 
   module _ (a : all_apart (spots_of l) ≡ true) (held : Held) (q : get_or l i absent ≡ there held) where
     -- Of the pins below none is near to pin i, and those above are absent.
-    free_of : (j : ℕ) → spots_too_near (spot.At held.place) (spot_at (spots_of earlier) j) ≡ false
+    free_of : (j : ℕ) → spots_too_near (Some held.place) (spot_at (spots_of earlier) j) ≡ false
     unfolding spot_of spots_too_near
     free_of j =
-        let s = spot.At held.place in
+        let s = Some held.place in
         let here : spot_at (spots_of l) i ≡ s = spots_at l i ∙ ap spot_of q in
         ap (spots_too_near s) (spots_at earlier j)
         ∙ ⊎_elim (λ (k : i ≤ j). ap (λ (p : Pin). spots_too_near s (spot_of p)) (u.above j k))
@@ -94,8 +90,8 @@ module _ (l : List Pin) (i : ℕ) (earlier : List Pin) (u : Upto l i earlier) wh
         (order i j)
 
     -- So its place is not taken.
-    place_free : too_near_any (spot.At held.place) (spots_of earlier) ≡ false
-    place_free = none_by (spots_too_near (spot.At held.place)) spot.Absent (spots_of earlier) free_of
+    place_free : too_near_any (Some held.place) (spots_of earlier) ≡ false
+    place_free = none_by (spots_too_near (Some held.place)) None (spots_of earlier) free_of
 
 -- The place of a pin of the drawing is on the board.
 place_inside : (l : List Pin) (i : ℕ) (held : Held) → lawful l ≡ true → get_or l i absent ≡ there held → inside held.place ≡ true
@@ -104,10 +100,12 @@ place_inside l i held e q = ap within (sym (spots_at l i ∙ ap spot_of q)) ∙ 
 
 -- Its net is one from 1 to 8,
 place_net : (l : List Pin) (i : ℕ) (held : Held) → lawful l ≡ true → get_or l i absent ≡ there held → is_net held.net ≡ true
-place_net l i held e q = there_net (get_or l i absent) (net_at l i (lawful_parts l e).nets) (ap (λ (p : Pin). p.stand) q)
+unfolding has_net
+place_net l i held e q = rw q at (net_at l i (lawful_parts l e).nets)
 
 -- and a form that holds each pin of the drawing holds it.
-place-holds : (form : Form) (l : List Pin) (i : ℕ) (held : Held) → each_of (holds form) l ≡ true → get_or l i absent ≡ there held → holds form (there held) ≡ true
+place-holds : (form : Form) (l : List Pin) (i : ℕ) (held : Held) → each_of (holds form) l ≡ true → get_or l i absent ≡ there held
+    → holds form (there held) ≡ true
 place-holds form l i held g q = ap (holds form) (sym q) ∙ each_at (holds form) absent l i g (λ h. holds-absent form)
 
 -- What the record of a pin says.
@@ -119,7 +117,7 @@ read_one : (form : Form) (left job number next pin : ℕ) (earlier : List Pin) (
     → holds form (there held) ≡ true → Faultless form job next earlier (told form job pin held)
     → read_from form job number next earlier (records_in form (suc left) (record_bytes form job pin held ++ rest))
     ≡ read_from form job (number + 1) (pin + 1) (set earlier pin (there held)) (records_in form left rest)
-unfolding records_in with_pin_of accepted choose
+unfolding records_in with_pin_of
 read_one form left job number next pin earlier held rest e g f =
     let b : List ℕ = record_bytes form job pin held in
     let n : length b ≡ record_size form = record_length form job pin held in
@@ -127,7 +125,8 @@ read_one form left job number next pin earlier held rest e g f =
     let d : drop (record_size form) (b ++ rest) ≡ rest = drop_at b rest (record_size form) n in
     let r : MapRecord = told form job pin held in
     rw (t, d, record_read form job pin held e)
-    (read_next form job number next earlier r (records_in form left rest) ∙ rw (no_fault form job number next earlier r f, same_held_lem form held g))
+    (sym (read_goes form job number next earlier r (records_in form left rest) (sym (no_fault form job number next earlier r f)))
+    ∙ rw (same_held_lem form held g))
 
 module _ (form : Form) (job : ℕ) (l : List Pin) (e : lawful l ≡ true) (g : each_of (holds form) l ≡ true) where
   -- The map from pin i on is read to the drawing's pins, the pins below having been read.
@@ -137,16 +136,17 @@ module _ (form : Form) (job : ℕ) (l : List Pin) (e : lawful l ≡ true) (g : e
       → read_from form job number next earlier (records_of form (map_from form job i (drop i l))) ≡ read_as l
 
   -- If so from the next pin on, then from pin i on, which is absent or there.
-  open_next : (i : ℕ) → i < most_pins → OpenFrom (i + 1) → (t : Stand) → get_or l i absent ≡ record { stand = t } → OpenFrom i
-  open_next i n rec Absent q number next earlier h u =
+  open_next : (i : ℕ) → i < most_pins → OpenFrom (i + 1) → (p : Pin) → get_or l i absent ≡ p → OpenFrom i
+  unfolding pin_bytes
+  open_next i n rec None q number next earlier h u =
       let rest : List ℕ = map_from form job (i + 1) (drop (i + 1) l) in
-      let b : pin_bytes form job i (get_or l i absent) ≡ [] = absent_bytes form job i (get_or l i absent) (ap (λ (p : Pin). p.stand) q) in
+      let b : pin_bytes form job i (get_or l i absent) ≡ [] = ap (pin_bytes form job i) q in
       let m : map_from form job i (drop i l) ≡ rest =
       map_next form job l i (omega (arith, (lawful_parts l e).long)) ∙ ap (λ (b : List ℕ). b ++ rest) b in
       rw m (rec number next earlier (omega arith) (upto_skip l i earlier u q))
-  open_next i n rec (There held) q number next earlier h u =
+  open_next i n rec (Some held) q number next earlier h u =
       let rest : List ℕ = map_from form job (i + 1) (drop (i + 1) l) in
-      let b : pin_bytes form job i (get_or l i absent) ≡ record_bytes form job i held = there_bytes form job i (get_or l i absent) (ap (λ (p : Pin). p.stand) q) in
+      let b : pin_bytes form job i (get_or l i absent) ≡ record_bytes form job i held = ap (pin_bytes form job i) q in
       let m : map_from form job i (drop i l) ≡ record_bytes form job i held ++ rest =
       map_next form job l i (omega (arith, (lawful_parts l e).long)) ∙ ap (λ (b : List ℕ). b ++ rest) b in
       let c : length (record_bytes form job i held ++ rest) / record_size form ≡ suc (length rest / record_size form) =
@@ -169,7 +169,7 @@ module _ (form : Form) (job : ℕ) (l : List Pin) (e : lawful l ≡ true) (g : e
   pub open_from : (k i : ℕ) → i + k ≡ most_pins → OpenFrom i
   unfolding records_in
   open_from zero i n number next earlier h u =
-      rw (map_end form job l i (omega (arith, (lawful_parts l e).long)), none_count form)
+      rw (map_end form job l i (omega (arith, (lawful_parts l e).long)), none_left form 0 (omega (arith, size_range form)))
       (read_none form job number next earlier ∙ ap read_as (upto_all l i earlier (lawful_parts l e).long (omega arith) u))
   open_from (suc k) i n number next earlier h u =
-      open_next i (omega arith) (open_from k (i + 1) (omega arith)) (get_or l i absent).stand refl number next earlier h u
+      open_next i (omega arith) (open_from k (i + 1) (omega arith)) (get_or l i absent) refl number next earlier h u

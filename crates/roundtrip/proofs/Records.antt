@@ -15,8 +15,7 @@ use Rattle.board.specs.declared.Place.{Place}
 use Rattle.board.specs.Place.{inside}
 use Rattle.board.proofs.Board.{number_held}
 use Rattle.drawing.specs.declared.Held.{Held}
-use Rattle.drawing.specs.declared.Pin.{Pin}
-use Rattle.drawing.specs.Pins.{is_net}
+use Rattle.drawing.specs.Pins.{Pin, is_net}
 use Rattle.pinmap.specs.declared.Form.{Form}
 use Rattle.pinmap.specs.declared.Form.TheVariants.{Old, New}
 use Rattle.pinmap.specs.Number.{bits_at, number_at, four_bytes, bits_of, put_at}
@@ -26,7 +25,8 @@ use Rattle.writemap.specs.Record.{byte_for, part_bytes, record_bytes}
 use Rattle.pinmap.proofs.Sizes.{size_range}
 use Rattle.records.proofs.Faults.{Faultless}
 use Rattle.writemap.proofs.Written.{record_stored, part_stored}
-use Rattle.roundtrip.proofs.Bytes.{join_split, number_split, first_byte_lem, second_byte_lem, third_byte_lem, fourth_byte_lem, bits_fit, bits_number, written_read}
+use Rattle.roundtrip.proofs.Bytes.{join_split, number_split, first_byte_lem, second_byte_lem, third_byte_lem, fourth_byte_lem}
+use Rattle.roundtrip.proofs.Bytes.{bits_fit, bits_number, written_read}
 use Rattle.roundtrip.proofs.Holding.{part_given, byte_fits, byte_again}
 
 -- An i32 holds the x of a place of the board,

@@ -1,35 +1,30 @@
 -- Written and read, both ways, in either form. The map of a drawing that keeps the rules, in a form that can hold its pins, opens under its job with
 -- the same pins; a map that opens is written in its form with the same bytes, and its pins keep the rules. From the laws of records, read forwards
 -- and back. Assumes nothing.
-use mathlib.Core.Path.{◌≡◌, refl, ap, ap₂, ◌∙◌}
+use mathlib.Core.Path.{◌≡◌, refl, sym, ap, ◌∙◌}
 use mathlib.Core.Bool.{Bool, true, false, false≢true}
 use mathlib.Core.List.{List, [], ◌∷◌, ◌++◌}
 use Prim.Native.Nat.{ℕ, ◌+◌, ◌/◌, ◌%◌, ◌<◌, ◌≤◌}
 use native.Mathlib.Omega.{arith}
-use lib.ListN.{length, take, drop}
+use lib.ListN.{length, take}
 use borrow.Author.Tests.{ltb-true}
-use lib.Seq.{take-append_seam}
-use Rattle.refusal.specs.declared.Verdict.TheVariants.{MapLength}
-use Rattle.basics.specs.Tests.{both, either, choose, any_of, each_of, no_two}
-use Rattle.refusal.specs.Refusals.{accepted}
-use Rattle.basics.proofs.Tests.{both_left, both_right, choose_yes, choose_no}
-use Rattle.drawing.specs.declared.Stand.{Stand}
-use Rattle.drawing.specs.declared.Stand.TheVariants.{Absent, There}
-use Rattle.drawing.specs.declared.Pin.{Pin}
+use Rattle.std.specs.Prelude.{Result, Ok, Err, None, Some, is_ok}
+use Rattle.refusal.specs.declared.Refusal.{Refusal}
+use Rattle.basics.specs.Tests.{both, either, any_of, each_of, no_two}
+use Rattle.basics.proofs.Tests.{both_left, both_right}
 use Rattle.board.specs.Spots.{most_pins, within, all_within, spots_too_near}
-use Rattle.drawing.specs.Pins.{spot_in, net_in, has_net, lawful, spot_of, spots_of, no_pins}
+use Rattle.drawing.specs.Pins.{Pin, has_net, lawful, spot_of, spots_of, no_pins}
 use Rattle.drawing.proofs.Rules.{lawful_parts}
 use Rattle.pinmap.specs.declared.Form.{Form}
 use Rattle.pinmap.specs.declared.Form.TheVariants.{Old, New}
-use Rattle.readmap.specs.declared.Reading.{Reading}
-use Rattle.pinmap.specs.Map.{record_size, Bytes, plain, holds, most_bytes, part_in, part_fits, parts_fit}
-use Rattle.writemap.specs.Record.{bytes_in, pin_bytes}
-use Rattle.readmap.specs.Map.{records_of, wrong_length, read_map, read_as}
-use Rattle.writemap.specs.Map.{map_from, map_of, written, write_map, buffer_after}
+use Rattle.pinmap.specs.Map.{record_size, Bytes, plain, holds, most_bytes, part_fits, parts_fit}
+use Rattle.writemap.specs.Record.{pin_bytes}
+use Rattle.readmap.specs.Map.{wrong_length, read_map, read_as, pins_of}
+use Rattle.writemap.specs.Map.{map_from, map_of, room_rows, write_map, buffer_after, bytes_of}
 use Rattle.pinmap.proofs.Sizes.{most_records_lem, whole_count}
-use Rattle.readmap.proofs.Judging.{refused_by, read_from, read_by_length}
+use Rattle.readmap.proofs.Judging.{turned_away, right_read}
 use Rattle.readmap.proofs.Lengths.{right_length, length_right}
-use Rattle.writemap.proofs.Written.{map_size}
+use Rattle.writemap.proofs.Written.{map_size, front_written}
 use Rattle.roundtrip.proofs.Holding.{new_holds}
 use Rattle.roundtrip.proofs.Records.{bytes_append, record_bytes_lem}
 use Rattle.roundtrip.proofs.Opening.{upto_none, open_from}
@@ -52,8 +47,7 @@ module _ (form : Form) (job : ℕ) (l : List Pin) where
   pub map_opens : lawful l ≡ true → each_of (holds form) l ≡ true → read_map form (map_of form job l) job ≡ read_as l
   unfolding map_of
   map_opens e g =
-      read_by_length form (map_from form job 0 l) job
-      ∙ choose_no _ _ (right_length form (map_from form job 0 l) (map_short (lawful_parts l e).long) map_whole)
+      right_read form (map_from form job 0 l) job (right_length form (map_from form job 0 l) (map_short (lawful_parts l e).long) map_whole)
       ∙ open_from form job l e g most_pins 0 refl 0 0 no_pins (omega arith) (upto_none l)
 
 -- So does its map in the new form, which can hold any pins.
@@ -64,11 +58,8 @@ new_opens job l e = map_opens New job l e (new_holds l)
 pin_bytes_lem : (form : Form) (job pin : ℕ) (q : Pin) → job < 65536 → pin < 256 → within (spot_of q) ≡ true → has_net q ≡ true → part_fits q ≡ true
     → Bytes (pin_bytes form job pin q)
 unfolding pin_bytes within spot_of has_net part_fits
-pin_bytes_lem form job pin q j p e n k = by_stand q.stand e n k
-  where
-    by_stand : (t : Stand) → within (spot_in t) ≡ true → net_in t ≡ true → part_in t ≡ true → Bytes (bytes_in form job pin t)
-    by_stand Absent e n k = λ i. omega arith
-    by_stand (There held) e n k = record_bytes_lem form job pin held j p e n (ltb-true _ _ k)
+pin_bytes_lem form job pin None j p e n k = λ i. omega arith
+pin_bytes_lem form job pin (Some held) j p e n k = record_bytes_lem form job pin held j p e n (ltb-true _ _ k)
 
 -- and so is the map from any pin on.
 bytes_from_lem : (form : Form) (job i : ℕ) (l : List Pin) → job < 65536 → i + length l ≤ 256 → all_within (spots_of l) ≡ true → each_of has_net l ≡ true
@@ -106,13 +97,6 @@ unfolding each_of both part_fits
 no_pins_fit = refl
 
 module _ (form : Form) (job : ℕ) (map : List ℕ) where
-  -- A reading that goes on only where the length is right gives that back, if what it goes on with does.
-  back_length : (t : Bool) (x : Reading) → (t ≡ false → accepted x.verdict ≡ true → Back form job map no_pins x)
-      → accepted (choose t (refused_by MapLength) x).verdict ≡ true → Back form job map no_pins (choose t (refused_by MapLength) x)
-  unfolding choose accepted
-  back_length true x f a = absurd (false≢true a)
-  back_length false x f a = f refl a
-
   -- Reading begins with no pin.
   kept-none : Kept form 0 no_pins
   kept-none = record { rules = no_pins_lawful; held = no_pins_held form; clear = λ k h. (upto_none no_pins).above k (omega arith) }
@@ -122,82 +106,100 @@ module _ (form : Form) (job : ℕ) (map : List ℕ) where
   unfolding map_of map_from pin_bytes
   none_written = refl
 
-  -- What a map that opens gives back.
-  back_read : accepted (read_map form map job).verdict ≡ true → Back form job map no_pins (read_map form map job)
-  back_read a =
-      let q = read_by_length form map job in
-      rw q
-      (back_length (wrong_length form map) (read_from form job 0 0 no_pins (records_of form map))
-      (λ e. back_from form job (length map / record_size form) map 0 0 no_pins (whole_count form (length map) (length_right form map e).1) kept-none) (rw q at a))
+  -- What a map that opens gives back: its length is right, since another would turn it away.
+  back_read : (l : List Pin) → read_map form map job ≡ read_as l → Back form job map no_pins l
+  back_read l a = by (wrong_length form map) refl
+    where
+      by : (t : Bool) → wrong_length form map ≡ t → Back form job map no_pins l
+      by true e =
+          let q = turned_away form map job e ∙ a in
+          cc
+      by false e =
+          back_from form job (length map / record_size form) map 0 0 no_pins l (whole_count form (length map) (length_right form map e).1) kept-none
+          (sym (right_read form map job e) ∙ a)
+
+  -- A map opens where it is read with its pins,
+  opens_with : is_ok (read_map form map job) ≡ true → read_map form map job ≡ read_as (pins_of (read_map form map job))
+  opens_with a = by (read_map form map job) a
+    where
+      by : (x : Result (List Pin) Refusal) → is_ok x ≡ true → x ≡ read_as (pins_of x)
+      by (Ok l) a = refl
+      by (Err r) a = absurd (false≢true a)
+
+  -- and gives back what it was read from.
+  back_opened : is_ok (read_map form map job) ≡ true → Back form job map no_pins (pins_of (read_map form map job))
+  back_opened a = back_read (pins_of (read_map form map job)) (opens_with a)
 
   -- A map that opens is written in its form with the same bytes.
-  pub same_bytes : Bytes map → accepted (read_map form map job).verdict ≡ true → map_of form job (read_map form map job).pins ≡ map
-  same_bytes b a = (back_read a).bytes b ∙ ap (λ (m : List ℕ). m ++ map) none_written
+  pub same_bytes : Bytes map → is_ok (read_map form map job) ≡ true → map_of form job (pins_of (read_map form map job)) ≡ map
+  same_bytes b a = (back_opened a).bytes b ∙ ap (λ (m : List ℕ). m ++ map) none_written
 
   -- Its pins keep the rules of a drawing,
-  pub opened_lawful : accepted (read_map form map job).verdict ≡ true → lawful (read_map form map job).pins ≡ true
-  opened_lawful a = (back_read a).rules
+  pub opened_lawful : is_ok (read_map form map job) ≡ true → lawful (pins_of (read_map form map job)) ≡ true
+  opened_lawful a = (back_opened a).rules
 
   -- are such as its form can hold,
-  pub opened_held : accepted (read_map form map job).verdict ≡ true → each_of (holds form) (read_map form map job).pins ≡ true
-  opened_held a = (back_read a).held
+  pub opened_held : is_ok (read_map form map job) ≡ true → each_of (holds form) (pins_of (read_map form map job)) ≡ true
+  opened_held a = (back_opened a).held
 
   -- and their part numbers take four bytes at most.
-  pub opened_parts : Bytes map → accepted (read_map form map job).verdict ≡ true → parts_fit (read_map form map job).pins ≡ true
-  opened_parts b a = (back_read a).parts b no_pins_fit
+  pub opened_parts : Bytes map → is_ok (read_map form map job) ≡ true → parts_fit (pins_of (read_map form map job)) ≡ true
+  opened_parts b a = (back_opened a).parts b no_pins_fit
 
   -- ---- a map that does not open
 
   -- A map that is turned away gives no pins.
-  pub refused_none : accepted (read_map form map job).verdict ≡ false → (read_map form map job).pins ≡ no_pins
-  unfolding read_map
-  refused_none a = choose_no _ _ a
+  pub refused_none : is_ok (read_map form map job) ≡ false → pins_of (read_map form map job) ≡ no_pins
+  refused_none a = by (read_map form map job) a
+    where
+      by : (x : Result (List Pin) Refusal) → is_ok x ≡ false → pins_of x ≡ no_pins
+      by (Ok l) a = absurd (false≢true (sym a))
+      by (Err r) a = refl
 
   -- What holds of no pins and of those of a map that opens holds of what is handed back, whatever the map.
-  by_verdict : (test : List Pin → Bool) → test no_pins ≡ true → (accepted (read_map form map job).verdict ≡ true → test (read_map form map job).pins ≡ true)
-      → test (read_map form map job).pins ≡ true
-  by_verdict test n f = by (accepted (read_map form map job).verdict) refl
+  by_verdict : (test : List Pin → Bool) → test no_pins ≡ true → (is_ok (read_map form map job) ≡ true → test (pins_of (read_map form map job)) ≡ true)
+      → test (pins_of (read_map form map job)) ≡ true
+  by_verdict test n f = by (is_ok (read_map form map job)) refl
     where
-      by : (t : Bool) → accepted (read_map form map job).verdict ≡ t → test (read_map form map job).pins ≡ true
+      by : (t : Bool) → is_ok (read_map form map job) ≡ t → test (pins_of (read_map form map job)) ≡ true
       by true e = f e
       by false e = rw (refused_none e) n
 
   -- Whatever the map, the pins that are handed back keep the rules,
-  pub read_lawful : lawful (read_map form map job).pins ≡ true
+  pub read_lawful : lawful (pins_of (read_map form map job)) ≡ true
   read_lawful = by_verdict lawful no_pins_lawful opened_lawful
 
   -- are such as its form can hold,
-  pub read_held : each_of (holds form) (read_map form map job).pins ≡ true
+  pub read_held : each_of (holds form) (pins_of (read_map form map job)) ≡ true
   read_held = by_verdict (each_of (holds form)) (no_pins_held form) opened_held
 
   -- and have part numbers of four bytes at most.
-  pub read_parts : Bytes map → parts_fit (read_map form map job).pins ≡ true
+  pub read_parts : Bytes map → parts_fit (pins_of (read_map form map job)) ≡ true
   read_parts b = by_verdict parts_fit no_pins_fit (opened_parts b)
 
 -- ---- from one form to the other
 
-module _ (from to : Form) (job : ℕ) (map : List ℕ) (h : each_of (holds to) (read_map from map job).pins ≡ true) where
+module _ (from to : Form) (job : ℕ) (map : List ℕ) (h : each_of (holds to) (pins_of (read_map from map job)) ≡ true) where
   -- The pins of a map, written in a form that can hold them, are read there as they were,
-  pub moved_opens : read_map to (map_of to job (read_map from map job).pins) job ≡ read_as (read_map from map job).pins
-  moved_opens = map_opens to job (read_map from map job).pins (read_lawful from job map) h
+  pub moved_opens : read_map to (map_of to job (pins_of (read_map from map job))) job ≡ read_as (pins_of (read_map from map job))
+  moved_opens = map_opens to job (pins_of (read_map from map job)) (read_lawful from job map) h
 
 -- ---- a map in a buffer
 
 -- Where a writing is accepted, the bytes written, the front of the lent buffer, are the map.
-pub bytes_written : (form : Form) (job : ℕ) (l : List Pin) (buffer : List ℕ) → accepted (write_map form l job buffer).verdict ≡ true
-    → take (write_map form l job buffer).bytes (buffer_after form l job buffer) ≡ map_of form job l
-unfolding write_map buffer_after written
-bytes_written form job l buffer a =
-    ap₂ take (choose_yes (length (map_of form job l)) 0 a) (choose_yes _ buffer a) ∙ take-append_seam (map_of form job l) (drop (length (map_of form job l)) buffer)
+pub bytes_written : (form : Form) (job : ℕ) (l : List Pin) (buffer : List ℕ) → is_ok (write_map form l job buffer) ≡ true
+    → take (bytes_of (write_map form l job buffer)) (buffer_after form l job buffer) ≡ map_of form job l
+unfolding write_map buffer_after
+bytes_written form job l buffer a = front_written (room_rows form job l (length buffer)) (map_of form job l) buffer a
 
 -- The bytes that were written open under their job with the same pins.
 pub written_opens : (form : Form) (job : ℕ) (l : List Pin) (buffer : List ℕ) → lawful l ≡ true → each_of (holds form) l ≡ true
-    → accepted (write_map form l job buffer).verdict ≡ true
-    → read_map form (take (write_map form l job buffer).bytes (buffer_after form l job buffer)) job ≡ read_as l
+    → is_ok (write_map form l job buffer) ≡ true
+    → read_map form (take (bytes_of (write_map form l job buffer)) (buffer_after form l job buffer)) job ≡ read_as l
 written_opens form job l buffer e g a = ap (λ (m : List ℕ). read_map form m job) (bytes_written form job l buffer a) ∙ map_opens form job l e g
 
 -- A map that opens and is written again gives its bytes.
-pub opened_written : (form : Form) (job : ℕ) (map buffer : List ℕ) → Bytes map → accepted (read_map form map job).verdict ≡ true
-    → accepted (write_map form (read_map form map job).pins job buffer).verdict ≡ true
-    → take (write_map form (read_map form map job).pins job buffer).bytes (buffer_after form (read_map form map job).pins job buffer) ≡ map
-opened_written form job map buffer b a c = bytes_written form job (read_map form map job).pins buffer c ∙ same_bytes form job map b a
+pub opened_written : (form : Form) (job : ℕ) (map buffer : List ℕ) → Bytes map → is_ok (read_map form map job) ≡ true
+    → is_ok (write_map form (pins_of (read_map form map job)) job buffer) ≡ true
+    → take (bytes_of (write_map form (pins_of (read_map form map job)) job buffer)) (buffer_after form (pins_of (read_map form map job)) job buffer) ≡ map
+opened_written form job map buffer b a c = bytes_written form job (pins_of (read_map form map job)) buffer c ∙ same_bytes form job map b a

@@ -1,4 +1,3 @@
 -- The laws of the rows that other crates cite.
 pub mod Rows
-pub mod Turned
 pub mod Passed

@@ -6,24 +6,23 @@ use mathlib.Core.List.{List, ◌++◌}
 use Prim.Native.Nat.{ℕ, ◌-◌, ◌<◌}
 use borrow.Author.Tests.{not-false, eqb-false, leb-false}
 use lib.Dec.{leb}
+use Rattle.std.specs.Prelude.{None, Some}
 use Rattle.basics.proofs.Tests.{either-false}
-use Rattle.refusal.specs.Refusals.{accepted}
-use Rattle.refusal.specs.Rows.{Row, first_of, NoneHolds}
+use Rattle.refusal.specs.Refusals.{Verdict, accepted}
+use Rattle.refusal.specs.Rows.{Row, first_of, NoneHolds, granted}
 use Rattle.refusal.proofs.Rows.{none-accepted, none-holds, none_before, none_after}
 use Rattle.board.specs.declared.Place.{Place}
 use Rattle.board.specs.Place.{same_place}
 use Rattle.board.specs.Spots.{most_pins}
-use Rattle.drawing.specs.declared.Stand.{Stand}
-use Rattle.drawing.specs.declared.Stand.TheVariants.{Absent, There}
-use Rattle.drawing.specs.declared.Pin.{Pin}
 use Rattle.edits.specs.declared.stated.Making.{Making}
 use Rattle.edits.specs.declared.stated.Making.TheVariants.{Placing, Moving, Removing}
-use Rattle.drawing.specs.Pins.{there, pin_at, there_in, is_there, lawful, held_in, held_by, stands_in, stands_at}
+use Rattle.drawing.specs.Pins.{Pin, no_pins, there, pin_at, is_there, lawful, held_by, stands_at}
 use Rattle.edits.specs.Edits.{makeable}
 use Rattle.edits.specs.Stated.{edit_of}
 use Rattle.edits.proofs.Changing.{placed_makeable, moved_makeable, removed_makeable}
 use Rattle.pinmap.specs.declared.Form.{Form}
-use Rattle.readmap.specs.Map.{map_rows, read_map}
+use Rattle.readmap.specs.Map.{records_of, with_pins_of, map_rows, read_map}
+use Rattle.writemap.specs.Map.{verdict_of}
 use Rattle.journal.specs.Journal.{most_seats, most_records}
 use Rattle.seats.specs.Seats.{job_among}
 use Rattle.rows.specs.Calls.{Call, opening, closing, making, undoing, redoing, asking}
@@ -42,7 +41,7 @@ pub record Opens (l : Look) (job : ℕ) (form : Form) (map : List ℕ) : Type 0 
   pub shown : l.opened ≡ false
   pub set : job ≡ 0 → ⊥
   pub fresh : job_among job l.jobs ≡ false
-  pub read : accepted (read_map form map job).verdict ≡ true
+  pub read : accepted (verdict_of (read_map form map job)) ≡ true
 
 -- An accepted new edit: it can be made on pins that keep the rules, and the journal has room.
 pub record Enters (l : Look) (m : Making) : Type 0 where
@@ -62,24 +61,16 @@ Passes l (asking s a) = OpenSeat l × NoneHolds (asking_rows l.job l.pins a)
 -- ---- an edit that no row turns away can be made
 
 -- A pin that is there, with what it holds.
-stand_held : (s : Stand) → there_in s ≡ true → s ≡ There (held_in s)
-stand_held Absent e = cc
-stand_held (There h) e = refl
-
--- So is the pin itself.
 pin_held : (q : Pin) → is_there q ≡ true → q ≡ there (held_by q)
 unfolding is_there held_by
-pin_held q e = let p : q.stand ≡ There (held_in q.stand) = stand_held q.stand e in λ i. record { stand = p i }
+pin_held None e = cc
+pin_held (Some h) e = refl
 
 -- A pin that does not stand at a place holds another one.
-stand_elsewhere : (s : Stand) (at : Place) → there_in s ≡ true → stands_in s at ≡ false → same_place (held_in s).place at ≡ false
-stand_elsewhere Absent at e n = cc
-stand_elsewhere (There h) at e n = n
-
--- So does the pin itself.
 pin_elsewhere : (q : Pin) (at : Place) → is_there q ≡ true → stands_at q at ≡ false → same_place (held_by q).place at ≡ false
 unfolding is_there held_by stands_at
-pin_elsewhere q at e n = stand_elsewhere q.stand at e n
+pin_elsewhere None at e n = cc
+pin_elsewhere (Some h) at e n = n
 
 -- The row 6 is passed: the pin is there.
 is_there_lem : (l : List Pin) (p : ℕ) → not_there l p ≡ false → (p < most_pins) × (is_there (pin_at l p) ≡ true)
@@ -114,7 +105,9 @@ none_passes l (opening s job form map) n =
       shown = n.1.1.0;
       set = eqb-false _ _ n.1.1.1.0;
       fresh = n.1.1.1.1.0;
-      read = ap accepted (none-accepted (map_rows form map job) n.1.1.1.1.1);
+      read =
+          ap (λ (v : Verdict). accepted (verdict_of (granted v (with_pins_of form no_pins (records_of form map)))))
+          (none-accepted (map_rows form map job) n.1.1.1.1.1);
     }
 none_passes l (closing s) n = seat_open l.broken l.seat l.opened n
 none_passes l (making s m) n =

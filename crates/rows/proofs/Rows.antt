@@ -1,25 +1,22 @@
 -- The rows of every call are apart, what was read of them first, and what they decide. From the laws of rows; assumes nothing.
-use mathlib.Core.Path.{◌≡◌, refl, ap, sym, ◌∙◌}
+use mathlib.Core.Path.{◌≡◌, refl, ap, sym}
 use mathlib.Core.Bool.{Bool, true, false}
 use mathlib.Core.List.{List, [], ◌∷◌, ◌++◌}
 use Prim.Native.Nat.{ℕ, ◌<◌}
 use lib.Dec.{leb}
 use borrow.Author.Tests.{not-false, leb-false}
+use Rattle.std.specs.Prelude.{Ok, Err}
 use Rattle.basics.specs.Tests.{both, choose, each_of}
 use Rattle.refusal.specs.Refusals.{accepted}
-use Rattle.refusal.specs.Rows.{Row, given, first_of, NoneHolds}
-use Rattle.refusal.specs.declared.Verdict.{Verdict}
-use Rattle.refusal.specs.declared.Verdict.TheVariants.{SeatAbove, DeskBroken}
+use Rattle.refusal.specs.Rows.{Row, given, first_of, NoneHolds, granted}
+use Rattle.refusal.specs.Refusals.{Verdict}
+use Rattle.refusal.specs.declared.Refusal.{Refusal}
+use Rattle.refusal.specs.declared.Refusal.TheVariants.{SeatAbove, DeskBroken}
 use Rattle.refusal.proofs.Rows.{unlike, distinct, Apart, apart_by, apart_both, none-holds, none_before, stops, goes, decided_away, decided_on}
 use Rattle.edits.specs.declared.stated.Making.TheVariants.{Placing, Moving, Removing}
-use lib.ListN.{length}
 use lib.Ieee.{Float}
-use Rattle.drawing.specs.Pins.{no_pins}
-use Rattle.pinmap.specs.declared.Form.{Form}
-use Rattle.readmap.specs.declared.Reading.{Reading}
-use Rattle.writemap.specs.declared.Writing.{Writing}
-use Rattle.readmap.specs.Map.{records_of, with_pins_of, map_rows, read_by}
-use Rattle.writemap.specs.Map.{written, write_by, buffer_by}
+use Rattle.readmap.specs.Map.{map_rows}
+use Rattle.writemap.specs.Map.{written, buffer_by}
 use Rattle.readmap.proofs.Judging.{not_of_map, map-differs, map_apart}
 use Rattle.copper.specs.declared.Leg.{Leg}
 use Rattle.mill.specs.Answer.{cut_with, cut_by}
@@ -35,22 +32,22 @@ use Rattle.pinrows.specs.PinRows.{net_row}
 
 -- 28, 1 and 2 are.
 pub naming_apart : (broken : Bool) (seat : ℕ) (opened : Bool) → Apart (naming_rows broken seat opened)
-unfolding distinct unlike accepted both
+unfolding distinct unlike both
 naming_apart broken seat opened = apart_by (naming_rows broken seat opened) refl
 
 -- 28, 1, 3, 4 and 5 are.
 pub taking_apart : (broken : Bool) (seat : ℕ) (opened : Bool) (job : ℕ) (jobs : List ℕ) → Apart (taking_rows broken seat opened job jobs)
-unfolding distinct unlike accepted both
+unfolding distinct unlike both
 taking_apart broken seat opened job jobs = apart_by (taking_rows broken seat opened job jobs) refl
 
 -- 28, 1, 2 and 21 are.
 pub net_apart : (broken : Bool) (seat : ℕ) (opened : Bool) (net : ℕ) → Apart (naming_net_rows broken seat opened net)
-unfolding distinct unlike accepted both
+unfolding distinct unlike both
 net_apart broken seat opened net = apart_by (naming_net_rows broken seat opened net) refl
 
 -- THE ROWS OF EVERY CALL ARE APART.
 pub rows_apart : (l : Look) (c : Call) → Apart (rows_of l c)
-unfolding distinct unlike accepted both not_of_map each_of
+unfolding distinct unlike both not_of_map each_of
 rows_apart l (opening s job form map) =
     apart_both (taking_rows l.broken l.seat l.opened job l.jobs) (map_rows form map job) not_of_map
     (taking_apart l.broken l.seat l.opened job l.jobs) refl (map-differs form map job) (map_apart form map job)
@@ -99,7 +96,8 @@ rows_begin l (redoing s) = (_, refl)
 rows_begin l (asking s a) = (_, refl)
 
 -- So a call that names a seat above 7 is answered alike whatever else it looks at.
-pub above_alike : (l m : Look) (c : Call) → l.broken ≡ m.broken → l.seat ≡ m.seat → leb most_seats l.seat ≡ true → first_of (rows_of l c) ≡ first_of (rows_of m c)
+pub above_alike : (l m : Look) (c : Call) → l.broken ≡ m.broken → l.seat ≡ m.seat → leb most_seats l.seat ≡ true
+    → first_of (rows_of l c) ≡ first_of (rows_of m c)
 unfolding first_of choose
 above_alike l m c e f a = rw ((rows_begin l c).1, (rows_begin m c).1, ← e, ← f, a)
 
@@ -113,44 +111,49 @@ seat_low l c y =
 -- ---- what is found
 
 -- Where 28, 1 and 2 were asked first of what is found: one of them applies, or none does.
-module _ (f : Found) {v : Verdict} (e : v ≡ first_of (naming_found f)) where
+module _ (f : Found) where
   -- Refused by one of them, a call is so whatever comes after;
-  pub naming_stops : (more : List Row) → accepted v ≡ false → v ≡ first_of (naming_found f ++ more)
-  naming_stops more n = stops (naming_found f) more (naming_apart f.broken f.seat f.state.opened) e n
+  pub naming_stops : (more : List Row) {r : Refusal} → Err r ≡ first_of (naming_found f) → Err r ≡ first_of (naming_found f ++ more)
+  unfolding accepted
+  naming_stops more e = stops (naming_found f) more (naming_apart f.broken f.seat f.state.opened) e refl
 
   -- accepted, what comes after them decides,
-  pub naming_goes : (more : List Row) {x : Verdict} → accepted v ≡ true → x ≡ first_of more → x ≡ first_of (naming_found f ++ more)
-  naming_goes more y g = goes (naming_found f) more (naming_apart f.broken f.seat f.state.opened) e y g
+  pub naming_goes : (more : List Row) {x : Verdict} → Ok tt ≡ first_of (naming_found f) → x ≡ first_of more → x ≡ first_of (naming_found f ++ more)
+  unfolding accepted
+  naming_goes more e g = goes (naming_found f) more (naming_apart f.broken f.seat f.state.opened) e refl g
 
   -- and the seat is open.
-  pub naming_passed : accepted v ≡ true → SeatOpen f.broken f.seat f.state.opened
-  naming_passed y =
+  pub naming_passed : Ok tt ≡ first_of (naming_found f) → SeatOpen f.broken f.seat f.state.opened
+  unfolding accepted
+  naming_passed e =
       seat_open f.broken f.seat f.state.opened
-      (none-holds (naming_found f) (naming_apart f.broken f.seat f.state.opened) (ap accepted (sym e) ∙ y))
+      (none-holds (naming_found f) (naming_apart f.broken f.seat f.state.opened) (ap accepted (sym e)))
+
+-- ---- what is granted
+
+-- What was given was asked for behind rows that accept,
+pub granted_ok : {A : Type 0} (v : Verdict) (x : A) {y : A} → granted v x ≡ Ok y → (v ≡ Ok tt) × (y ≡ x)
+granted_ok (Ok a) x e = (refl, cc)
+granted_ok (Err r) x e = cc
+
+-- and what was refused is what the rows answer.
+pub granted_err : {A : Type 0} (v : Verdict) (x : A) {r : Refusal} → granted v x ≡ Err r → v ≡ Err r
+granted_err (Ok a) x e = cc
+granted_err (Err r) x e = cc
 
 -- ---- what rows decide
 
 -- Where the first rows were asked before:
 module _ (rows more : List Row) (a : Apart rows) {v : Verdict} (e : v ≡ first_of rows) where
-  -- a map that they turn away is not read,
-  pub read_away : (form : Form) (map : List ℕ) → accepted v ≡ false → ◌≡◌ {A = Reading} (record { verdict = v; pins = no_pins }) (read_by (rows ++ more) form map)
-  read_away form map n = decided_away rows more a e (λ v pins. record { verdict = v; pins = pins }) (with_pins_of form no_pins (records_of form map)) no_pins n
+  -- a buffer to which no map is written stays as it is,
+  pub buffer_away : (map buffer : List ℕ) → accepted v ≡ false → buffer ≡ buffer_by (rows ++ more) map buffer
+  buffer_away map buffer n = decided_away rows more a e (λ v b. b) (written map buffer) buffer n
 
-  -- and one that they pass is read as the later rows decide;
-  pub read_on : (form : Form) (map : List ℕ) → accepted v ≡ true → read_by more form map ≡ read_by (rows ++ more) form map
-  read_on form map y = decided_on rows more a e (λ v pins. record { verdict = v; pins = pins }) (with_pins_of form no_pins (records_of form map)) no_pins y
+  -- and holds one that is written as the later rows decide;
+  pub buffer_on : (map buffer : List ℕ) → accepted v ≡ true → buffer_by more map buffer ≡ buffer_by (rows ++ more) map buffer
+  buffer_on map buffer y = decided_on rows more a e (λ v b. b) (written map buffer) buffer y
 
-  -- so it is with a map that is not written,
-  pub write_away : (map buffer : List ℕ) → accepted v ≡ false
-      → ◌≡◌ {A = Writing} (record { verdict = v; bytes = 0 }) (write_by (rows ++ more) map) × (buffer ≡ buffer_by (rows ++ more) map buffer)
-  write_away map buffer n = (decided_away rows more a e (λ v bytes. record { verdict = v; bytes = bytes }) (length map) 0 n, decided_away rows more a e (λ v b. b) (written map buffer) buffer n)
-
-  -- and one that is;
-  pub write_on : (map buffer : List ℕ) → accepted v ≡ true
-      → (write_by more map ≡ write_by (rows ++ more) map) × (buffer_by more map buffer ≡ buffer_by (rows ++ more) map buffer)
-  write_on map buffer y = (decided_on rows more a e (λ v bytes. record { verdict = v; bytes = bytes }) (length map) 0 y, decided_on rows more a e (λ v b. b) (written map buffer) buffer y)
-
-  -- with volts lost that are not told,
+  -- so it is with volts lost that are not told,
   pub lost_away : (drops : List Float) → accepted v ≡ false → none_lost v ≡ lost_by (rows ++ more) drops
   unfolding none_lost
   lost_away drops n = decided_away rows more a e (λ v l. record { verdict = v; drops = l }) drops no_drops n

@@ -2,7 +2,7 @@
 use Rattle.std.specs.Prelude.{List, ℕ}
 use Rattle.edits.specs.declared.stated.Making.{Making}
 use Rattle.copper.specs.declared.Favour.{Favour}
-use Rattle.loads.specs.declared.Loaded.{Loaded}
+use Rattle.loads.specs.declared.Load.{Load}
 use Rattle.loads.specs.declared.Sheet.{Sheet}
 use Rattle.pinmap.specs.declared.Form.{Form}
 
@@ -12,7 +12,7 @@ pub data Asking : Type 0 where
   writing : ℕ → Asking
   wiring : ℕ → ℕ → Favour → Asking
   milling : ℕ → ℕ → Favour → Asking
-  dropping : ℕ → List Loaded → Sheet → Asking
+  dropping : ℕ → List Load → Sheet → Asking
 
 -- Opening from a pin map of a form, closing, making an edit (placing, moving, removing a pin), undo, redo, and asking.
 pub data Call : Type 0 where

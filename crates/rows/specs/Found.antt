@@ -3,10 +3,10 @@ use Rattle.std.specs.Prelude.{not, List, ℕ, leb, get_or}
 use Rattle.basics.specs.Tests.{choose}
 use Rattle.refusal.specs.Refusals.{accepted}
 use Rattle.refusal.specs.Rows.{Row, first_of}
-use Rattle.board.specs.declared.Spot.{Spot}
+use Rattle.board.specs.Spots.{Spot}
 use Rattle.wiring.specs.declared.Laid.{Laid}
 use Rattle.wiring.specs.Answer.{wiring_of, turned_away}
-use Rattle.journal.specs.declared.Record.{Record}
+use Rattle.journal.specs.declared.Journal.{Journal}
 use Rattle.journal.specs.Journal.{most_seats}
 use Rattle.seats.specs.declared.Seat.{Seat}
 use Rattle.seats.specs.Seats.{closed_seat, no_seat}
@@ -16,9 +16,9 @@ use Rattle.rows.specs.Refusals.{naming_rows, naming_net_rows}
 use Rattle.copper.specs.declared.Favour.{Favour}
 
 -- What a call finds on these seats and this journal: whether they are not sound, and the state of the seat that it names, a closed one's above 7.
-abbrev pub found_in : List Seat → List Record → ℕ → ℕ → Found
-found_in l journal used s =
-    record { broken = not (sound_all l journal used); seat = s; state = choose (leb most_seats s) closed_seat (get_or l s no_seat) }
+abbrev pub found_in : List Seat → Journal → ℕ → Found
+found_in l journal s =
+    record { broken = not (sound_all l journal); seat = s; state = choose (leb most_seats s) closed_seat (get_or l s no_seat) }
 
 -- 28, 1 and 2 of what is found.
 abbrev pub naming_found : Found → List Row

@@ -1,9 +1,8 @@
 -- What is turned away: for each call its rows of refusals in the order of documents 01 and 02, over what the call looks at.
 use Rattle.std.specs.Prelude.{Bool, not, List, [], ◌∷◌, ◌++◌, ℕ, ◌-◌, eqb, leb}
 use Rattle.refusal.specs.Rows.{Row, given}
-use Rattle.refusal.specs.declared.Verdict.TheVariants.{SeatAbove, NotOpen, OpenAlready, JobZero, JobElsewhere, NothingStands, NothingTakenBack, JournalFull, DeskBroken}
-use Rattle.drawing.specs.declared.Pin.{Pin}
-use Rattle.drawing.specs.Pins.{feed_of}
+use Rattle.refusal.specs.declared.Refusal.TheVariants.{SeatAbove, NotOpen, OpenAlready, JobZero, JobElsewhere, NothingStands, NothingTakenBack, JournalFull, DeskBroken}
+use Rattle.drawing.specs.Pins.{Pin, feed_of}
 use Rattle.pinmap.specs.declared.Form.TheVariants.{New}
 use Rattle.readmap.specs.Map.{map_rows}
 use Rattle.writemap.specs.Map.{room_rows}

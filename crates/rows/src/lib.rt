@@ -1,25 +1,25 @@
 // Rows of refusals: what a call finds at the seat that it names, and over that, for each call that changes a desk, its row in the order of documents 01 and 02; and what opening reads.
 #![tactic(auto)]
 
-ghost use Rattle.std.specs.Prelude.{◌≡◌, false, ◌++◌, ◌≤◌, take};
+ghost use Rattle.std.specs.Prelude.{◌≡◌, false, ◌++◌, ◌≤◌};
 ghost use Rattle.refusal.specs.Rows.{first_of};
 ghost use Rattle.readmap.specs.Map.{map_rows, read_by};
-ghost use Rattle.journal.specs.Journal.{most_records, own};
+ghost use Rattle.journal.specs.Journal.{most_records, in_use, own};
 ghost use Rattle.seats.specs.Seats.{taken_back_count, jobs_in};
 ghost use Rattle.rows.specs.Refusals.{taking_rows, full_row, undoing_row, redoing_row};
 ghost use Rattle.pinrows.specs.PinRows.{making_rows};
 ghost use Rattle.rows.specs.Found.{found_in, naming_found};
 
-use board::{PINS, Place};
-use drawing::{Held, Pin};
+use board::PINS;
+use drawing::Pin;
 use edits::stated::Making;
-use journal::{RECORDS, Record, SEATS};
+use journal::{Journal, RECORDS, SEATS};
 use pinmap::Form;
-use readmap::Reading;
-use refusal::Verdict;
+use refusal::{Refusal, Verdict};
 use seats::Seat;
 
 // What a call finds: whether the desk is broken, the seat that it names, and that seat's state, a closed one's where there is no such seat.
+// A flag beside the state, and no Result: opening asks other rows of the same three than other calls do, and `Desk::find` promises all three of any desk (`found_in`).
 #[derive(Clone, Copy)]
 pub struct Found {
     pub broken: bool,
@@ -28,153 +28,120 @@ pub struct Found {
 }
 
 // What a call that names a seat finds.
-pub fn find(seats: [Seat; SEATS], journal: [Record; RECORDS], used: usize, seat: usize) -> Found
-    ensures { result ≡ found_in seats journal used seat }
+#[tactic(auto, unfolding(basics::specs::Tests::choose))]
+pub fn find(seats: &[Seat; SEATS], journal: &Journal, seat: usize) -> Found
+    ensures { result ≡ found_in seats.now journal.now seat }
 {
-    let sound = sound::are_sound(seats, journal, used);
-    if SEATS <= seat {
-        let state = seats::closed_seat();
-        return Found {
-            broken: !sound,
-            seat,
-            state,
-        };
-    }
-    let state = seats[seat];
     Found {
-        broken: !sound,
+        broken: !sound::are_sound(seats, journal),
         seat,
-        state,
+        state: seats.get(seat).copied().unwrap_or(Seat::closed()),
     }
 }
 
 // Every call naming a seat, but opening: 28, 1, 2. Closing no more than these.
-pub fn turned_naming(found: Found) -> Verdict
-    ensures { result ≡ first_of (naming_found found) }
+#[tactic(auto, unfolding(refusal::specs::Rows::first_of, basics::specs::Tests::choose))]
+pub fn turned_naming(found: &Found) -> Verdict
+    ensures { result ≡ first_of (naming_found found.now) }
 {
     if found.broken {
-        return Verdict::DeskBroken;
+        return Err(Refusal::DeskBroken);
     }
     if SEATS <= found.seat {
-        return Verdict::SeatAbove;
+        return Err(Refusal::SeatAbove);
     }
-    let s = found.state;
-    if s.opened {
-        Verdict::Accepted
+    if found.state.opened {
+        Ok(())
     } else {
-        Verdict::NotOpen
+        Err(Refusal::NotOpen)
     }
 }
 
 // An edit of the seat that is found takes a record: 12.
-#[tactic(auto, using(crate::proofs::Turned::full_hit, crate::proofs::Turned::full_missed))]
-fn turned_full(found: Found, journal: [Record; RECORDS], used: usize) -> Verdict
-    requires { used ≤ most_records }
-    ensures { result ≡ first_of (full_row used (taken_back_count found.state (own found.seat (take used journal)))) }
+#[tactic(auto, unfolding(refusal::specs::Rows::first_of, basics::specs::Tests::choose))]
+fn turned_full(found: &Found, journal: &Journal) -> Verdict
+    requires { journal.now.used ≤ most_records }
+    ensures { result ≡ first_of (full_row journal.now.used (taken_back_count found.now.state (own found.now.seat (in_use journal.now)))) }
 {
-    let s = found.state;
-    let taken_back = seats::taken_back_count(s, journal, used, found.seat);
-    if used - taken_back == RECORDS {
-        Verdict::JournalFull
+    let taken_back = found.state.taken_back_count(journal, found.seat);
+    if journal.used - taken_back == RECORDS {
+        Err(Refusal::JournalFull)
     } else {
-        Verdict::Accepted
+        Ok(())
     }
 }
 
 // Making an edit: 28, 1, 2, then what the pins say, then 12.
-pub fn turned_making(
-    found: Found,
-    making: Making,
-    journal: [Record; RECORDS],
-    used: usize,
-) -> Verdict
-    requires { found.broken ≡ false → used ≤ most_records }
-    ensures { result ≡ first_of (naming_found found ++ (making_rows found.state.pins making ++ full_row used (taken_back_count found.state (own found.seat (take used journal))))) }
+pub fn turned_making(found: &Found, making: Making, journal: &Journal) -> Verdict
+    requires { found.now.broken ≡ false → journal.now.used ≤ most_records }
+    ensures { result ≡ first_of (naming_found found.now ++ (making_rows found.now.state.pins making ++ full_row journal.now.used (taken_back_count found.now.state (own found.now.seat (in_use journal.now))))) }
 {
-    let verdict = turned_naming(found);
-    if !refusal::is_accepted(verdict) {
-        return verdict;
-    }
-    let s = found.state;
-    let pins = s.pins;
-    let told = pinrows::turned_edit(pins, making);
-    if refusal::is_accepted(told) {
-        turned_full(found, journal, used)
-    } else {
-        told
-    }
+    turned_naming(found)?;
+    pinrows::turned_edit(&found.state.pins, making)?;
+    turned_full(found, journal)
 }
 
 // Undo: 28, 1, 2, 10.
-#[tactic(auto, using(crate::proofs::Turned::undone_none, crate::proofs::Turned::undone_some))]
-pub fn turned_undoing(found: Found) -> Verdict
-    ensures { result ≡ first_of (naming_found found ++ undoing_row found.state.standing) }
+#[tactic(auto, unfolding(refusal::specs::Rows::first_of, basics::specs::Tests::choose))]
+pub fn turned_undoing(found: &Found) -> Verdict
+    ensures { result ≡ first_of (naming_found found.now ++ undoing_row found.now.state.standing) }
 {
-    let verdict = turned_naming(found);
-    if !refusal::is_accepted(verdict) {
-        return verdict;
-    }
-    let s = found.state;
-    if s.standing == 0 {
-        Verdict::NothingStands
+    turned_naming(found)?;
+    if found.state.standing == 0 {
+        Err(Refusal::NothingStands)
     } else {
-        Verdict::Accepted
+        Ok(())
     }
 }
 
 // Redo: 28, 1, 2, 11.
-#[tactic(auto, using(crate::proofs::Turned::redone_none, crate::proofs::Turned::redone_some))]
-pub fn turned_redoing(found: Found, journal: [Record; RECORDS], used: usize) -> Verdict
-    requires { found.broken ≡ false → used ≤ most_records }
-    ensures { result ≡ first_of (naming_found found ++ redoing_row (taken_back_count found.state (own found.seat (take used journal)))) }
+#[tactic(auto, unfolding(refusal::specs::Rows::first_of, basics::specs::Tests::choose))]
+pub fn turned_redoing(found: &Found, journal: &Journal) -> Verdict
+    requires { found.now.broken ≡ false → journal.now.used ≤ most_records }
+    ensures { result ≡ first_of (naming_found found.now ++ redoing_row (taken_back_count found.now.state (own found.now.seat (in_use journal.now)))) }
 {
-    let verdict = turned_naming(found);
-    if !refusal::is_accepted(verdict) {
-        return verdict;
-    }
-    let s = found.state;
-    let taken_back = seats::taken_back_count(s, journal, used, found.seat);
-    if taken_back == 0 {
-        Verdict::NothingTakenBack
+    turned_naming(found)?;
+    if found.state.taken_back_count(journal, found.seat) == 0 {
+        Err(Refusal::NothingTakenBack)
     } else {
-        Verdict::Accepted
+        Ok(())
     }
 }
 
 // Opening, up to the map: 28, 1, 3, 4, 5.
-fn turned_taking(found: Found, seats: [Seat; SEATS], job: u16) -> Verdict
-    ensures { result ≡ first_of (taking_rows found.broken found.seat found.state.opened job (jobs_in seats)) }
+#[tactic(auto, unfolding(refusal::specs::Rows::first_of, basics::specs::Tests::choose))]
+fn turned_taking(found: &Found, seats: &[Seat; SEATS], job: u16) -> Verdict
+    ensures { result ≡ first_of (taking_rows found.now.broken found.now.seat found.now.state.opened job (jobs_in seats.now)) }
 {
     if found.broken {
-        return Verdict::DeskBroken;
+        return Err(Refusal::DeskBroken);
     }
     if SEATS <= found.seat {
-        return Verdict::SeatAbove;
+        return Err(Refusal::SeatAbove);
     }
-    let s = found.state;
-    if s.opened {
-        return Verdict::OpenAlready;
+    if found.state.opened {
+        return Err(Refusal::OpenAlready);
     }
     if job == 0 {
-        return Verdict::JobZero;
+        return Err(Refusal::JobZero);
     }
-    let jobs = seats::jobs_of(seats);
-    if seats::job_among(job, jobs, 0) {
-        Verdict::JobElsewhere
+    if seats::job_among(job, &seats::jobs_of(seats)) {
+        Err(Refusal::JobElsewhere)
     } else {
-        Verdict::Accepted
+        Ok(())
     }
 }
 
 // Opening with a map of a form: 28, 1, 3, 4, 5, then 13, 14 or 15 of the map; and the pins, where none applies.
-pub fn map_read(found: Found, seats: [Seat; SEATS], job: u16, form: Form, map: &[u8]) -> Reading
-    ensures { result ≡ read_by (taking_rows found.broken found.seat found.state.opened job (jobs_in seats) ++ map_rows form map.now job) form map.now }
+pub fn map_read(
+    found: &Found,
+    seats: &[Seat; SEATS],
+    job: u16,
+    form: Form,
+    map: &[u8],
+) -> Result<[Pin; PINS], Refusal>
+    ensures { result ≡ read_by (taking_rows found.now.broken found.now.seat found.now.state.opened job (jobs_in seats.now) ++ map_rows form map.now job) form map.now }
 {
-    let verdict = turned_taking(found, seats, job);
-    if refusal::is_accepted(verdict) {
-        readmap::read_map(form, map, job)
-    } else {
-        let pins = drawing::no_pins();
-        Reading { verdict, pins }
-    }
+    turned_taking(found, seats, job)?;
+    readmap::read_map(form, map, job)
 }

@@ -9,8 +9,8 @@ use lib.ListN.{replicate}
 use Rattle.basics.specs.Tests.{both, either, choose, each_of}
 use Rattle.copper.specs.declared.Favour.{Favour}
 use Rattle.pinmap.specs.declared.Form.TheVariants.{Old, New}
-use Rattle.loads.specs.declared.Load.TheVariants.{Amps, Watts}
-use Rattle.loads.specs.Loads.{hundredth, spare}
+use Rattle.loads.specs.declared.Load.TheVariants.{Amps, Watts, Spare}
+use Rattle.loads.specs.Loads.{hundredth}
 use Rattle.text.specs.Text.{text, same}
 use Rattle.text.specs.Words.{end_of, before_first, pieces, non_empty, words_of}
 use Rattle.text.specs.Numbers.{between, value_from, is_number, has_minus, is_coordinate, signed, listed, is_row_of, is_list, is_hex, hex_value, all_pairs, bytes_of, is_spelled, is_map, spelled, is_bits, hex_from, float_of}
@@ -74,9 +74,9 @@ given = (refl, refl, refl, refl, refl, refl, refl)
 pub given_for_drops :
     (sheet_given (text "drops 0 1 41400000 3C23d70a a3f800000,w42c80000,s\r") ≡ record { volts = fin false 3 (pos 2); ohms = hundredth })
     × (loads_given (text "drops 0 1 41400000 3C23d70a a3f800000,w42c80000,s\r")
-    ≡ record { load = Amps (fin false 1 (pos 0)) } ∷ record { load = Watts (fin false 25 (pos 2)) } ∷ replicate 30 spare)
+    ≡ Amps (fin false 1 (pos 0)) ∷ Watts (fin false 25 (pos 2)) ∷ replicate 30 Spare)
     × (sheet_given (text "drops 0 1 ff800000 ffc12345 -") ≡ record { volts = inf true; ohms = nan })
-    × (loads_given (text "drops 0 1 ff800000 ffc12345 -") ≡ replicate 32 spare)
+    × (loads_given (text "drops 0 1 ff800000 ffc12345 -") ≡ replicate 32 Spare)
 unfolding both either choose same end_of before_first pieces non_empty words_of between each_of is_hex hex_value is_row_of is_bits hex_from float_of
     of_bits begins_with is_load load_of loads_listed all_spare loads_in sheet_given loads_given
 given_for_drops = (refl, refl, refl, refl)

@@ -4,8 +4,6 @@ use Rattle.basics.specs.Tests.{either, choose}
 use Rattle.board.specs.Spots.{most_pins}
 use Rattle.loads.specs.declared.Load.{Load}
 use Rattle.loads.specs.declared.Load.TheVariants.{Amps, Watts, Spare}
-use Rattle.loads.specs.declared.Loaded.{Loaded}
-use Rattle.loads.specs.Loads.{spare}
 use Rattle.text.specs.Text.{text, same, over}
 use Rattle.text.specs.Words.{comma, pieces}
 use Rattle.text.specs.Numbers.{none_word, is_row_of, is_bits, float_of}
@@ -39,18 +37,14 @@ is_load_row w = is_row_of is_load most_pins w
 unfoldable pub is_loads : List ℕ → Bool
 is_loads w = either (same w none_word) (is_load_row w)
 
--- A word of such a row as the load of a pin number.
-abbrev pub loaded_by : List ℕ → Loaded
-loaded_by w = record { load = load_of w }
-
 -- The loads that a word lists; none where it is a single minus or no such row.
-unfoldable pub loads_listed : List ℕ → List Loaded
-loads_listed w = choose (is_load_row w) (map loaded_by (pieces comma w)) []
+unfoldable pub loads_listed : List ℕ → List Load
+loads_listed w = choose (is_load_row w) (map load_of (pieces comma w)) []
 
 -- Spare for each of the 32 pin numbers.
-unfoldable pub all_spare : List Loaded
-all_spare = replicate most_pins spare
+unfoldable pub all_spare : List Load
+all_spare = replicate most_pins Spare
 
 -- The loads of the 32 pin numbers: those listed, and spare for the pins after the last.
-unfoldable pub loads_in : List ℕ → List Loaded
+unfoldable pub loads_in : List ℕ → List Load
 loads_in w = over (loads_listed w) all_spare

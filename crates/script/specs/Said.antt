@@ -6,7 +6,7 @@ use Rattle.board.specs.Place.{place}
 use Rattle.board.specs.declared.Place.{Place}
 use Rattle.copper.specs.declared.Favour.{Favour}
 use Rattle.loads.specs.declared.Sheet.{Sheet}
-use Rattle.loads.specs.declared.Loaded.{Loaded}
+use Rattle.loads.specs.declared.Load.{Load}
 use Rattle.text.specs.Text.{text, same, most_room}
 use Rattle.text.specs.Words.{hash, without_return, words_of, word}
 use Rattle.text.specs.Numbers.{most_number, most_job, value_of, is_number, is_coordinate, signed, listed, is_list, spelled, is_map, is_bits, float_of}
@@ -202,5 +202,5 @@ unfoldable pub sheet_given : List ℕ → Sheet
 sheet_given line = record { volts = float_of (word 3 (words_in line)); ohms = float_of (word 4 (words_in line)) }
 
 -- The loads in such a line, by pin number.
-unfoldable pub loads_given : List ℕ → List Loaded
+unfoldable pub loads_given : List ℕ → List Load
 loads_given line = loads_in (word 5 (words_in line))

@@ -10,10 +10,10 @@ ghost use Rattle.text.specs.Numbers.{most_pairs, most_numbers};
 ghost use Rattle.script.specs.Said.{said_by, map_given, xs_given, ys_given, favour_given, sheet_given, loads_given};
 
 use board::{PINS, Place};
-use calls::{favour_in, is_skipped, read_call};
+use calls::{call_in, favour_in, is_skipped};
 use copper::Favour;
 use load_words::loads_in;
-use loads::{Loaded, Sheet};
+use loads::{Load, Sheet};
 use pinmap::Form;
 use text::numbers::{fill_list, fill_map, float};
 use text::words::{without_return, word};
@@ -21,27 +21,6 @@ use text::{MOST_NUMBERS, MOST_PAIRS};
 
 // A line of more bytes is not a call.
 const MOST_LINE: usize = 16384;
-
-// Two words read as numbers.
-#[derive(Clone, Copy)]
-pub enum Pair {
-    Unread,
-    Of(usize, usize),
-}
-
-// Words read as a seat, a pin and a place.
-#[derive(Clone, Copy)]
-pub enum Placing {
-    Unread,
-    Of(usize, usize, Place),
-}
-
-// Words read as a seat, a net and the room that is lent.
-#[derive(Clone, Copy)]
-pub enum Lending {
-    Unread,
-    Of(usize, u32, usize),
-}
 
 // What a line says: nothing, no call, or a call with its numbers. The map of an opening or of a moving, the lists of a bare wiring, the shape to
 // favour and what drops are asked for are read from the line by functions of their own, map and lists into lent buffers.
@@ -122,10 +101,11 @@ pub fn read_line(line: &[u8]) -> Said
     if is_skipped(word(text, 0)) {
         return Said::Skip;
     }
-    read_call(text)
+    call_in(text).unwrap_or(Said::NotACall)
 }
 
 // Writes the map in the word of a number, counted from 0, from the start on, and answers how many bytes it has.
+#[tactic(auto, unfolding(crate::specs::Said::map_given))]
 pub fn given_map(line: &[u8], at: usize, map: &mut [u8; MOST_PAIRS]) -> usize
     ensures value { (result ≡ length (map_given at line.now)) × (result ≤ most_pairs) }
     ensures map_after { map.new ≡ over (map_given at line.now) map.old }
@@ -133,7 +113,9 @@ pub fn given_map(line: &[u8], at: usize, map: &mut [u8; MOST_PAIRS]) -> usize
     fill_map(word(without_return(line), at), map)
 }
 
+// Two readers for x and y, one line each: of one with the word's number for a parameter, every caller would have to know where a line has them.
 // Writes the x of a bare wiring from the start on, and answers how many there are.
+#[tactic(auto, unfolding(crate::specs::Said::xs_given))]
 pub fn given_xs(line: &[u8], xs: &mut [i32; MOST_NUMBERS]) -> usize
     ensures value { (result ≡ length (xs_given line.now)) × (result ≤ most_numbers) }
     ensures xs_after { xs.new ≡ over (xs_given line.now) xs.old }
@@ -142,6 +124,7 @@ pub fn given_xs(line: &[u8], xs: &mut [i32; MOST_NUMBERS]) -> usize
 }
 
 // Writes the y of a bare wiring from the start on, and answers how many there are.
+#[tactic(auto, unfolding(crate::specs::Said::ys_given))]
 pub fn given_ys(line: &[u8], ys: &mut [i32; MOST_NUMBERS]) -> usize
     ensures value { (result ≡ length (ys_given line.now)) × (result ≤ most_numbers) }
     ensures ys_after { ys.new ≡ over (ys_given line.now) ys.old }
@@ -150,6 +133,7 @@ pub fn given_ys(line: &[u8], ys: &mut [i32; MOST_NUMBERS]) -> usize
 }
 
 // What the line says of the shape to favour.
+#[tactic(auto, unfolding(crate::specs::Said::favour_given))]
 pub fn given_favour(line: &[u8]) -> Favour
     ensures { result ≡ favour_given line.now }
 {
@@ -157,6 +141,7 @@ pub fn given_favour(line: &[u8]) -> Favour
 }
 
 // The board sheet that the line gives.
+#[tactic(auto, unfolding(crate::specs::Said::sheet_given))]
 pub fn given_sheet(line: &[u8]) -> Sheet
     ensures { result ≡ sheet_given line.now }
 {
@@ -167,7 +152,8 @@ pub fn given_sheet(line: &[u8]) -> Sheet
 }
 
 // The loads that the line gives, by pin number.
-pub fn given_loads(line: &[u8]) -> [Loaded; PINS]
+#[tactic(auto, unfolding(crate::specs::Said::loads_given))]
+pub fn given_loads(line: &[u8]) -> [Load; PINS]
     ensures { result ≡ loads_given line.now }
 {
     loads_in(word(without_return(line), 5))

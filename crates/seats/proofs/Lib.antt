@@ -1,3 +1,2 @@
 -- The laws of the seats that other crates cite.
-mod Jobs
 mod Found

@@ -1,9 +1,8 @@
 -- Seats: what one is as calls leave it, and the jobs that are open.
 use Rattle.std.specs.Prelude.{Bool, true, false, not, List, [], map, ℕ, ◌+◌, ◌-◌, eqb, length, get_or}
 use Rattle.basics.specs.Tests.{both, choose, any_of, no_two}
-use Rattle.drawing.specs.declared.Pin.{Pin}
 use Rattle.edits.specs.declared.Edit.{Edit}
-use Rattle.drawing.specs.Pins.{no_pins}
+use Rattle.drawing.specs.Pins.{Pin, no_pins}
 use Rattle.edits.specs.Edits.{made, unmade}
 use Rattle.journal.specs.Journal.{no_edit}
 use Rattle.seats.specs.declared.Seat.{Seat}

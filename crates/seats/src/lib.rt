@@ -1,16 +1,18 @@
 // Seats: the drawing at one and how many of its edits stand, the jobs that are open, and what undo, redo and a new edit make of a seat.
 #![tactic(auto)]
 
-ghost use Rattle.std.specs.Prelude.{◌≡◌, ◌<◌, ◌≤◌, length, take, drop};
-ghost use Rattle.journal.specs.Journal.{most_records, most_seats, own};
-ghost use Rattle.seats.specs.Seats.{closed_seat, open_seat, taken_back_count, edited_seat, undone_seat, redone_seat, job_of, jobs_in, same_job, job_among, jobs_apart};
+ghost use Rattle.std.specs.Prelude.{◌≡◌, ◌<◌, ◌≤◌, length};
+ghost use Rattle.journal.specs.Journal.{most_records, in_use, own};
+ghost use Rattle.seats.specs.Seats.{closed_seat, open_seat, taken_back_count, edited_seat, undone_seat, redone_seat};
+ghost use Rattle.seats.specs.Seats.{job_of, jobs_in, same_job, job_among, jobs_apart};
 
 use board::PINS;
-use drawing::Pin;
+use drawing::{NO_PINS, Pin};
 use edits::Edit;
-use journal::{RECORDS, Record, SEATS};
+use journal::{Journal, SEATS};
 
 // A seat: whether it is open, and if so its drawing's job and pins, and how many of its edits stand.
+// A flag and no Option of a drawing: the count of a closed seat is looked at too, since one that isn't 0 breaks the desk (sound_closed, of the crate sound).
 #[derive(Clone, Copy)]
 pub struct Seat {
     pub opened: bool,
@@ -19,149 +21,108 @@ pub struct Seat {
     pub standing: usize,
 }
 
-// A closed seat, as calls leave it.
-pub fn closed_seat() -> Seat
-    ensures { result ≡ closed_seat }
-{
-    let pins = drawing::no_pins();
-    Seat {
-        opened: false,
-        job: 0,
-        pins,
-        standing: 0,
+impl Seat {
+    // A closed seat, as calls leave it.
+    pub fn closed() -> Seat
+        ensures { result ≡ closed_seat }
+    {
+        Seat {
+            opened: false,
+            job: 0,
+            pins: NO_PINS,
+            standing: 0,
+        }
     }
-}
 
-// A seat that is open for a job with these pins and no edits.
-pub fn open_seat(job: u16, pins: [Pin; PINS]) -> Seat
-    ensures { result ≡ open_seat job pins }
-{
-    Seat {
-        opened: true,
-        job,
-        pins,
-        standing: 0,
+    // A seat that is open for a job with these pins and no edits.
+    pub fn open(job: u16, pins: [Pin; PINS]) -> Seat
+        ensures { result ≡ open_seat job pins }
+    {
+        Seat {
+            opened: true,
+            job,
+            pins,
+            standing: 0,
+        }
     }
-}
 
-// The job of an open seat, 0 for a closed one.
-fn job_of(s: Seat) -> u16
-    ensures { result ≡ job_of s }
-{
-    if s.opened { s.job } else { 0 }
+    // The job of an open seat, 0 for a closed one: no Option, since a desk may come with an open seat of job 0, which the definition job_of takes as none too.
+    #[tactic(auto, unfolding(crate::specs::Seats::job_of, basics::specs::Tests::choose))]
+    fn open_job(&self) -> u16
+        ensures { result ≡ job_of self.now }
+    {
+        if self.opened { self.job } else { 0 }
+    }
+
+    // How many of a seat's edits are taken back.
+    pub fn taken_back_count(&self, journal: &Journal, seat: usize) -> usize
+        requires { journal.now.used ≤ most_records }
+        ensures { result ≡ taken_back_count self.now (own seat (in_use journal.now)) }
+    {
+        journal.count_of(seat).saturating_sub(self.standing)
+    }
+
+    // A new edit: it is made, and stands.
+    pub fn edit(&mut self, edit: Edit)
+        requires { self.old.standing ≤ most_records }
+        ensures { self.new ≡ edited_seat self.old edit }
+    {
+        edits::make(&mut self.pins, edit);
+        self.standing += 1;
+    }
+
+    // Undo: the latest standing edit is taken back.
+    pub fn undo(&mut self, journal: &Journal, seat: usize)
+        requires { (journal.now.used ≤ most_records) × (0 < self.old.standing) × (self.old.standing ≤ length (own seat (in_use journal.now))) }
+        ensures { self.new ≡ undone_seat self.old (own seat (in_use journal.now)) }
+    {
+        let taken_back = self.taken_back_count(journal, seat);
+        let edit = journal.edit_of(seat, taken_back);
+        edits::take_back(&mut self.pins, edit);
+        self.standing -= 1;
+    }
+
+    // Redo: the most recently taken-back edit is made again.
+    pub fn redo(&mut self, journal: &Journal, seat: usize)
+        requires { (journal.now.used ≤ most_records) × (self.old.standing < length (own seat (in_use journal.now))) }
+        ensures { self.new ≡ redone_seat self.old (own seat (in_use journal.now)) }
+    {
+        let taken_back = self.taken_back_count(journal, seat);
+        let edit = journal.edit_of(seat, taken_back - 1);
+        edits::make(&mut self.pins, edit);
+        self.standing += 1;
+    }
 }
 
 // The jobs of the seats.
-pub fn jobs_of(seats: [Seat; SEATS]) -> [u16; SEATS]
-    ensures { result ≡ jobs_in seats }
+pub fn jobs_of(seats: &[Seat; SEATS]) -> [u16; SEATS]
+    ensures { result ≡ jobs_in seats.now }
 {
-    let mut jobs = [0u16; SEATS];
-    let mut i = 0;
-    while i < SEATS {
-        let s = seats[i];
-        jobs[i] = job_of(s);
-        i += 1;
-    }
-    jobs
+    seats.each_ref().map(|seat| seat.open_job())
 }
 
-// Whether two jobs are the same, and not 0, which stands for a closed seat.
+// Whether two jobs are the same, and not 0, which stands for a closed seat: no equality, so it is no derive.
+#[tactic(auto, unfolding(crate::specs::Seats::same_job, basics::specs::Tests::both))]
 fn same_job(a: u16, b: u16) -> bool
     ensures { result ≡ same_job a b }
 {
     a != 0 && a == b
 }
 
-// Whether a job is open at one of the seats numbered `from` and above.
-pub fn job_among(job: u16, jobs: [u16; SEATS], from: usize) -> bool
-    requires { from ≤ most_seats }
-    ensures { result ≡ job_among job (drop from jobs) }
+// Whether a job is one of these.
+pub fn job_among(job: u16, jobs: &[u16]) -> bool
+    ensures { result ≡ job_among job jobs.now }
 {
-    let mut i = from;
-    while i < SEATS {
-        if same_job(job, jobs[i]) {
-            return true;
-        }
-        i += 1;
-    }
-    false
+    jobs.iter().any(|&other| same_job(job, other))
 }
 
 // Whether no job is repeated.
-pub fn jobs_apart(jobs: [u16; SEATS]) -> bool
-    ensures { result ≡ jobs_apart jobs }
+#[tactic(auto, unfolding(basics::specs::Tests::no_two, basics::specs::Tests::both))]
+pub fn jobs_apart(jobs: &[u16]) -> bool
+    ensures { result ≡ jobs_apart jobs.now }
 {
-    let mut i = 0;
-    while i < SEATS {
-        let job = jobs[i];
-        i += 1;
-        if job_among(job, jobs, i) {
-            return false;
-        }
-    }
-    true
-}
-
-// A seat after a new edit, which stands: its pins with the edit made.
-pub fn edited(s: Seat, edit: Edit) -> Seat
-    requires { s.standing ≤ most_records }
-    ensures { result ≡ edited_seat s edit }
-{
-    let pins = s.pins;
-    let changed = edits::make(pins, edit);
-    Seat {
-        opened: s.opened,
-        job: s.job,
-        pins: changed,
-        standing: s.standing + 1,
-    }
-}
-
-// How many of a seat's edits are taken back.
-pub fn taken_back_count(s: Seat, journal: [Record; RECORDS], used: usize, seat: usize) -> usize
-    requires { used ≤ most_records }
-    ensures { result ≡ taken_back_count s (own seat (take used journal)) }
-{
-    let standing = s.standing;
-    let owned = journal::count_of(journal, used, seat);
-    if owned <= standing {
-        return 0;
-    }
-    owned - standing
-}
-
-// A seat after undo: its latest standing edit taken back.
-pub fn undone(s: Seat, journal: [Record; RECORDS], used: usize, seat: usize) -> Seat
-    requires { (used ≤ most_records) × (0 < s.standing) × (s.standing ≤ length (own seat (take used journal))) }
-    ensures { result ≡ undone_seat s (own seat (take used journal)) }
-{
-    let standing = s.standing;
-    let taken_back = taken_back_count(s, journal, used, seat);
-    let edit = journal::edit_of(journal, used, seat, taken_back);
-    let pins = s.pins;
-    let former = edits::take_back(pins, edit);
-    Seat {
-        opened: s.opened,
-        job: s.job,
-        pins: former,
-        standing: standing - 1,
-    }
-}
-
-// A seat after redo: the most recently taken-back of its edits made again.
-pub fn redone(s: Seat, journal: [Record; RECORDS], used: usize, seat: usize) -> Seat
-    requires { (used ≤ most_records) × (s.standing < length (own seat (take used journal))) }
-    ensures { result ≡ redone_seat s (own seat (take used journal)) }
-{
-    let standing = s.standing;
-    let taken_back = taken_back_count(s, journal, used, seat);
-    let edit = journal::edit_of(journal, used, seat, taken_back - 1);
-    let pins = s.pins;
-    let remade = edits::make(pins, edit);
-    Seat {
-        opened: s.opened,
-        job: s.job,
-        pins: remade,
-        standing: standing + 1,
+    match jobs {
+        [job, later @ ..] => !job_among(*job, later) && jobs_apart(later),
+        [] => true,
     }
 }

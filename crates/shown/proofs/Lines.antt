@@ -1,16 +1,19 @@
 -- Pins printed one by one come to their text, counted one by one to their number, and the parts of an answer to the answer. Assumes nothing.
-use mathlib.Core.Path.{◌≡◌, sym, ◌∙◌, ap}
-use mathlib.Core.Bool.{Bool, true, false}
+use mathlib.Core.Path.{◌≡◌, refl, sym, ◌∙◌, ap}
+use mathlib.Core.Bool.{Bool, true, false, cond}
 use mathlib.Core.List.{List, [], ◌∷◌, ◌++◌, append_assoc, append-nil}
-use Prim.Native.Nat.{ℕ, suc, ◌+◌, ◌<◌, min}
+use Prim.Native.Nat.{ℕ, suc, ◌+◌, ◌<◌, ◌≤◌, min}
 use native.Mathlib.Nat.{add-zero, zero-add}
 use native.Mathlib.Omega.{arith}
-use lib.ListN.{length, take, drop, get_or}
-use lib.Seq.{length-take-le}
-use Rattle.basics.specs.Sums.{how_many}
-use Rattle.drawing.specs.declared.Pin.{Pin}
+use lib.ListN.{length, take, get_or}
+use lib.Seq.{length-take-le, take_all}
+use Rattle.basics.specs.Sums.{how_many, one_if}
+use Rattle.std.specs.List.{filter}
+use Rattle.drawing.specs.Pins.{Pin}
 use Rattle.drawing.specs.Pins.{absent, is_there}
 use Rattle.refusal.specs.Refusals.{accepted}
+use Rattle.std.specs.Result.{is_err}
+use Rattle.printed.proofs.Telling.{refused_is}
 use Rattle.basics.proofs.Tests.{choose_yes, choose_no}
 use Rattle.wiring.specs.declared.Wiring.{Wiring}
 use Rattle.wiring.specs.declared.Laid.{Laid}
@@ -27,34 +30,38 @@ first_all l count n i h e =
     let m : i ≡ min (length l) count = omega arith in
     ap (λ (k : ℕ). take k l) m ∙ take-smaller l count
 
+-- So it is after as many turns as there are of them.
+pub turns_all : {A : Type 0} (l : List A) (count n i : ℕ) → length l ≡ n → length (take (min count n) l) ≤ i → take i (take (min count n) l) ≡ take count l
+turns_all l count n i h e = take_all i (take (min count n) l) e ∙ first_all l count n (min count n) h refl
+
 -- The text of pins with one more is longer by that pin;
-pins_snoc : (k : ℕ) (l : List Pin) (q : Pin) → pins_text k l ++ pin_text (k + length l) q.stand ≡ pins_text k (l ++ (q ∷ []))
+pins_snoc : (k : ℕ) (l : List Pin) (q : Pin) → pins_text k l ++ pin_text (k + length l) q ≡ pins_text k (l ++ (q ∷ []))
 unfolding pins_text
-pins_snoc k [] q = ap (λ (n : ℕ). pin_text n q.stand) (add-zero k) ∙ sym (append-nil (pin_text k q.stand))
+pins_snoc k [] q = ap (λ (n : ℕ). pin_text n q) (add-zero k) ∙ sym (append-nil (pin_text k q))
 pins_snoc k (b ∷ rest) q =
     let e : k + suc (length rest) ≡ suc k + length rest = omega arith in
-    append_assoc (pin_text k b.stand) (pins_text (suc k) rest) (pin_text (k + suc (length rest)) q.stand)
-    ∙ ap (λ (t : List ℕ). pin_text k b.stand ++ t)
-    (ap (λ (n : ℕ). pins_text (suc k) rest ++ pin_text n q.stand) e ∙ pins_snoc (suc k) rest q)
+    append_assoc (pin_text k b) (pins_text (suc k) rest) (pin_text (k + suc (length rest)) q)
+    ∙ ap (λ (t : List ℕ). pin_text k b ++ t)
+    (ap (λ (n : ℕ). pins_text (suc k) rest ++ pin_text n q) e ∙ pins_snoc (suc k) rest q)
 
 module _ (pins : List Pin) (number : ℕ) (h : number < length pins) where
   -- so the text of the first pins grows pin by pin.
-  pub pins_more : pins_text 0 (take number pins) ++ pin_text number (get_or pins number absent).stand ≡ pins_text 0 (take (number + 1) pins)
+  pub pins_more : pins_text 0 (take number pins) ++ pin_text number (get_or pins number absent) ≡ pins_text 0 (take (number + 1) pins)
   pins_more =
       let e : number ≡ 0 + length (take number pins) = omega (arith, length-take-le number pins (omega arith)) in
-      ap (λ (n : ℕ). pins_text 0 (take number pins) ++ pin_text n (get_or pins number absent).stand) e
+      ap (λ (n : ℕ). pins_text 0 (take number pins) ++ pin_text n (get_or pins number absent)) e
       ∙ pins_snoc 0 (take number pins) (get_or pins number absent)
       ∙ ap (pins_text 0) (first_more absent pins number h)
 
-  -- A pin that is there is counted,
-  pub count_there : is_there (get_or pins number absent) ≡ true → pins_there (drop number pins) ≡ 1 + pins_there (drop (number + 1) pins)
-  unfolding how_many
-  count_there t = ap pins_there (front absent pins number h) ∙ rw t
-
-  -- one that is not is not.
-  pub count_absent : is_there (get_or pins number absent) ≡ false → pins_there (drop number pins) ≡ pins_there (drop (number + 1) pins)
-  unfolding how_many
-  count_absent t = ap pins_there (front absent pins number h) ∙ rw t (zero-add (pins_there (drop (number + 1) pins)))
+-- Those that are there are as many as are counted one by one.
+pub counted : (pins : List Pin) → length (filter is_there pins) ≡ pins_there pins
+unfolding how_many
+counted [] = refl
+counted (q ∷ pins) = by (is_there q) (counted pins)
+  where
+    by : (b : Bool) → length (filter is_there pins) ≡ pins_there pins → length (cond b (q ∷ filter is_there pins) (filter is_there pins)) ≡ one_if b + pins_there pins
+    by true e = omega arith
+    by false e = omega arith
 
 -- What is printed from the start on, as a piece that others follow.
 pub begun : (o p : List ℕ) {n : ℕ} {v : List ℕ} → n ≡ length p → v ≡ over p o → Put o 0 p n v
@@ -91,14 +98,13 @@ unfolding map_text
 map-refused job wiring h = sym (choose_no (job_text job wiring) (verdict_line wiring.verdict) h)
 
 -- so that its line is as long as its answer,
-pub map_told : (job : ℕ) (wiring : Wiring) {b : Bool} {n : ℕ} → b ≡ accepted wiring.verdict → b ≡ false → n ≡ length (verdict_line wiring.verdict)
-    → n ≡ length (map_text job wiring)
-map_told job wiring e f h = h ∙ ap length (map-refused job wiring (sym e ∙ f))
+pub map_told : (job : ℕ) (wiring : Wiring) {n : ℕ} → is_err wiring.verdict ≡ true → n ≡ length (verdict_line wiring.verdict) → n ≡ length (map_text job wiring)
+map_told job wiring e h = h ∙ ap length (map-refused job wiring (refused_is wiring.verdict e))
 
 -- and stands printed as its answer;
-pub map_over : (job : ℕ) (wiring : Wiring) (out : List ℕ) {b : Bool} {after : List ℕ} → b ≡ accepted wiring.verdict → b ≡ false
+pub map_over : (job : ℕ) (wiring : Wiring) (out : List ℕ) {after : List ℕ} → is_err wiring.verdict ≡ true
     → after ≡ over (verdict_line wiring.verdict) out → after ≡ over (map_text job wiring) out
-map_over job wiring out e f h = h ∙ ap (λ (t : List ℕ). over t out) (map-refused job wiring (sym e ∙ f))
+map_over job wiring out e h = h ∙ ap (λ (t : List ℕ). over t out) (map-refused job wiring (refused_is wiring.verdict e))
 
 -- and where it is accepted.
 pub map-accepted : (job : ℕ) (wiring : Wiring) → accepted wiring.verdict ≡ true

@@ -3,9 +3,8 @@ use Rattle.std.specs.Prelude.{List, [], ◌∷◌, ◌++◌, ℕ, suc, take}
 use Rattle.basics.specs.Sums.{how_many}
 use Rattle.basics.specs.Tests.{choose}
 use Rattle.refusal.specs.Refusals.{accepted}
-use Rattle.drawing.specs.declared.Pin.{Pin}
-use Rattle.drawing.specs.declared.Stand.{Stand}
-use Rattle.drawing.specs.declared.Stand.TheVariants.{Absent, There}
+use Rattle.drawing.specs.Pins.{Pin}
+use Rattle.std.specs.Prelude.{None, Some}
 use Rattle.drawing.specs.Pins.{is_there}
 use Rattle.copper.specs.declared.Shape.{Shape}
 use Rattle.copper.specs.declared.Shape.TheVariants.{Straight, Lower, Upper}
@@ -41,14 +40,14 @@ abbrev pub legs_text : List ℕ → List Leg → List ℕ
 legs_text word legs = text_for_each (leg_text word) legs
 
 -- The line of a pin that is there; none for one that is not.
-unfoldable pub pin_text : ℕ → Stand → List ℕ
-pin_text number Absent = []
-pin_text number (There held) = pin_line number held.place held.net held.part
+unfoldable pub pin_text : ℕ → Pin → List ℕ
+pin_text number None = []
+pin_text number (Some held) = pin_line number held.place held.net held.part
 
 -- A line for each pin that is there, numbered from the given number on.
 unfoldable pub pins_text : ℕ → List Pin → List ℕ
 pins_text number [] = []
-pins_text number (pin ∷ rest) = pin_text number pin.stand ++ pins_text (suc number) rest
+pins_text number (pin ∷ rest) = pin_text number pin ++ pins_text (suc number) rest
 
 -- How many pins are there.
 abbrev pub pins_there : List Pin → ℕ

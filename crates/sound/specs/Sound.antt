@@ -3,8 +3,9 @@ use Rattle.std.specs.Prelude.{Bool, true, not, List, reverse, ℕ, zero, suc, eq
 use Rattle.basics.specs.Tests.{both, choose}
 use Rattle.edits.specs.declared.Edit.{Edit}
 use Rattle.drawing.specs.Pins.{lawful}
+use Rattle.journal.specs.declared.Journal.{Journal}
 use Rattle.journal.specs.declared.Record.{Record}
-use Rattle.journal.specs.Journal.{most_seats, most_records, own, seated, makeable_all, takeable_all}
+use Rattle.journal.specs.Journal.{most_seats, most_records, in_use, own, seated, makeable_all, takeable_all}
 use Rattle.seats.specs.declared.Seat.{Seat}
 use Rattle.seats.specs.Seats.{no_seat, jobs_in, jobs_apart}
 
@@ -35,14 +36,14 @@ sound_seat t edits = choose t.opened (sound_open t edits) (sound_closed t edits)
 
 -- The first n of these seats are sound, each with its own edits among the records in use.
 unfoldable pub sound_to : ℕ → List Seat → List Record → Bool
-sound_to zero l in_use = true
-sound_to (suc n) l in_use = both (sound_to n l in_use) (sound_seat (get_or l n no_seat) (own n in_use))
+sound_to zero l used = true
+sound_to (suc n) l used = both (sound_to n l used) (sound_seat (get_or l n no_seat) (own n used))
 
 -- Seats and their journal are sound: eight seats, a journal of 256 records, the used count in its range, each used record's seat too,
 -- no job repeated, and each seat sound.
-unfoldable pub sound_all : List Seat → List Record → ℕ → Bool
-sound_all l journal used =
+unfoldable pub sound_all : List Seat → Journal → Bool
+sound_all l j =
     both (eqb (length l) most_seats)
-    (both (eqb (length journal) most_records)
-    (both (leb used most_records)
-    (both (seated (take used journal)) (both (jobs_apart (jobs_in l)) (sound_to most_seats l (take used journal))))))
+    (both (eqb (length j.records) most_records)
+    (both (leb j.used most_records)
+    (both (seated (in_use j)) (both (jobs_apart (jobs_in l)) (sound_to most_seats l (in_use j))))))

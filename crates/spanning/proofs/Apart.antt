@@ -12,7 +12,7 @@ use lib.ListN.{length}
 use borrow.Author.Tests.{eqb-false}
 use Rattle.basics.specs.Tests.{both, either, any_of, no_two}
 use Rattle.basics.proofs.Tests.{decide, either-false, fails_if, both_no, both_yes, either_no, both_of}
-use Rattle.board.specs.declared.Spot.{Spot}
+use Rattle.board.specs.Spots.{Spot}
 use Rattle.board.proofs.Flat.{Site}
 use Rattle.tree.specs.declared.Run.{Run}
 use Rattle.board.specs.Spots.{most_pins, place_at, all_within}

@@ -10,7 +10,7 @@ use lib.ListN.{length}
 use borrow.Author.Tests.{eqb-true, eqb-false, not-true}
 use Rattle.basics.specs.Tests.{both, either}
 use Rattle.basics.proofs.Tests.{either-false}
-use Rattle.board.specs.declared.Spot.{Spot}
+use Rattle.board.specs.Spots.{Spot}
 use Rattle.board.specs.Place.{difference, same_number, is_straight}
 use Rattle.board.proofs.Signed.{off, I32}
 use Rattle.board.proofs.Flat.{gap, gap_self, difference_gap}

@@ -4,8 +4,7 @@ use mathlib.Core.Bool.{true}
 use mathlib.Core.List.{List, ◌∷◌}
 use Prim.Native.Nat.{ℕ}
 use lib.ListN.{length}
-use Rattle.board.specs.declared.Spot.{Spot}
-use Rattle.board.specs.Spots.{most_pins, all_within}
+use Rattle.board.specs.Spots.{Spot, most_pins, all_within}
 use Rattle.tree.specs.Growth.{pins_of, runs_of}
 use Rattle.tree.specs.Spanning.{IsTree}
 use Rattle.spanning.proofs.Spanning.{runs_join, runs_many, runs_cut, runs_groups, runs_two, runs_only}

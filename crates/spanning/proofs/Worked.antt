@@ -1,4 +1,5 @@
--- The runs of the boards worked by hand, W1 to W8, in the order in which they are taken; computed from the definition; no pins; boxes that touch. Assumes nothing.
+-- The runs of the boards worked by hand, W1 to W8, in the order in which they are taken; computed from the definition; no pins; boxes that touch.
+-- Assumes nothing.
 use mathlib.Core.Path.{◌≡◌, refl}
 use mathlib.Core.Bool.{true, false}
 use mathlib.Core.List.{List, [], ◌∷◌, map}
@@ -6,11 +7,10 @@ use lib.IntN.{pos}
 use lib.ListN.{replicate}
 use Rattle.basics.specs.Tests.{both, either, choose, any_of, each_of, no_two}
 use Rattle.basics.specs.Lists.{padded}
-use Rattle.refusal.specs.Refusals.{accepted}
 use Rattle.refusal.specs.Rows.{first_of}
-use Rattle.refusal.specs.declared.Verdict.TheVariants.{Accepted, NoPins}
-use Rattle.board.specs.declared.Spot.{Spot}
-use Rattle.board.specs.declared.Spot.TheVariants.{Absent, At}
+use Rattle.refusal.specs.declared.Refusal.TheVariants.{NoPins}
+use Rattle.std.specs.Prelude.{None, Some, Ok, Err}
+use Rattle.board.specs.Spots.{Spot}
 use Rattle.board.specs.declared.Place.{Place}
 use Rattle.board.specs.Boards.{below, boards}
 use Rattle.board.specs.Place.{place, on_board, inside, difference, larger}
@@ -24,7 +24,7 @@ use Rattle.tree.specs.Trees.{entries, tree_with, tree_of}
 
 -- A feed of 32 spots that begins with the pins of a board.
 abbrev feed : List Place → List Spot
-feed board = padded most_pins Absent (map At board)
+feed board = padded most_pins None (map Some board)
 
 -- The runs of W1 to W8.
 abbrev runs : List (List Run)
@@ -40,14 +40,14 @@ runs =
     ∷ []
 
 -- THE RUNS ARE THOSE WORKED BY HAND.
-pub worked : map (λ board. tree_of (feed board)) boards ≡ map (tree_with Accepted) runs
-unfolding tree_of tree_with accepted first_of entries runs_of pins_of runs_among grown next_run earliest_of earliest runs_between runs_from without pins_from kept_if sooner
-    pair_at comes_before by_part by_number pair_of weight_of distance_of difference larger both choose
+pub worked : map (λ board. tree_of (feed board)) boards ≡ map (λ l. Ok (tree_with l)) runs
+unfolding tree_of tree_with first_of entries runs_of pins_of runs_among grown next_run earliest_of earliest runs_between runs_from without pins_from
+    kept_if sooner pair_at comes_before by_part by_number pair_of weight_of distance_of difference larger both choose
 worked = refl
 
 -- A feed with no pins: 17.
-pub nothing : tree_of (feed []) ≡ tree_with NoPins []
-unfolding tree_of tree_with accepted first_of pins_of pins_from kept_if choose
+pub nothing : tree_of (feed []) ≡ Err NoPins
+unfolding tree_of first_of pins_of pins_from kept_if choose
 nothing = refl
 
 -- What the code asks of a feed can be met: every board stands on the board's range.

@@ -1,37 +1,27 @@
 -- The clean list has no more spans than were put in. Assumes nothing.
-use mathlib.Core.Path.{◌≡◌}
 use mathlib.Core.Bool.{Bool, true, false}
 use mathlib.Core.List.{List, [], ◌∷◌}
-use Prim.Native.Nat.{ℕ, zero, suc, ◌+◌, ◌≤◌}
+use Prim.Native.Nat.{suc, ◌+◌, ◌≤◌}
 use native.Mathlib.Omega.{arith}
 use lib.Dec.{ltb}
+use Rattle.std.proofs.Common.{Option, Some, None}
 use lib.ListN.{length}
 use Rattle.basics.specs.Tests.{choose}
 use Rattle.spans.specs.declared.Span.{Span}
-use Rattle.spans.specs.Spans.{ends, left, behind, carried, times, insert, add, add_all, cleaned}
+use Rattle.spans.specs.Spans.{left, carried, with_left, insert, add, add_all, cleaned}
 
--- At most one span is left behind in a turn.
-pub left_few : (s t : Span) → left s t ≤ 1
-unfolding left choose
-left_few s t = by_test (ends s t) (ends t s)
-  where
-    by_test : (p q : Bool) → choose p 1 (choose q 1 0) ≤ 1
-    by_test true q = omega arith
-    by_test false true = omega arith
-    by_test false false = omega arith
-
--- A span before a list, so many times, makes it longer by as many.
-times-length : (n : ℕ) (s : Span) (l : List Span) → length (times n s l) ≡ n + length l
-unfolding times
-times-length zero s l = omega arith
-times-length (suc n) s l = omega (arith, times-length n s l)
+-- What is left behind makes a list longer by at most one.
+with_left_few : (o : Option Span) (l : List Span) → length (with_left o l) ≤ suc (length l)
+unfolding with_left
+with_left_few None l = omega arith
+with_left_few (Some s) l = omega arith
 
 -- A span put in makes the list longer by at most one,
 insert_few : (s : Span) (l : List Span) → length (insert s l) ≤ suc (length l)
 unfolding insert
 insert_few s [] = omega arith
 insert_few s (t ∷ l) =
-    omega (arith, times-length (left s t) (behind s t) (insert (carried s t) l), left_few s t, insert_few (carried s t) l)
+    omega (arith, with_left_few (left s t) (insert (carried s t) l), insert_few (carried s t) l)
 
 -- and so does a span added,
 add_few : (s : Span) (l : List Span) → length (add s l) ≤ suc (length l)

@@ -10,7 +10,7 @@ use lib.Dec.{ltb}
 use borrow.Author.Tests.{ltb-true, ltb-false}
 use Rattle.basics.specs.Tests.{choose}
 use Rattle.spans.specs.declared.Span.{Span}
-use Rattle.spans.specs.Spans.{hull, ends, left, behind, carried, times, insert, add, add_all, cleaned}
+use Rattle.spans.specs.Spans.{hull, ends, left, carried, with_left, insert, add, add_all, cleaned}
 use Rattle.spans.proofs.Lists.{Inside, Covered, here, later, CleanFrom, done, next, Clean, Alike, alike_self, alike_back, alike_by, alike_after, alike_swap, only_one}
 
 -- ---- one turn of the walk
@@ -22,7 +22,7 @@ pub data Lie (s t : Span) : Type 0 where
 
 -- Where neither is empty, they lie in one of the three ways: the two tests say in which,
 lie_by : {s t : Span} → s.low < s.high → t.low < t.high → (p q : Bool) → ends s t ≡ p → ends t s ≡ q → Lie s t
-unfolding insert times left behind carried choose
+unfolding insert left carried with_left choose
 lie_by {s} {t} v w true true e f = absurd (omega (arith, ltb-true s.high t.low e, ltb-true t.high s.low f))
 lie_by {s} {t} v w true false e f = before (ltb-true s.high t.low e) (λ l. rw (e, f))
 lie_by {s} {t} v w false true e f = after (ltb-true t.high s.low f) (λ l. rw (e, f))

@@ -1,11 +1,10 @@
-// Spans of numbers: spans that overlap or touch are joined, and all put in order, in place, in two lent lists of their low and their high ends.
+// Spans of numbers: spans that overlap or touch are joined, and all put in order, in place, in a lent list.
 #![tactic(auto)]
 
 ghost use Rattle.std.specs.Prelude.{◌≡◌, ◌+◌, ◌≤◌, ◌<◌, length, take, drop};
 ghost use Rattle.basics.specs.Lists.{padded};
-ghost use Rattle.spans.specs.Spans.{most_spans, between_of, spans_from, Long, lows_of, highs_of, hull, left, behind, carried, insert, add, cleaned};
+ghost use Rattle.spans.specs.Spans.{most_spans, span, between_of, hull, left, carried, insert, cleaned};
 
-use basics::{larger, smaller};
 use tree::RUNS;
 
 // The most spans that a list holds: one for each leg of a board.
@@ -23,26 +22,9 @@ pub fn between(a: usize, b: usize) -> Span
     ensures { result ≡ between_of a b }
 {
     Span {
-        low: smaller(a, b),
-        high: larger(a, b),
+        low: a.min(b),
+        high: a.max(b),
     }
-}
-
-// Of the span that is carried along a list and the next one of the list: 1 where one of them is left behind, 0 where they overlap or touch.
-fn left_of(s: Span, t: Span) -> usize
-    ensures { result ≡ left s t }
-{
-    if s.high < t.low {
-        return 1;
-    }
-    if t.high < s.low { 1 } else { 0 }
-}
-
-// The one that is left behind.
-fn behind_of(s: Span, t: Span) -> Span
-    ensures { result ≡ behind s t }
-{
-    if t.high < s.low { t } else { s }
 }
 
 // The least span that holds both.
@@ -50,94 +32,78 @@ fn hull_of(s: Span, t: Span) -> Span
     ensures { result ≡ hull s t }
 {
     Span {
-        low: smaller(s.low, t.low),
-        high: larger(s.high, t.high),
+        low: s.low.min(t.low),
+        high: s.high.max(t.high),
     }
 }
 
-// The one that is carried on.
+// Of the span that is carried along a list and the next one of the list, the one that is left behind; none where they overlap or touch.
+#[tactic(auto, unfolding(crate::specs::Spans::left, basics::specs::Tests::choose))]
+fn left_of(s: Span, t: Span) -> Option<Span>
+    ensures { result ≡ left s t }
+{
+    if t.high < s.low {
+        Some(t)
+    } else if s.high < t.low {
+        Some(s)
+    } else {
+        None
+    }
+}
+
+// The one that is carried on: the later one, or where they overlap or touch the least that holds both.
+#[tactic(auto, unfolding(crate::specs::Spans::carried, basics::specs::Tests::choose))]
 fn carried_of(s: Span, t: Span) -> Span
     ensures { result ≡ carried s t }
 {
     if s.high < t.low {
-        return t;
+        t
+    } else if t.high < s.low {
+        s
+    } else {
+        hull_of(s, t)
     }
-    if t.high < s.low { s } else { hull_of(s, t) }
 }
 
 // Puts a span into the clean list of the first `count` spans, and says how many they are then: what is left behind is written over entries already read.
-fn put_in(lows: &mut [usize; SPANS], highs: &mut [usize; SPANS], count: usize, span: Span) -> usize
-    requires { (count < most_spans) × Long lows.old highs.old }
-    ensures number { (result ≡ length (insert span (take count (spans_from lows.old highs.old)))) × (result ≤ count + 1) }
-    ensures list_after { take result (spans_from lows.new highs.new) ≡ insert span (take count (spans_from lows.old highs.old)) }
-    ensures rest_unchanged { drop (count + 1) (spans_from lows.new highs.new) ≡ drop (count + 1) (spans_from lows.old highs.old) }
-    ensures long { Long lows.new highs.new }
+#[tactic(auto, using(crate::proofs::Walk::walk_none, crate::proofs::Walk::walk_all))]
+fn put_in(spans: &mut [Span; SPANS], count: usize, span: Span) -> usize
+    requires { count < most_spans }
+    ensures few { result ≤ count + 1 }
+    ensures list_after { take result spans.new ≡ insert span (take count spans.old) }
+    ensures rest_unchanged { drop (count + 1) spans.new ≡ drop (count + 1) spans.old }
+    ensures long { length spans.new ≡ most_spans }
 {
     let mut carry = span;
-    let mut n = 0;
-    let mut i = 0;
-    while i < count {
-        let next = Span {
-            low: lows[i],
-            high: highs[i],
-        };
-        let passed = behind_of(carry, next);
-        lows[n] = passed.low;
-        highs[n] = passed.high;
-        n += left_of(carry, next);
+    let mut kept = 0;
+    // By number: the walk writes to the list that it reads.
+    for at in 0..count {
+        let next = spans[at];
+        if let Some(passed) = left_of(carry, next) {
+            spans[kept] = passed;
+            kept += 1;
+        }
         carry = carried_of(carry, next);
-        i += 1;
     }
-    lows[n] = carry.low;
-    highs[n] = carry.high;
-    n + 1
+    spans[kept] = carry;
+    kept + 1
 }
 
-// Adds a span to the clean list of the first `count` spans: puts it in where it has a number.
-fn add_to(lows: &mut [usize; SPANS], highs: &mut [usize; SPANS], count: usize, span: Span) -> usize
-    requires { (count < most_spans) × Long lows.old highs.old }
-    ensures number { (result ≡ length (add span (take count (spans_from lows.old highs.old)))) × (result ≤ count + 1) }
-    ensures list_after { take result (spans_from lows.new highs.new) ≡ add span (take count (spans_from lows.old highs.old)) }
-    ensures rest_unchanged { drop (count + 1) (spans_from lows.new highs.new) ≡ drop (count + 1) (spans_from lows.old highs.old) }
-    ensures long { Long lows.new highs.new }
-{
-    if span.low < span.high {
-        put_in(lows, highs, count, span)
-    } else {
-        count
-    }
-}
-
-// Clears the ends of all spans after the first `count`.
-fn clear_after(ends: &mut [usize; SPANS], count: usize)
-    requires { (count ≤ most_spans) × (length ends.old ≡ most_spans) }
-    ensures { ends.new ≡ padded most_spans 0 (take count ends.old) }
-{
-    let mut i = count;
-    while i < SPANS {
-        ends[i] = 0;
-        i += 1;
-    }
-}
-
-// Makes a clean list of the first `count` spans, in their place, with no other spans after it, and says how many they are then.
-pub fn clean(lows: &mut [usize; SPANS], highs: &mut [usize; SPANS], count: usize) -> usize
-    requires { (count ≤ most_spans) × Long lows.old highs.old }
-    ensures value { result ≡ length (cleaned (take count (spans_from lows.old highs.old))) }
-    ensures lows_after { lows.new ≡ padded most_spans 0 (lows_of (cleaned (take count (spans_from lows.old highs.old)))) }
-    ensures highs_after { highs.new ≡ padded most_spans 0 (highs_of (cleaned (take count (spans_from lows.old highs.old)))) }
+// Makes a clean list of the first `count` spans, in their place, with no other spans after it, and says how many they are then. It takes a count, and not
+// a slice of so many spans, since it promises that those after them are cleared too.
+#[tactic(auto, using(crate::proofs::Cleaning::give_none, crate::proofs::Cleaning::give_all))]
+pub fn clean(spans: &mut [Span; SPANS], count: usize) -> usize
+    requires { count ≤ most_spans }
+    ensures value { result ≡ length (cleaned (take count spans.old)) }
+    ensures list_after { spans.new ≡ padded most_spans (span 0 0) (cleaned (take count spans.old)) }
 {
     let mut kept = 0;
-    let mut i = 0;
-    while i < count {
-        let span = Span {
-            low: lows[i],
-            high: highs[i],
-        };
-        kept = add_to(lows, highs, kept, span);
-        i += 1;
+    for at in 0..count {
+        let span = spans[at];
+        if span.low < span.high {
+            kept = put_in(spans, kept, span);
+        }
     }
-    clear_after(lows, kept);
-    clear_after(highs, kept);
+    spans[kept..].fill(Span { low: 0, high: 0 });
     kept
 }

@@ -1,16 +1,14 @@
--- Hex digits read one by one come to the bits of an f32, and bits are tested for a NaN. Assumes nothing.
-use mathlib.Core.Path.{◌≡◌, refl, sym, ◌∙◌, ap}
-use mathlib.Core.Bool.{true, false}
-use mathlib.Core.List.{List}
-use Prim.Native.Nat.{ℕ, suc, ◌+◌, ◌*◌, ◌^◌, ◌%◌, ◌≤◌, ◌<◌}
+-- Hex digits read one by one come to the bits of an f32, and the bytes of those bits. Assumes nothing.
+use mathlib.Core.Path.{◌≡◌, sym, ◌∙◌, ap}
+use mathlib.Core.List.{List, [], ◌∷◌}
+use Prim.Native.Nat.{ℕ, suc, ◌+◌, ◌*◌, ◌/◌, ◌^◌, ◌%◌, ◌≤◌, ◌<◌}
 use native.Mathlib.Nat.{pow-suc, pow-le-pow_right}
 use native.Mathlib.Omega.{arith}
 use lib.Dec.{lit<}
 use lib.ListN.{length, drop, get_or, drop_of_length-le}
-use lib.Ieee.{Float, nan, inf, fin, binary32, of_bits, to_bits, nan_bits, is_nan, ne, div}
-use lib.Ieee.Bits.{nan_bits_is, nan_bits_above}
-use lib.Ieee.Compare.{differs_from_itself}
-use borrow.Author.Tests.{lt-ltb, le-ltb}
+use mir.Syntax.{w32}
+use Rattle.std.specs.Int.{to_be_bytes}
+use Rattle.text.specs.Digits.{four_bytes}
 use Rattle.text.specs.Numbers.{float_digits, hex_value, hex_from}
 use Rattle.text.proofs.Steps.{front}
 
@@ -34,34 +32,8 @@ module _ (w : List ℕ) (i v : ℕ) where
   unfolding hex_from
   hex_end h = rw (drop_of_length-le w h)
 
--- A number that passes for a NaN is one,
-is_nan_lem : (x : Float) → is_nan x ≡ true → nan ≡ x
-unfolding is_nan
-is_nan_lem nan h = refl
-is_nan_lem (inf s) h = let z : ◌≡◌ {A = ℕ} 0 1 = cc in absurd (omega arith)
-is_nan_lem (fin s m e) h = let z : ◌≡◌ {A = ℕ} 0 1 = cc in absurd (omega arith)
-
--- so bits above those of infinity, but for the sign, are a NaN's;
-pub nan_above : (n : ℕ) → 2139095040 < n % 2147483648 → nan ≡ of_bits binary32 n
-nan_above n h = is_nan_lem (of_bits binary32 n) (sym (nan_bits_is binary32 n) ∙ nan_bits_above binary32 n ∙ lt-ltb 2139095040 (n % 2147483648) h)
-
--- no others are.
-pub nan_not_above : (n : ℕ) → n % 2147483648 ≤ 2139095040 → nan_bits binary32 n ≡ false
-nan_not_above n h = nan_bits_above binary32 n ∙ le-ltb 2139095040 (n % 2147483648) h
-
--- Nought by nought is a NaN.
-pub nought_by_nought : div binary32 (of_bits binary32 0) (of_bits binary32 0) ≡ nan
-unfolding div of_bits
-nought_by_nought = refl
-
--- The bits of a number that differs from itself are those of a NaN;
-pub nan_bits_lem : (x : Float) → ne x x ≡ true → 0x7fc00000 ≡ to_bits binary32 x
-unfolding to_bits
-nan_bits_lem x h = rw (differs_from_itself x (rw h tt))
-
--- any other is no NaN.
-pub not_nan : (x : Float) → ne x x ≡ false → is_nan x ≡ false
-unfolding is_nan ne
-not_nan nan h = h
-not_nan (inf s) h = refl
-not_nan (fin s m e) h = refl
+-- The bytes of 32 bits, high byte first.
+pub bytes_four : (n : ℕ) → n < 4294967296 → to_be_bytes w32 n ≡ four_bytes n
+bytes_four n h =
+    let high : n / 16777216 % 256 ≡ n / 16777216 = omega arith in
+    ap (λ (b : ℕ). b ∷ n / 65536 % 256 ∷ n / 256 % 256 ∷ n % 256 ∷ []) high

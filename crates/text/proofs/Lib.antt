@@ -1,4 +1,5 @@
 -- What is proved of words, numbers and digits beside the functions' contracts.
+pub mod Library
 pub mod Steps
 pub mod Cutting
 pub mod Rows

@@ -2,18 +2,19 @@
 use mathlib.Core.Path.{◌≡◌, refl, sym, ◌∙◌, ap}
 use mathlib.Core.Bool.{Bool, true, false}
 use mathlib.Core.List.{List, [], ◌∷◌, ◌++◌, append_assoc, append-nil}
-use Prim.Native.Nat.{ℕ, zero, suc, ◌+◌, ◌-◌, ◌*◌, ◌/◌, ◌%◌, ◌^◌, ◌≤◌, ◌<◌, min}
+use Prim.Native.Nat.{ℕ, zero, suc, ◌+◌, ◌*◌, ◌/◌, ◌%◌, ◌^◌, ◌≤◌, ◌<◌, min}
 use native.Mathlib.Nat.{pow-suc}
 use native.Mathlib.Omega.{arith}
-use lib.IntN.{ℤ, pos, negsuc, nat_abs}
+use lib.IntN.{ℤ, pos, nat_abs}
 use lib.Signed.{lt_z}
 use lib.Dec.{ltb, lit<}
 use borrow.Author.Rules.{sfits_of}
-use lib.ListN.{length, take, get_or, set, length-append}
-use lib.Seq.{sets, take_all, length-take-le}
+use lib.ListN.{length, take, drop, get_or, set, length-append}
+use lib.Seq.{sets, sets-eq, take_all, length-take-le, drop-drop}
+use borrow.Rule.Slice.PartMut.{put_mid}
 use mir.Syntax.{w32}
-use mir.Val.{of_z, SFits}
-use borrow.Author.Tests.{lt-ltb, le-ltb, ltb-true}
+use mir.Val.{SFits}
+use borrow.Author.Tests.{lt-ltb, le-ltb}
 use Rattle.basics.specs.Tests.{choose}
 use Rattle.board.proofs.Signed.{rd, lt_rd}
 use Rattle.text.specs.Text.{text, text_for_each, over, answer_bytes, Holds}
@@ -109,11 +110,6 @@ put_all5 o at p q r s t a b c d e = put_all3 o at (p ++ q ++ r) s t (put_all3 o 
 pub line : (o : List ℕ) (p : List ℕ) {n : ℕ} {v : List ℕ} → Put o 0 p n v → (n ≡ length p) × (v ≡ over p o)
 line o p h = (omega (arith, h.0), h.1)
 
--- How far a number below zero is from it, read from its bits.
-pub below_abs : (z : ℤ) → SFits w32 z → lt_z (rd z) (pos 0) ≡ true → 4294967295 - of_z w32 z + 1 ≡ nat_abs z
-below_abs (pos k) h e = absurd (omega (arith, ltb-true k 0 (lt_rd {a = pos k} {b = pos 0} h (sfits_of (lit< tt)) e)))
-below_abs (negsuc k) h e = omega (arith, h.sfits)
-
 -- Hex digits below ten are 0 to 9,
 pub hex_low : (d : ℕ) → d < 10 → 48 + d ≡ hex_digit d
 unfolding hex_digit choose
@@ -131,24 +127,28 @@ hex-length [] = refl
 hex-length (b ∷ rest) = omega (arith, hex-length rest)
 
 -- one byte more is two digits more,
-hex_snoc : (l : List ℕ) (b : ℕ) → hex (l ++ (b ∷ [])) ≡ hex l ++ (hex_digit (b / 16) ∷ []) ++ (hex_digit (b % 16) ∷ [])
+hex_snoc : (l : List ℕ) (b : ℕ) → hex (l ++ (b ∷ [])) ≡ hex l ++ (hex_digit (b / 16) ∷ hex_digit (b % 16) ∷ [])
 unfolding hex
 hex_snoc [] b = refl
 hex_snoc (a ∷ rest) b = ap (λ (l : List ℕ). hex_digit (a / 16) ∷ hex_digit (a % 16) ∷ l) (hex_snoc rest b)
 
 -- and they are put after those before them.
-pub hex_more : (o l : List ℕ) (at i : ℕ) → i < length l
-    → set (set (sets o at (hex (take i l))) (at + i * 2) (hex_digit (get_or l i 0 / 16))) (at + i * 2 + 1) (hex_digit (get_or l i 0 % 16)) ≡ sets o at (hex (take (i + 1) l))
-hex_more o l at i h =
-    let n : i * 2 ≡ length (hex (take i l)) = omega (arith, hex-length (take i l), length-take-le i l (omega arith)) in
-    let x : ℕ = hex_digit (get_or l i 0 / 16) in
-    let y : ℕ = hex_digit (get_or l i 0 % 16) in
-    let m : at + i * 2 + 1 ≡ at + length (hex (take i l) ++ (x ∷ [])) = omega (arith, n, length-append (hex (take i l)) (x ∷ [])) in
-    ap (λ (k : ℕ). set (set (sets o at (hex (take i l))) (at + k) x) (at + i * 2 + 1) y) n
-    ∙ ap (λ (w : List ℕ). set w (at + i * 2 + 1) y) (sets-append o at (hex (take i l)) (x ∷ []))
-    ∙ ap (λ (k : ℕ). set (sets o at (hex (take i l) ++ (x ∷ []))) k y) m
-    ∙ sets-append o at (hex (take i l) ++ (x ∷ [])) (y ∷ [])
-    ∙ ap (sets o at) (sym (hex_snoc (take i l) (get_or l i 0)) ∙ ap hex (first_more 0 l i h))
+pub hex_more : (o l : List ℕ) (at i : ℕ) {next x y : ℕ} {before : List ℕ} → i < length l → next ≡ at + i * 2 → before ≡ sets o at (hex (take i l))
+    → x ≡ hex_digit (get_or l i 0 / 16) → y ≡ hex_digit (get_or l i 0 % 16)
+    → set (set before next x) (suc next) y ≡ sets o at (hex (take (i + 1) l))
+hex_more o l at i {next} {x} {y} {before} h n b e f =
+    let m : at + i * 2 ≡ at + length (hex (take i l)) = omega (arith, hex-length (take i l), length-take-le i l (omega arith)) in
+    let two : List ℕ = hex_digit (get_or l i 0 / 16) ∷ hex_digit (get_or l i 0 % 16) ∷ [] in
+    let put : sets (sets o at (hex (take i l))) (at + i * 2) two ≡ sets o at (hex (take (i + 1) l)) =
+    ap (λ (k : ℕ). sets (sets o at (hex (take i l))) k two) m
+    ∙ sets-append o at (hex (take i l)) two
+    ∙ ap (sets o at) (sym (hex_snoc (take i l) (get_or l i 0)) ∙ ap hex (first_more 0 l i h)) in
+    rw (b, n, e, f) put
+
+-- Bytes copied over a part of the buffer are put there.
+pub copied : (o bytes now : List ℕ) (at k : ℕ) → now ≡ bytes → k ≡ length bytes → at + length bytes ≤ length o → put_mid at k o now ≡ sets o at bytes
+copied o bytes now at k e f h =
+    rw (e, f, drop-drop (length bytes) at o, sets-eq bytes o at h) (sym (append_assoc (take at o) bytes (drop (at + length bytes) o)))
 
 -- A piece that reads as another was put as that other.
 pub put_as : (o : List ℕ) (at : ℕ) {n : ℕ} {v : List ℕ} {p q : List ℕ} → p ≡ q → Put o at p n v → Put o at q n v

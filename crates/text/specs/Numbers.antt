@@ -1,12 +1,10 @@
 -- Numbers, lists of numbers, bytes and an f32 as they are written in a line.
-use Rattle.std.specs.Prelude.{Bool, true, false, List, [], ◌∷◌, map, ℕ, ◌+◌, ◌-◌, ◌*◌, ℤ, pos, neg_ℤ, leb, ltb, eqb, length, take, drop, get_or, Float}
+use Rattle.std.specs.Prelude.{Bool, true, false, Option, Some, None, List, [], ◌∷◌, map, ℕ, ◌+◌, ◌-◌, ◌*◌, ℤ, pos, neg_ℤ, leb, ltb, eqb, length, take, drop, get_or, Float}
 use Rattle.std.specs.Float.Ieee.{of_bits}
 use Rattle.std.specs.Float.{binary32}
 use Rattle.basics.specs.Tests.{both, either, choose, each_of}
 use Rattle.text.specs.Text.{text, same}
 use Rattle.text.specs.Words.{minus, comma, pieces}
-use Rattle.text.specs.declared.Number.{Number}
-use Rattle.text.specs.declared.Coordinate.{Coordinate}
 
 -- Seats and pins go to 4,294,967,295.
 abbrev pub most_number : ℕ
@@ -23,10 +21,6 @@ most_above = 2147483647
 -- x and y go down to -2,147,483,648.
 abbrev pub most_below : ℕ
 most_below = 2147483648
-
--- One more than the largest number of any range; it stands for all numbers beyond.
-abbrev pub beyond : ℕ
-beyond = 4294967296
 
 -- A map has up to 4,200 pairs of hex digits, a byte each.
 abbrev pub most_pairs : ℕ
@@ -62,8 +56,8 @@ unfoldable pub is_number : ℕ → List ℕ → Bool
 is_number top w = both (ltb 0 (length w)) (both (all_digits w) (leb (value_of w) top))
 
 -- A word read as a number, where it is one.
-unfoldable pub number_of : ℕ → List ℕ → Number
-number_of top w = choose (is_number top w) (Number.Of (value_of w)) Number.Unread
+unfoldable pub number_of : ℕ → List ℕ → Option ℕ
+number_of top w = choose (is_number top w) (Some (value_of w)) None
 
 -- One minus stands before the word.
 unfoldable pub has_minus : List ℕ → Bool
@@ -78,8 +72,8 @@ unfoldable pub signed : List ℕ → ℤ
 signed w = choose (has_minus w) (neg_ℤ (pos (value_of (drop 1 w)))) (pos (value_of w))
 
 -- A word read as x or y, where it is one.
-unfoldable pub coordinate_of : List ℕ → Coordinate
-coordinate_of w = choose (is_coordinate w) (Coordinate.At (signed w)) Coordinate.Unread
+unfoldable pub coordinate_of : List ℕ → Option ℤ
+coordinate_of w = choose (is_coordinate w) (Some (signed w)) None
 
 -- Nothing, as a map or as a list: a single minus.
 abbrev pub none_word : List ℕ

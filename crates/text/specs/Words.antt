@@ -1,5 +1,5 @@
 -- A line cut into its words.
-use Rattle.std.specs.Prelude.{Bool, true, false, List, [], ◌∷◌, ℕ, zero, suc, ◌+◌, ◌-◌, eqb, length, take, drop, get_or}
+use Rattle.std.specs.Prelude.{Bool, true, false, List, [], ◌∷◌, ℕ, suc, ◌+◌, ◌-◌, eqb, length, take, drop, get_or}
 use Rattle.basics.specs.Tests.{choose}
 
 -- The byte of a space.
@@ -58,15 +58,6 @@ words_of line = non_empty (pieces space line)
 abbrev pub word : ℕ → List (List ℕ) → List ℕ
 word k words = get_or words k []
 
--- How many spaces a text begins with.
-unfoldable pub spaces_of : List ℕ → ℕ
-spaces_of [] = 0
-spaces_of (b ∷ rest) = choose (eqb b space) (suc (spaces_of rest)) 0
-
--- Where the next word begins, from a position on.
-unfoldable pub start_at : List ℕ → ℕ → ℕ
-start_at line at = at + spaces_of (drop at line)
-
 -- Where a separator is found: here, or one after where it is found in what follows.
 unfoldable pub index_after : Bool → ℕ → ℕ
 index_after true n = 0
@@ -80,8 +71,3 @@ index_of s (b ∷ rest) = index_after (eqb b s) (index_of s rest)
 -- Where the next separator stands, from a position on.
 unfoldable pub stop_at : ℕ → List ℕ → ℕ → ℕ
 stop_at s line at = at + index_of s (drop at line)
-
--- Where a line has been read to after so many words.
-unfoldable pub after_words : ℕ → List ℕ → ℕ
-after_words zero line = 0
-after_words (suc k) line = stop_at space line (start_at line (after_words k line))

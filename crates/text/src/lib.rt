@@ -16,17 +16,3 @@ pub const MOST_ROOM: usize = 1024;
 
 // An answer has room for so many bytes.
 pub const ANSWER_BYTES: usize = 8192;
-
-// A word read as a number.
-#[derive(Clone, Copy)]
-pub enum Number {
-    Unread,
-    Of(usize),
-}
-
-// A word read as x or y.
-#[derive(Clone, Copy)]
-pub enum Coordinate {
-    Unread,
-    At(i32),
-}

@@ -1,20 +1,14 @@
 // Words read as numbers, as lists of numbers, as bytes and as an f32.
-ghost use Rattle.std.specs.Prelude.{◌≡◌, true, map, ◌+◌, ◌-◌, ◌*◌, ◌≤◌, min, pos, neg_ℤ, length};
-ghost use Rattle.std.specs.Float.Ieee.{of_bits};
-ghost use Rattle.std.specs.Float.{binary32};
+ghost use Rattle.std.specs.Prelude.{◌≡◌, IfSome, get_or, [], Bool, List, ℕ, map, ◌+◌, ◌*◌, ◌≤◌, ◌-◌, ◌^◌, min, length};
 ghost use Rattle.text.specs.Text.{over};
 ghost use Rattle.text.specs.Words.{comma, pieces};
-ghost use Rattle.text.specs.Numbers.{most_number, most_pairs, most_numbers, most_below, beyond, between as is_between, is_digit, is_small, is_capital, all_digits, value_of, number_of, has_minus, is_coordinate, signed, coordinate_of, is_row, listed, is_list, is_hex, hex_value, all_pairs, bytes_of, is_spelled, is_map, spelled, float_digits, all_hex, is_bits, hex_from, float_of};
+ghost use Rattle.text.specs.Numbers.{most_number, most_pairs, most_numbers, all_digits, value_of, number_of, coordinate_of, is_row, is_row_of, listed, is_list, hex_value, bytes_of, is_spelled, is_map, spelled, float_digits, all_hex, is_bits, hex_from, float_of};
 
-use crate::words::{same, stop_at};
-use crate::{Coordinate, MOST_NUMBERS, MOST_PAIRS, Number};
-use basics::smaller;
+use crate::{MOST_NUMBERS, MOST_PAIRS};
+use std::num::f32_from_bits_with_nan;
 
 // The largest number of a seat or a pin.
 pub const MOST: usize = 4294967295;
-
-// One more: it stands for all larger numbers.
-const BEYOND: usize = MOST + 1;
 
 // x and y go up to so much.
 const MOST_ABOVE: usize = 2147483647;
@@ -25,196 +19,108 @@ const MOST_BELOW: usize = MOST_ABOVE + 1;
 // A map has up to so many hex digits.
 const MOST_DIGITS: usize = MOST_PAIRS * 2;
 
+// The word for none, in place of a list and of a map.
+pub const NOTHING: &[u8] = b"-";
+
 // The bits of an f32 are spelled by so many hex digits.
 const FLOAT_DIGITS: usize = 8;
-
-// The weight of the sign in the bits of an f32.
-const SIGN: u32 = 2147483648;
-
-// The bits of infinity; those of a NaN are above them, but for the sign.
-const INFINITY: u32 = 2139095040;
-
-// Whether a byte lies from one to another.
-fn between(low: u8, high: u8, b: u8) -> bool
-    ensures { result ≡ is_between low high b }
-{
-    low <= b && b <= high
-}
-
-// Whether a byte is a digit.
-fn is_digit(b: u8) -> bool
-    ensures { result ≡ is_digit b }
-{
-    between(b'0', b'9', b)
-}
-
-// Whether a byte is a small letter from a to f.
-fn is_small(b: u8) -> bool
-    ensures { result ≡ is_small b }
-{
-    between(b'a', b'f', b)
-}
-
-// Whether a byte is a capital letter from A to F.
-fn is_capital(b: u8) -> bool
-    ensures { result ≡ is_capital b }
-{
-    between(b'A', b'F', b)
-}
 
 // Whether every byte of a word is a digit.
 fn all_digits(word: &[u8]) -> bool
     ensures { result ≡ all_digits word.now }
 {
-    let mut i = 0;
-    while i < word.len() {
-        if !is_digit(word[i]) {
-            return false;
-        }
-        i += 1;
-    }
-    true
+    word.iter().all(|b| b.is_ascii_digit())
 }
 
-// The value of a digit.
-fn digit(b: u8) -> usize
-    ensures { result ≡ b - 48 }
-{
-    if b < b'0' { 0 } else { (b - b'0') as usize }
-}
-
-// A value with one digit more after it, up to the number beyond all ranges.
-fn shifted(value: usize, b: u8) -> usize
-    requires { value ≤ beyond }
-    ensures { result ≡ min (value * 10 + (b - 48)) beyond }
-{
-    let next = value * 10 + digit(b);
-    if next < BEYOND { next } else { BEYOND }
-}
-
-// What the digits of a word come to, up to the number beyond all ranges.
+// What the digits of a word come to, up to the largest number of its type.
 fn value(word: &[u8]) -> usize
-    ensures { result ≡ min (value_of word.now) beyond }
+    ensures { result ≡ min (value_of word.now) (2 ^ 64 - 1) }
 {
-    let mut n = 0;
-    let mut i = 0;
-    while i < word.len() {
-        n = shifted(n, word[i]);
-        i += 1;
-    }
-    n
+    word.iter().fold(
+        0,
+        |value: usize, b| value
+            .saturating_mul(10)
+            .saturating_add(b.saturating_sub(b'0') as usize),
+    )
 }
 
 // A word as a number from 0 to `top`.
-pub fn number(word: &[u8], top: usize) -> Number
+#[tactic(auto, using(crate::proofs::Values::number_is))]
+pub fn number(word: &[u8], top: usize) -> Option<usize>
     requires { top ≤ most_number }
-    ensures { result ≡ number_of top word.now }
+    ensures value { result ≡ number_of top word.now }
+    ensures within { IfSome result (λ n. n ≤ top) }
 {
-    if word.len() == 0 {
-        return Number::Unread;
-    }
-    if !all_digits(word) {
-        return Number::Unread;
+    if word.is_empty() || !all_digits(word) {
+        return None;
     }
     let n = value(word);
-    if top < n {
-        return Number::Unread;
-    }
-    Number::Of(n)
-}
-
-// Whether a minus stands before a word.
-fn has_minus(word: &[u8]) -> bool
-    ensures { result ≡ has_minus word.now }
-{
-    word.len() != 0 && word[0] == b'-'
-}
-
-// A number below zero.
-fn negated(n: usize) -> i32
-    requires { n ≤ most_below }
-    ensures { result ≡ neg_ℤ (pos n) }
-{
-    if n == 0 {
-        return 0;
-    }
-    !((n - 1) as i32)
+    if n <= top { Some(n) } else { None }
 }
 
 // A word as x or y.
-pub fn coordinate(word: &[u8]) -> Coordinate
+pub fn coordinate(word: &[u8]) -> Option<i32>
     ensures { result ≡ coordinate_of word.now }
 {
-    if has_minus(word) {
-        let Number::Of(n) = number(&word[1..], MOST_BELOW) else {
-            return Coordinate::Unread;
-        };
-        return Coordinate::At(negated(n));
-    }
-    let Number::Of(n) = number(word, MOST_ABOVE) else {
-        return Coordinate::Unread;
-    };
-    Coordinate::At(n as i32)
-}
-
-// Whether a word is x or y.
-fn is_coordinate(word: &[u8]) -> bool
-    ensures { result ≡ is_coordinate word.now }
-{
-    match coordinate(word) {
-        Coordinate::At(_) => true,
-        Coordinate::Unread => false,
+    match word.strip_prefix(b"-") {
+        Some(digits) => Some(-(number(digits, MOST_BELOW)? as i64) as i32),
+        None => Some(number(word, MOST_ABOVE)? as i32),
     }
 }
 
-// The number of a word that is x or y.
-fn signed_of(word: &[u8]) -> i32
-    requires { is_coordinate word.now ≡ true }
-    ensures { result ≡ signed word.now }
+// How many words between single commas a word has.
+fn count_pieces(word: &[u8]) -> usize
+    ensures { result ≡ length (pieces comma word.now) }
 {
-    match coordinate(word) {
-        Coordinate::At(z) => z,
-        Coordinate::Unread => 0,
-    }
+    word.split(|b| *b == b',').count()
+}
+
+// The word of a number between single commas, counted from 0; empty where there are not so many.
+fn piece(word: &[u8], number: usize) -> &[u8]
+    ensures { result.now ≡ get_or (pieces comma word.now) number [] }
+{
+    word.split(|b| *b == b',').nth(number).unwrap_or(b"")
+}
+
+// Whether a word is words of one form separated by single commas, up to so many.
+pub fn is_row_of<F: Fn(&[u8]) -> bool>(word: &[u8], most: usize, form: F) -> bool
+    requires { F.IsAlwaysCallable form }
+    ensures { (test : List ℕ → Bool) → ((piece : _) (b : Bool) → F.post form piece b → b ≡ test piece.now) → result ≡ is_row_of test most word.now }
+{
+    word.split(|b| *b == b',').all(form) && count_pieces(word) <= most
 }
 
 // Whether a word is numbers separated by single commas, few enough.
 fn is_row(word: &[u8]) -> bool
     ensures { result ≡ is_row word.now }
 {
-    let mut count: usize = 0;
-    let mut at = 0;
-    while at <= word.len() {
-        let to = stop_at(word, at, b',');
-        if !is_coordinate(&word[at..to]) {
-            return false;
-        }
-        count += 1;
-        at = to + 1;
-    }
-    count <= MOST_NUMBERS
+    is_row_of(word, MOST_NUMBERS, |piece| coordinate(piece).is_some())
 }
 
 // Whether a word is a list of numbers, or a minus for none.
+#[tactic(auto, using(crate::proofs::Values::list_is))]
 pub fn is_list(word: &[u8]) -> bool
     ensures { result ≡ is_list word.now }
 {
-    same(word, b"-") || is_row(word)
+    word == NOTHING || is_row(word)
 }
 
-// Writes the numbers of a row from the start on, and answers how many there are.
-fn fill_row(word: &[u8], values: &mut [i32; MOST_NUMBERS]) -> usize
-    requires { is_row word.now ≡ true }
-    ensures value { result ≡ length (pieces comma word.now) }
-    ensures values_after { values.new ≡ over (map signed (pieces comma word.now)) values.old }
+// Stores what the words between single commas come to from the start of a list on, and answers how many there are.
+pub fn fill_row<T: Copy, const N: usize, F: Fn(&[u8]) -> T>(
+    word: &[u8],
+    values: &mut [T; N],
+    value: F,
+) -> usize
+    requires callable { F.IsAlwaysCallable value }
+    requires room { length (pieces comma word.now) ≤ N }
+    ensures count { result ≡ length (pieces comma word.now) }
+    ensures values_after { (of : List ℕ → T) → ((piece : _) (v : T) → F.post value piece v → v ≡ of piece.now) → values.new ≡ over (map of (pieces comma word.now)) values.old }
 {
-    let mut count = 0;
-    let mut at = 0;
-    while at <= word.len() {
-        let to = stop_at(word, at, b',');
-        values[count] = signed_of(&word[at..to]);
-        count += 1;
-        at = to + 1;
+    let count = count_pieces(word);
+
+    // Word by word by their numbers: of a `for` over the words themselves, in a function with type parameters, the check makes no proof.
+    for i in 0..count {
+        values[i] = value(piece(word, i));
     }
     count
 }
@@ -225,84 +131,55 @@ pub fn fill_list(word: &[u8], values: &mut [i32; MOST_NUMBERS]) -> usize
     ensures values_after { values.new ≡ over (listed word.now) values.old }
 {
     if is_row(word) {
-        return fill_row(word, values);
+        fill_row(word, values, |piece| coordinate(piece).unwrap_or(0))
+    } else {
+        0
     }
-    0
-}
-
-// Whether a byte is a hex digit.
-fn is_hex(b: u8) -> bool
-    ensures { result ≡ is_hex b }
-{
-    if is_digit(b) {
-        return true;
-    }
-    if is_small(b) {
-        return true;
-    }
-    is_capital(b)
 }
 
 // The value of a hex digit.
+#[tactic(auto, using(crate::proofs::Values::hex_value_is))]
 fn hex_value(b: u8) -> u8
     ensures value { result ≡ hex_value b }
     ensures upper_bound { result ≤ 15 }
 {
-    if is_digit(b) {
-        return b - b'0';
+    match b {
+        b'0'..=b'9' => b - b'0',
+        b'a'..=b'f' => b - b'a' + 10,
+        b'A'..=b'F' => b - b'A' + 10,
+        _ => 0,
     }
-    if is_small(b) {
-        return b - 87;
-    }
-    if is_capital(b) {
-        return b - 55;
-    }
-    0
 }
 
-// Whether a word is pairs of hex digits.
-fn all_pairs(word: &[u8]) -> bool
-    ensures { result ≡ all_pairs word.now }
+// Whether every byte of a word is a hex digit.
+fn all_hex(word: &[u8]) -> bool
+    ensures { result ≡ all_hex word.now }
 {
-    let mut i = 0;
-    while i + 1 < word.len() {
-        if !is_hex(word[i]) {
-            return false;
-        }
-        if !is_hex(word[i + 1]) {
-            return false;
-        }
-        i += 2;
-    }
-    i == word.len()
+    word.iter().all(|b| b.is_ascii_hexdigit())
 }
 
 // Whether a word is one to 4,200 pairs of hex digits.
+#[tactic(auto, using(crate::proofs::Values::spelled_is))]
 fn is_spelled(word: &[u8]) -> bool
     ensures { result ≡ is_spelled word.now }
 {
     let n = word.len();
-    if n == 0 {
-        return false;
-    }
-    if MOST_DIGITS < n {
-        return false;
-    }
-    all_pairs(word)
+    0 < n && n <= MOST_DIGITS && n % 2 == 0 && all_hex(word)
 }
 
 // Whether a word is a map, or a minus for an empty one.
+#[tactic(auto, using(crate::proofs::Values::map_is))]
 pub fn is_map(word: &[u8]) -> bool
     ensures { result ≡ is_map word.now }
 {
-    same(word, b"-") || is_spelled(word)
+    word == NOTHING || is_spelled(word)
 }
 
 // The byte that two hex digits spell.
-fn joined(a: u8, b: u8) -> u8
-    ensures { result ≡ hex_value a * 16 + hex_value b }
+fn joined(high: u8, low: u8) -> u8
+    ensures { result ≡ hex_value high * 16 + hex_value low }
 {
-    hex_value(a) * 16 + hex_value(b)
+    hex_value(high) * 16 + hex_value(low)
 }
 
 // Writes the bytes that pairs of hex digits spell from the start on, and answers how many there are.
@@ -311,12 +188,12 @@ fn fill_pairs(word: &[u8], map: &mut [u8; MOST_PAIRS]) -> usize
     ensures value { (result ≡ length (bytes_of word.now)) × (result ≤ most_pairs) }
     ensures map_after { map.new ≡ over (bytes_of word.now) map.old }
 {
-    let mut at = 0;
-    while at * 2 + 1 < word.len() {
-        map[at] = joined(word[at * 2], word[at * 2 + 1]);
-        at += 1;
+    let (pairs, _) = word.as_chunks::<2>();
+    for (i, pair) in pairs.iter().enumerate() {
+        let [high, low] = *pair;
+        map[i] = joined(high, low);
     }
-    at
+    pairs.len()
 }
 
 // Writes the bytes of a map from the start on, and answers how many there are.
@@ -325,26 +202,14 @@ pub fn fill_map(word: &[u8], map: &mut [u8; MOST_PAIRS]) -> usize
     ensures map_after { map.new ≡ over (spelled word.now) map.old }
 {
     if is_spelled(word) {
-        return fill_pairs(word, map);
+        fill_pairs(word, map)
+    } else {
+        0
     }
-    0
-}
-
-// Whether every byte of a word is a hex digit.
-fn all_hex(word: &[u8]) -> bool
-    ensures { result ≡ all_hex word.now }
-{
-    let mut i = 0;
-    while i < word.len() {
-        if !is_hex(word[i]) {
-            return false;
-        }
-        i += 1;
-    }
-    true
 }
 
 // Whether a word spells the bits of an f32.
+#[tactic(auto, using(crate::proofs::Values::bits_is))]
 pub fn is_bits(word: &[u8]) -> bool
     ensures { result ≡ is_bits word.now }
 {
@@ -356,29 +221,16 @@ fn bits(digits: &[u8]) -> u32
     requires { length digits.now ≤ float_digits }
     ensures { result ≡ hex_from 0 digits.now }
 {
-    let mut n: u32 = 0;
-    let mut i = 0;
-    while i < digits.len() {
-        n = n * 16 + hex_value(digits[i]) as u32;
-        i += 1;
+    let mut n = 0;
+    for b in digits {
+        n = n * 16 + hex_value(*b) as u32;
     }
     n
-}
-
-// The f32 of these bits.
-fn of_bits(n: u32) -> f32
-    ensures { result ≡ of_bits binary32 n }
-{
-    if INFINITY < n % SIGN {
-        return 0.0 / 0.0;
-    }
-    f32::from_bits(n)
 }
 
 // The f32 whose bits a word spells.
 pub fn float(word: &[u8]) -> f32
     ensures { result ≡ float_of word.now }
 {
-    let looked_at = smaller(word.len(), FLOAT_DIGITS);
-    of_bits(bits(&word[..looked_at]))
+    f32_from_bits_with_nan(bits(&word[..word.len().min(FLOAT_DIGITS)]))
 }

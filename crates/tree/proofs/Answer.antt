@@ -6,11 +6,11 @@ use Prim.Native.Nat.{ℕ, zero, suc, ◌≤◌}
 use native.Mathlib.Omega.{arith}
 use lib.ListN.{length}
 use Rattle.basics.specs.Tests.{both, choose}
-use Rattle.refusal.specs.Refusals.{accepted}
 use Rattle.refusal.specs.Rows.{first_of}
-use Rattle.refusal.specs.declared.Verdict.TheVariants.{Accepted, NoPins}
+use Rattle.refusal.specs.declared.Refusal.TheVariants.{NoPins}
+use Rattle.std.specs.Prelude.{Ok, Err}
 use Rattle.refusal.proofs.Rows.{unlike, distinct, Apart, apart_by}
-use Rattle.board.specs.declared.Spot.{Spot}
+use Rattle.board.specs.Spots.{Spot}
 use Rattle.board.specs.Spots.{most_pins}
 use Rattle.tree.specs.Growth.{pins_of, runs_among, runs_of, grown}
 use Rattle.tree.specs.Trees.{most_runs, tree_with, none, tree_rows, tree_of}
@@ -19,23 +19,23 @@ use Rattle.tree.proofs.Membership.{pins_few}
 module _ (feed : List Spot) where
   -- No two rows give the same: there is but 17.
   pub tree_apart : Apart (tree_rows feed)
-  unfolding distinct unlike both accepted
+  unfolding distinct unlike both
   tree_apart = apart_by (tree_rows feed) refl
 
   -- 17, where there are no pins.
-  pub seventeen : none (pins_of feed) ≡ true → tree_of feed ≡ tree_with NoPins []
-  unfolding tree_of first_of accepted choose
+  pub seventeen : none (pins_of feed) ≡ true → tree_of feed ≡ Err NoPins
+  unfolding tree_of first_of choose
   seventeen e = rw e
 
   -- Else the runs.
-  pub runs_told : none (pins_of feed) ≡ false → tree_of feed ≡ tree_with Accepted (runs_of feed)
-  unfolding tree_of first_of accepted choose
+  pub runs_told : none (pins_of feed) ≡ false → tree_of feed ≡ Ok (tree_with (runs_of feed))
+  unfolding tree_of first_of choose
   runs_told e = rw e
 
 -- 17 or the runs.
 pub data Answer (feed : List Spot) : Type 0 where
-  no_pins : pins_of feed ≡ [] → tree_of feed ≡ tree_with NoPins [] → Answer feed
-  the_runs : (f : ℕ) (left : List ℕ) → pins_of feed ≡ f ∷ left → tree_of feed ≡ tree_with Accepted (runs_of feed) → Answer feed
+  no_pins : pins_of feed ≡ [] → tree_of feed ≡ Err NoPins → Answer feed
+  the_runs : (f : ℕ) (left : List ℕ) → pins_of feed ≡ f ∷ left → tree_of feed ≡ Ok (tree_with (runs_of feed)) → Answer feed
 
 -- Every feed has one of the two.
 pub answer : (feed : List Spot) → Answer feed

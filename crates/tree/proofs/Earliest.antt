@@ -10,7 +10,7 @@ use lib.Dec.{ltb}
 use borrow.Author.Tests.{ltb-true, ltb-false}
 use Rattle.basics.specs.Tests.{choose}
 use Rattle.basics.proofs.Tests.{decide, choose_yes, choose_no}
-use Rattle.board.specs.declared.Spot.{Spot}
+use Rattle.board.specs.Spots.{Spot}
 use Rattle.board.specs.Spots.{most_pins}
 use Rattle.tree.specs.Weight.{comes_before}
 use Rattle.tree.specs.declared.Run.{Run}

@@ -5,13 +5,14 @@ use mathlib.Core.List.{List, [], ◌∷◌, ◌++◌, append-nil}
 use mathlib.Core.Logic.{◌⊎◌, inl, inr}
 use Prim.Native.Nat.{ℕ, ◌+◌, ◌<◌, ◌≤◌}
 use native.Mathlib.Omega.{arith}
+use Rattle.std.proofs.Common.{Some, None}
+use Rattle.std.proofs.lemmas.Option.{none-some}
 use lib.ListN.{length, get_or, set, replicate, length-append, length-replicate, get_or-replicate}
 use lib.Seq.{append_snoc, get_or-set_other}
 use Rattle.basics.proofs.Tests.{opposite}
 use Rattle.basics.proofs.Lists.{empty, padded_more, values_long}
-use Rattle.refusal.specs.declared.Verdict.TheVariants.{Accepted}
 use Rattle.board.specs.declared.Place.{Place}
-use Rattle.board.specs.declared.Spot.{Spot}
+use Rattle.board.specs.Spots.{Spot}
 use Rattle.board.specs.Spots.{most_pins, present, spot_at, place_at, all_within}
 use Rattle.board.proofs.Flat.{same_or_not}
 use Rattle.board.proofs.Rules.{inside_at}
@@ -23,7 +24,7 @@ use Rattle.tree.specs.Offers.{next_offer, next_nears, Standing, Ready}
 use Rattle.tree.proofs.Membership.{Among, first, later, Distinct, also, length_without, pin_in, there_pins, pins_once, pins_few, distinct_rest}
 use Rattle.tree.proofs.Earliest.{Earliest, one-earliest, next-earliest}
 use Rattle.tree.proofs.Numbering.{key_at, keyed}
-use Rattle.tree.proofs.Taking.{Linked, set_off, next_waits, offer_earliest, linked_next}
+use Rattle.tree.proofs.Taking.{Linked, set_off, next_some, offer_earliest, linked_next}
 
 -- One entry more.
 pub entries_more : (l : List Run) (r : Run) → length l < most_runs → set (entries l) (length l) r ≡ entries (l ++ (r ∷ []))
@@ -126,12 +127,12 @@ module _ (feed : List Spot) (full : length feed ≡ most_pins) (ts : List Bool) 
 -- Where no pin is left, the runs taken are those of the feed.
 going_all : {feed : List Spot} {at : ℕ → Place} {waits : List Bool} {near : List ℕ} {latest : ℕ} {runs : List Run} {count : ℕ}
     (g : Going feed at waits near latest runs count) → g.left ≡ []
-    → record { verdict = Accepted; count = count; runs = runs } ≡ tree_with Accepted (runs_of feed)
+    → record { count = count; runs = runs } ≡ tree_with (runs_of feed)
 unfolding tree_with grown
 going_all {feed} g e =
     let l : g.taken ≡ runs_of feed =
     sym (append-nil g.taken) ∙ rw e at g.still in
-    λ i. record { verdict = Accepted; count = (g.many ∙ ap length l) i; runs = (g.kept ∙ ap entries l) i }
+    λ i. record { count = (g.many ∙ ap length l) i; runs = (g.kept ∙ ap entries l) i }
 
 module _ {feed : List Spot} {at : ℕ → Place} {waits : List Bool} {near : List ℕ} {latest : ℕ} {runs : List Run} {count : ℕ} (ok : all_within feed ≡ true)
     (g : Going feed at waits near latest runs count) where
@@ -149,32 +150,32 @@ module _ {feed : List Spot} {at : ℕ → Place} {waits : List Bool} {near : Lis
       of_reached a m = record { low = g.linked.low a m; on = rw (g.linked.reached_at a m) (inside_at feed ok a) }
 
 module _ {feed : List Spot} {at : ℕ → Place} {waits : List Bool} {near : List ℕ} {latest : ℕ} {runs : List Run} {count : ℕ} (ok : all_within feed ≡ true)
-    (g : Going feed at waits near latest runs count) (c : Offer) (ec : c ≡ next_offer at waits near latest) where
-  -- The offer that stands is the earliest pair between a reached pin and one left.
-  earliest_is : c.waits ≡ true → Earliest (key_at feed) g.reached g.left (run c.near c.far)
-  earliest_is w = rw ec (offer_earliest (keyed feed ok) g.linked (rw ec at w))
+    (g : Going feed at waits near latest runs count) (c : Offer) (ec : next_offer at waits near latest ≡ Some c) where
+  -- The offer is the earliest pair between a reached pin and one left.
+  earliest_is : Earliest (key_at feed) g.reached g.left (run c.near c.far)
+  earliest_is = offer_earliest (keyed feed ok) g.linked c ec
 
   -- It reaches a pin,
-  pub far_low : c.waits ≡ true → c.far < most_pins
-  far_low w = g.linked.short c.far (earliest_is w).to
+  pub far_low : c.far < most_pins
+  far_low = g.linked.short c.far earliest_is.to
 
   -- and there was room for its run.
-  pub room : c.waits ≡ true → count < most_runs
-  room w = omega (arith, g.few, length_without c.far g.linked.once (earliest_is w).to)
+  pub room : count < most_runs
+  room = omega (arith, g.few, length_without c.far g.linked.once earliest_is.to)
 
   -- At a turn it is taken.
-  pub going_turn : (nears : List ℕ) → nears ≡ next_nears at waits near latest → c.waits ≡ true
+  pub going_turn : (nears : List ℕ) → nears ≡ next_nears at waits near latest
       → Going feed at (set waits c.far false) nears c.far (set runs count (run c.near c.far)) (count + 1)
   unfolding grown
-  going_turn nears en w =
+  going_turn nears en =
       let r : Run = run c.near c.far in
-      let m = (earliest_is w).to in
+      let m = earliest_is.to in
       let n = length_without c.far g.linked.once m in
       let left' : List ℕ = without c.far g.left in
       let same : next_run feed g.reached g.left ≡ r =
       one-earliest (keyed feed ok) g.linked.low g.linked.short g.linked.apart (next_run feed g.reached g.left) r
-      (next-earliest (keyed feed ok) g.reached g.left g.linked.low g.linked.short c.near c.far (earliest_is w).from m)
-      (earliest_is w) in
+      (next-earliest (keyed feed ok) g.reached g.left g.linked.low g.linked.short c.near c.far earliest_is.from m)
+      earliest_is in
       let one : grown feed (length g.left) g.reached g.left ≡ r ∷ grown feed (length left') (c.far ∷ g.reached) left' =
       rw n (ap (λ (s : Run). s ∷ grown feed (length left') (s.far ∷ g.reached) (without s.far g.left)) same) in
       record {
@@ -184,26 +185,24 @@ module _ {feed : List Spot} {at : ℕ → Place} {waits : List Bool} {near : Lis
         many = omega (arith, length-append g.taken (r ∷ []), g.many);
         few = omega (arith, g.few);
         long = rw en (nears_long at waits near latest);
-        kept = rw (g.kept, g.many) (entries_more g.taken r (omega (arith, g.many, room w)));
+        kept = rw (g.kept, g.many) (entries_more g.taken r (omega (arith, g.many, room)));
         linked = rw en (linked_next (keyed feed ok) g.linked c.far m);
         still =
             append_snoc g.taken r (grown feed (length left') (c.far ∷ g.reached) left') ∙ ap (λ (l : List Run). g.taken ++ l) (sym one) ∙ g.still;
       }
 
-  -- Where none stands, no pin is left.
-  none_left : c.waits ≡ false → g.left ≡ []
-  none_left w = go g.left (λ k m. opposite (next_waits (keyed feed ok) g.linked k m) (rw ec at w))
-    where
-      go : (l : List ℕ) → ((k : ℕ) → Among k l → ⊥) → l ≡ []
-      go [] h = refl
-      go (k ∷ l) h = absurd (h k (first refl))
-
-  -- So it is where none stands,
-  pub going_stop : c.waits ≡ false → record { verdict = Accepted; count = count; runs = runs } ≡ tree_with Accepted (runs_of feed)
-  going_stop w = going_all g (none_left w)
+-- Where there is no offer, no pin is left,
+pub going_stop : {feed : List Spot} {at : ℕ → Place} {waits : List Bool} {near : List ℕ} {latest : ℕ} {runs : List Run} {count : ℕ} (ok : all_within feed ≡ true)
+    (g : Going feed at waits near latest runs count) → next_offer at waits near latest ≡ None
+    → record { count = count; runs = runs } ≡ tree_with (runs_of feed)
+going_stop {feed} ok g e = going_all g (go g.left (λ k m. let z = next_some (keyed feed ok) g.linked k m in none-some z.x (sym e ∙ z.is)))
+  where
+    go : (l : List ℕ) → ((k : ℕ) → Among k l → ⊥) → l ≡ []
+    go [] h = refl
+    go (k ∷ l) h = absurd (h k (first refl))
 
 -- and after the last turn.
 pub going_end : {feed : List Spot} {at : ℕ → Place} {waits : List Bool} {near : List ℕ} {latest : ℕ} {runs : List Run} {count : ℕ}
     (g : Going feed at waits near latest runs count) → most_runs ≤ count
-    → record { verdict = Accepted; count = count; runs = runs } ≡ tree_with Accepted (runs_of feed)
+    → record { count = count; runs = runs } ≡ tree_with (runs_of feed)
 going_end g h = going_all g (empty g.left (omega (arith, g.few)))

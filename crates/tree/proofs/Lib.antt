@@ -1,11 +1,11 @@
 -- What is proved of the tree beside the functions' contracts.
+pub mod Before
+pub mod Near
 pub mod Keys
 pub mod Order
-pub mod Arms
 pub mod Membership
 pub mod Earliest
 pub mod Numbering
-pub mod Lent
 pub mod Choosing
 pub mod Taking
 pub mod Going

@@ -7,7 +7,7 @@ use mathlib.Core.Logic.{◌⊎◌, inl, inr, ⊎_elim}
 use Prim.Native.Nat.{ℕ, zero, suc, ◌<◌}
 use native.Mathlib.Omega.{arith}
 use lib.ListN.{length}
-use Rattle.board.specs.declared.Spot.{Spot}
+use Rattle.board.specs.Spots.{Spot}
 use Rattle.board.proofs.Flat.{same_or_not}
 use Rattle.tree.specs.declared.Run.{Run}
 use Rattle.board.specs.Spots.{most_pins, all_within}

@@ -2,9 +2,10 @@
 use mathlib.Core.Path.{◌≡◌, sym, ap, ap₂, ◌∙◌}
 use mathlib.Core.Bool.{Bool, true, false}
 use mathlib.Core.List.{List}
-use Prim.Native.Nat.{ℕ, suc, ◌+◌, ◌-◌, ◌<◌, ◌≤◌}
+use Prim.Native.Nat.{ℕ, ◌+◌, ◌<◌}
 use native.Mathlib.Numerals.{add-one}
 use native.Mathlib.Omega.{arith}
+use Rattle.std.proofs.Common.{Option, Some, None}
 use lib.ListN.{length, get_or, set}
 use lib.Seq.{set-get_or}
 use Rattle.basics.proofs.Tests.{choose_yes, choose_no}
@@ -12,27 +13,7 @@ use Rattle.basics.proofs.Lists.{overlaid, overlaid_next, values_long, values_tur
 use Rattle.board.specs.declared.Place.{Place}
 use Rattle.board.specs.Spots.{most_pins}
 use Rattle.tree.specs.declared.Offer.{Offer}
-use Rattle.tree.specs.Offers.{first_from, no_offer, offer_of, earlier_offer, offer_at, earliest_below, next_offer, near_at, next_nears}
-use Rattle.tree.proofs.Arms.{earlier_skip}
-
--- ---- the lowest pin
-module _ (there : List Bool) (i : ℕ) where
-  -- A pin that is not there is passed;
-  pub first_turn : i < most_pins → get_or there i false ≡ false → first_from there i (most_pins - i) ≡ first_from there (i + 1) (most_pins - (i + 1))
-  unfolding first_from
-  first_turn h e =
-      let q : most_pins - i ≡ suc (most_pins - (i + 1)) = omega arith in
-      rw q (choose_no i _ e ∙ ap (λ (j : ℕ). first_from there j (most_pins - (i + 1))) (omega arith))
-
-  -- one that is there is the lowest;
-  pub first_found : i < most_pins → get_or there i false ≡ true → first_from there i (most_pins - i) ≡ i
-  unfolding first_from
-  first_found h e = let q : most_pins - i ≡ suc (most_pins - (i + 1)) = omega arith in rw q (choose_yes i _ e)
-
-  -- past the last pin there is none.
-  pub first_none : most_pins ≤ i → first_from there i (most_pins - i) ≡ i
-  unfolding first_from
-  first_none h = let q : most_pins - i ≡ 0 = omega arith in rw q
+use Rattle.tree.specs.Offers.{offer_of, earlier_of, earlier_offer, best_offer, offer_at, earliest_below, next_offer, near_at, next_nears}
 
 -- ---- the earliest offer
 module _ (at : ℕ → Place) (waits : List Bool) (near₀ near : List ℕ) (latest pin : ℕ) (full : length near₀ ≡ most_pins)
@@ -54,17 +35,17 @@ module _ (at : ℕ → Place) (waits : List Bool) (near₀ near : List ℕ) (lat
         ∙ values_turn (near_at at waits near₀ latest) most_pins near₀ 0 pin near so_far full (get_or near pin 0) h (still_kept h ∙ sym (choose_no _ _ w))
 
     -- and the earliest offer stays.
-    pub next_pass : (next : Offer) → next ≡ earliest_below (offer_at at waits near₀ latest) pin → next ≡ earliest_below (offer_at at waits near₀ latest) (pin + 1)
-    unfolding earliest_below offer_at
-    next_pass next e = rw add-one (e ∙ earlier_skip _ _ (ap (λ (o : Offer). o.waits) (choose_no _ no_offer w)))
+    pub next_pass : (next : Option Offer) → next ≡ earliest_below (offer_at at waits near₀ latest) pin → next ≡ earliest_below (offer_at at waits near₀ latest) (pin + 1)
+    unfolding earliest_below offer_at earlier_offer
+    next_pass next e = rw add-one (rw (choose_no (Some (best_offer at near₀ latest pin)) None w) e)
 
   -- One that waits gets its offer:
   module _ (h : pin < most_pins) (w : get_or waits pin false ≡ true) (kept new offer : Offer) (ek : kept ≡ offer_of at (get_or near pin 0) pin)
-      (en : new ≡ offer_of at latest pin) (eo : offer ≡ earlier_offer kept new) where
+      (en : new ≡ offer_of at latest pin) (eo : offer ≡ earlier_of kept new) where
     -- the earlier of the two,
-    offer_is : offer ≡ offer_at at waits near₀ latest pin
-    unfolding offer_at
-    offer_is = eo ∙ ap₂ earlier_offer (ek ∙ ap (λ (n : ℕ). offer_of at n pin) (still_kept h)) en ∙ sym (choose_yes _ no_offer w)
+    offer_is : offer ≡ best_offer at near₀ latest pin
+    unfolding best_offer
+    offer_is = eo ∙ ap₂ earlier_of (ek ∙ ap (λ (n : ℕ). offer_of at n pin) (still_kept h)) en
 
     -- whose near pin it keeps,
     pub nears_turn : set near pin offer.near ≡ overlaid (next_nears at waits near₀ latest) near₀ (pin + 1)
@@ -74,10 +55,11 @@ module _ (at : ℕ → Place) (waits : List Bool) (near₀ near : List ℕ) (lat
         (ap (λ (o : Offer). o.near) offer_is ∙ sym (choose_yes _ _ w))
 
     -- and which is compared with the earliest so far.
-    pub next_turn : (next after : Offer) → next ≡ earliest_below (offer_at at waits near₀ latest) pin → after ≡ earlier_offer next offer
+    pub next_turn : (next after : Option Offer) → next ≡ earliest_below (offer_at at waits near₀ latest) pin → after ≡ earlier_offer next (Some offer)
         → after ≡ earliest_below (offer_at at waits near₀ latest) (pin + 1)
-    unfolding earliest_below
-    next_turn next after e f = rw add-one (f ∙ ap₂ earlier_offer e offer_is)
+    unfolding earliest_below offer_at
+    next_turn next after e f =
+        rw add-one (f ∙ ap₂ earlier_offer e (ap Some offer_is ∙ sym (choose_yes (Some (best_offer at near₀ latest pin)) None w)))
 
   module _ (h : pin ≡ most_pins) where
     -- In the end all keep their near pins,
@@ -86,6 +68,6 @@ module _ (at : ℕ → Place) (waits : List Bool) (near₀ near : List ℕ) (lat
     nears_end = values_all (near_at at waits near₀ latest) most_pins near₀ 0 pin near so_far full (omega arith)
 
     -- and the earliest is that of all.
-    pub next_end : (next : Offer) → next ≡ earliest_below (offer_at at waits near₀ latest) pin → next ≡ next_offer at waits near₀ latest
+    pub next_end : (next : Option Offer) → next ≡ earliest_below (offer_at at waits near₀ latest) pin → next ≡ next_offer at waits near₀ latest
     unfolding next_offer
     next_end next e = e ∙ ap (earliest_below (offer_at at waits near₀ latest)) h

@@ -9,8 +9,8 @@ use lib.Dec.{eqb}
 use lib.ListN.{length, get_or}
 use borrow.Author.Tests.{eq-eqb, ne_eqb, eqb-false, not-true}
 use Rattle.basics.proofs.Tests.{decide}
-use Rattle.board.specs.declared.Spot.{Spot}
-use Rattle.board.specs.declared.Spot.TheVariants.{Absent}
+use Rattle.board.specs.Spots.{Spot}
+use Rattle.std.specs.Prelude.{None}
 use Rattle.board.proofs.Flat.{same_or_not}
 use Rattle.tree.specs.declared.Run.{Run}
 use Rattle.board.specs.Spots.{most_pins, present}
@@ -119,19 +119,19 @@ distinct_without n (also {a = m} {l = l} d ds) = distinct_kept m (not (eqb m n))
 -- ---- the pins that are there: pin i + k stands among them where the k-th spot has a pin
 -- What stands among the pins is the number of a spot that has a pin,
 pub pins_there_lem : {a : ℕ} (i : ℕ) (feed : List Spot) → Among a (pins_from i feed)
-    → (k : ℕ) × (a ≡ i + k) × (k < length feed) × (present (get_or feed k Absent) ≡ true)
+    → (k : ℕ) × (a ≡ i + k) × (k < length feed) × (present (get_or feed k None) ≡ true)
 unfolding pins_from
 pins_there_lem {a = a} i [] h = elim h [ ]
 pins_there_lem {a} i (s ∷ feed) h = go (in_kept (present s) h) (pins_there_lem (suc i) feed)
   where
     go : ((present s ≡ true) × (a ≡ i)) ⊎ Among a (pins_from (suc i) feed)
-        → (Among a (pins_from (suc i) feed) → (k : ℕ) × (a ≡ suc i + k) × (k < length feed) × (present (get_or feed k Absent) ≡ true))
-        → (k : ℕ) × (a ≡ i + k) × (k < suc (length feed)) × (present (get_or (s ∷ feed) k Absent) ≡ true)
+        → (Among a (pins_from (suc i) feed) → (k : ℕ) × (a ≡ suc i + k) × (k < length feed) × (present (get_or feed k None) ≡ true))
+        → (k : ℕ) × (a ≡ i + k) × (k < suc (length feed)) × (present (get_or (s ∷ feed) k None) ≡ true)
     go (inl e) ih = (0, omega (arith, e.1), omega arith, e.0)
     go (inr m) ih = let z = ih m in (suc z.0, omega (arith, z.1), omega (arith, z.2), z.3)
 
 -- and the number of every such spot stands there.
-pub there_pins : (i : ℕ) (feed : List Spot) (k : ℕ) → k < length feed → present (get_or feed k Absent) ≡ true → Among (i + k) (pins_from i feed)
+pub there_pins : (i : ℕ) (feed : List Spot) (k : ℕ) → k < length feed → present (get_or feed k None) ≡ true → Among (i + k) (pins_from i feed)
 unfolding pins_from
 there_pins i [] k l e = absurd (omega arith)
 there_pins i (s ∷ feed) zero l e = kept_new (pins_from (suc i) feed) e (omega arith)
@@ -140,7 +140,7 @@ there_pins i (s ∷ feed) (suc k) l e =
     rw q (kept_old i (present s) (there_pins (suc i) feed k (omega arith) e))
 
 -- So a pin of a feed is the number of a spot that has a pin.
-pub pin_in : {a : ℕ} (feed : List Spot) → Among a (pins_of feed) → (a < length feed) × (present (get_or feed a Absent) ≡ true)
+pub pin_in : {a : ℕ} (feed : List Spot) → Among a (pins_of feed) → (a < length feed) × (present (get_or feed a None) ≡ true)
 unfolding pins_of
 pin_in {a} feed m =
     let z = pins_there_lem 0 feed m in
@@ -165,7 +165,7 @@ unfolding pins_from
 pins_lowest i [] e a m = absurd (omega (arith, ap length e))
 pins_lowest i (s ∷ feed) {f} {left} e a m = go (decide (present s)) (pins_there_lem i (s ∷ feed) (rw (sym e) at m)) (λ q. pins_lowest (suc i) feed q a m)
   where
-    go : (present s ≡ true) ⊎ (present s ≡ false) → ((k : ℕ) × (a ≡ i + k) × (k < suc (length feed)) × (present (get_or (s ∷ feed) k Absent) ≡ true))
+    go : (present s ≡ true) ⊎ (present s ≡ false) → ((k : ℕ) × (a ≡ i + k) × (k < suc (length feed)) × (present (get_or (s ∷ feed) k None) ≡ true))
         → (pins_from (suc i) feed ≡ f ∷ left → f ≤ a) → f ≤ a
     go (inl t) z ih =
         let q : i ∷ pins_from (suc i) feed ≡ f ∷ left = sym (kept_yes i (pins_from (suc i) feed) t) ∙ e in

@@ -4,7 +4,7 @@ use mathlib.Core.Bool.{true}
 use mathlib.Core.List.{List}
 use Prim.Native.Nat.{ℕ, ◌<◌}
 use native.Mathlib.Omega.{arith}
-use Rattle.board.specs.declared.Spot.{Spot}
+use Rattle.board.specs.Spots.{Spot}
 use Rattle.board.proofs.Flat.{Site, site, place_held}
 use Rattle.tree.proofs.Keys.{OnBoard, on_board_lem, Fits, key, key_swap, key_one, before_key}
 use Rattle.tree.proofs.Order.{Pin, pin_fits_lem}

@@ -6,21 +6,23 @@ use mathlib.Core.List.{List, [], ◌∷◌}
 use mathlib.Core.Logic.{◌⊎◌, inl, inr}
 use Prim.Native.Nat.{ℕ, zero, suc, ◌<◌, ◌≤◌}
 use native.Mathlib.Omega.{arith}
+use Rattle.std.proofs.Common.{Some, None}
+use Rattle.std.proofs.lemmas.Option.{none-some, same_Some}
 use lib.ListN.{get_or, set}
 use lib.Seq.{get_or-set_other}
 use Rattle.basics.proofs.Tests.{opposite, decide, choose_yes, choose_no}
 use Rattle.basics.proofs.Lists.{value_at}
 use Rattle.board.specs.declared.Place.{Place}
-use Rattle.board.specs.declared.Spot.{Spot}
+use Rattle.board.specs.Spots.{Spot}
 use Rattle.board.specs.Spots.{most_pins, place_at}
 use Rattle.board.proofs.Flat.{same_or_not}
 use Rattle.tree.specs.declared.Offer.{Offer}
 use Rattle.tree.specs.Growth.{run, pair_at, without}
 use Rattle.tree.specs.Weight.{pair_of}
-use Rattle.tree.specs.Offers.{no_offer, offer_of, earlier_offer, offer_at, next_offer, near_at, next_nears}
+use Rattle.tree.specs.Offers.{offer_of, earlier_of, best_offer, offer_at, next_offer, near_at, next_nears}
 use Rattle.tree.proofs.Membership.{Among, first, later, Distinct, without_in, in_without, distinct_without}
 use Rattle.tree.proofs.Earliest.{Keyed, Earliest}
-use Rattle.tree.proofs.Choosing.{Sound, Earlier, earlier, Least, earliest-below}
+use Rattle.tree.proofs.Choosing.{Sound, Earlier, earlier, AtMost, Least, earliest-below}
 
 -- What the pins keep, when some are reached, `latest` the last of them, and some are left, all of them standing as `at` says: a pin waits
 -- just where it is left, and keeps the near pin of the earliest of its pairs with the pins reached before the latest.
@@ -39,7 +41,6 @@ pub record Linked (feed : List Spot) (key : ℕ → ℕ → ℕ) (at : ℕ → P
 
 -- The offer to a pin that is left: the earliest of its pairs with the reached pins.
 pub record Offered (feed : List Spot) (key : ℕ → ℕ → ℕ) (reached : List ℕ) (k : ℕ) (o : Offer) : Type 0 where
-  pub waits : o.waits ≡ true
   pub far : o.far ≡ k
   pub pair : o.pair ≡ pair_at feed o.near k
   pub from : Among o.near reached
@@ -53,14 +54,13 @@ set_off (t ∷ l) (suc i) = set_off l i
 
 module _ {feed : List Spot} {key : ℕ → ℕ → ℕ} {at : ℕ → Place} {reached left : List ℕ} {waits : List Bool} {near : List ℕ} {latest : ℕ}
     (keyed : Keyed feed key) (h : Linked feed key at reached left waits near latest) where
-  -- A pin that is left gets such an offer,
-  pub offered : (k : ℕ) → Among k left → Offered feed key reached k (offer_at at waits near latest k)
-  unfolding offer_at offer_of pair_at
+  -- The best offer to a pin that is left is such an offer,
+  pub offered : (k : ℕ) → Among k left → Offered feed key reached k (best_offer at near latest k)
+  unfolding best_offer offer_of pair_at
   offered k hk =
-      rw (choose_yes (earlier_offer old new) no_offer (h.awaited k hk))
-      (go (earlier_offer old new)
-      (earlier keyed old new (λ w. record { near = h.low (get_or near k 0) (h.from k hk); far = h.short k hk; pair = same (h.from k hk) })
-      (λ w. record { near = h.low latest h.last; far = h.short k hk; pair = same h.last })))
+      go (earlier_of old new)
+      (earlier keyed old new (record { near = h.low (get_or near k 0) (h.from k hk); far = h.short k hk; pair = same (h.from k hk) })
+      (record { near = h.low latest h.last; far = h.short k hk; pair = same h.last }))
     where
       old : Offer
       old = offer_of at (get_or near k 0) k
@@ -74,7 +74,6 @@ module _ {feed : List Spot} {key : ℕ → ℕ → ℕ} {at : ℕ → Place} {re
       go : (r : Offer) → Earlier key old new r → Offered feed key reached k r
       go r e =
           record {
-            waits = (e.left refl).0;
             far = far e.one;
             pair = pair e.one;
             from = from e.one;
@@ -94,27 +93,29 @@ module _ {feed : List Spot} {key : ℕ → ℕ → ℕ} {at : ℕ → Place} {re
           from (inr q) = rw q h.last
 
           least : (a : ℕ) → r.far ≡ k → (a ≡ latest) ⊎ (key (get_or near k 0) k ≤ key a k) → key r.near k ≤ key a k
-          least a f (inl q) = rw q (rw f at (e.right refl).1)
-          least a f (inr l) = let z : key r.near k ≤ key (get_or near k 0) k = rw f at (e.left refl).1 in omega arith
+          least a f (inl q) = rw q (rw f at e.right)
+          least a f (inr l) = let z : key r.near k ≤ key (get_or near k 0) k = rw f at e.left in omega arith
 
-  -- any other none.
-  pub unoffered : (k : ℕ) → get_or waits k false ≡ false → offer_at at waits near latest k ≡ no_offer
+  -- and that pin is offered it;
+  pub gets : (k : ℕ) → Among k left → offer_at at waits near latest k ≡ Some (best_offer at near latest k)
   unfolding offer_at
-  unoffered k e = choose_no _ no_offer e
+  gets k hk = choose_yes (Some (best_offer at near latest k)) None (h.awaited k hk)
+
+  -- whatever is offered is the best offer to a pin that is left.
+  pub offers : (k : ℕ) → k < most_pins → (y : Offer) → offer_at at waits near latest k ≡ Some y → Among k left × (best_offer at near latest k ≡ y)
+  unfolding offer_at
+  offers k l y e = go (decide (get_or waits k false))
+    where
+      go : (get_or waits k false ≡ true) ⊎ (get_or waits k false ≡ false) → Among k left × (best_offer at near latest k ≡ y)
+      go (inl t) = (h.waiting k l t, same_Some _ _ (sym (choose_yes (Some (best_offer at near latest k)) None t) ∙ e))
+      go (inr t) = absurd (none-some y (sym (choose_no (Some (best_offer at near latest k)) None t) ∙ e))
 
   -- So every offer is sound,
-  sound : (k : ℕ) → k < most_pins → (offer_at at waits near latest k).waits ≡ true → Sound feed (offer_at at waits near latest k)
-  sound k l w = go (decide (get_or waits k false))
-    where
-      go : (get_or waits k false ≡ true) ⊎ (get_or waits k false ≡ false) → Sound feed (offer_at at waits near latest k)
-      go (inl e) =
-          let o = offered k (h.waiting k l e) in
-          record {
-            near = h.low (offer_at at waits near latest k).near o.from;
-            far = rw o.far l;
-            pair = rw o.far o.pair;
-          }
-      go (inr e) = absurd (opposite w (ap (λ (o : Offer). o.waits) (unoffered k e)))
+  sound : (k : ℕ) → k < most_pins → (y : Offer) → offer_at at waits near latest k ≡ Some y → Sound feed y
+  sound k l y e =
+      let z = offers k l y e in
+      let o = rw z.1 at (offered k z.0) in
+      record { near = h.low y.near o.from; far = rw o.far l; pair = rw o.far o.pair }
 
   -- and the earliest of all is the least of them.
   best : Least key (offer_at at waits near latest) most_pins (next_offer at waits near latest)
@@ -122,37 +123,27 @@ module _ {feed : List Spot} {key : ℕ → ℕ → ℕ} {at : ℕ → Place} {re
   best = earliest-below keyed (offer_at at waits near latest) sound most_pins (omega arith)
 
   -- Where a pin is left, there is one;
-  pub next_waits : (k : ℕ) → Among k left → (next_offer at waits near latest).waits ≡ true
-  next_waits k hk = (best.least k (h.short k hk) (offered k hk).waits).0
+  pub next_some : (k : ℕ) → Among k left → AtMost key (next_offer at waits near latest) (best_offer at near latest k)
+  next_some k hk = best.least k (h.short k hk) (best_offer at near latest k) (gets k hk)
 
   -- where there is one, it is the earliest pair between a reached pin and one left.
-  pub offer_earliest : (next_offer at waits near latest).waits ≡ true
-      → Earliest key reached left (run (next_offer at waits near latest).near (next_offer at waits near latest).far)
-  offer_earliest w = go (best.one w)
+  pub offer_earliest : (x : Offer) → next_offer at waits near latest ≡ Some x → Earliest key reached left (run x.near x.far)
+  offer_earliest x w =
+      let z = best.one x w in
+      let y = offers z.0 z.1 x z.2 in
+      let o = rw y.1 at (offered z.0 y.0) in
+      record {
+        from = o.from;
+        to = rw o.far y.0;
+        least = λ a b ha hb. least a b ha hb;
+      }
     where
-      go : (k : ℕ) × (k < most_pins) × (next_offer at waits near latest ≡ offer_at at waits near latest k)
-          → Earliest key reached left (run (next_offer at waits near latest).near (next_offer at waits near latest).far)
-      go z =
-          let v : (offer_at at waits near latest z.0).waits ≡ true = rw z.2 at w in
-          let m : Among z.0 left = at_left (decide (get_or waits z.0 false)) v in
-          let o = offered z.0 m in
-          record {
-            from = rw z.2 o.from;
-            to = rw (z.2, o.far) m;
-            least = λ a b ha hb. least a b ha hb;
-          }
-        where
-          at_left : (get_or waits z.0 false ≡ true) ⊎ (get_or waits z.0 false ≡ false) → (offer_at at waits near latest z.0).waits ≡ true → Among z.0 left
-          at_left (inl e) v = h.waiting z.0 z.1 e
-          at_left (inr e) v = absurd (opposite v (ap (λ (o : Offer). o.waits) (unoffered z.0 e)))
-
-          least : (a b : ℕ) → Among a reached → Among b left
-              → key (next_offer at waits near latest).near (next_offer at waits near latest).far ≤ key a b
-          least a b ha hb =
-              let o = offered b hb in
-              let l : key (next_offer at waits near latest).near (next_offer at waits near latest).far ≤ key (offer_at at waits near latest b).near b =
-              rw o.far at (best.least b (h.short b hb) o.waits).1 in
-              omega (arith, o.least a ha)
+      least : (a b : ℕ) → Among a reached → Among b left → key x.near x.far ≤ key a b
+      least a b ha hb =
+          let o = offered b hb in
+          let m = next_some b hb in
+          let l = rw (o.far, same_Some m.x x (sym m.is ∙ w)) at m.most in
+          omega (arith, o.least a ha)
 
   -- What the pins keep when one more pin, t, is reached.
   pub linked_next : (t : ℕ) → Among t left
@@ -173,7 +164,7 @@ module _ {feed : List Spot} {key : ℕ → ℕ → ℕ} {at : ℕ → Place} {re
         least = λ k m a n. least k (without_in t left m).0 a n;
       }
     where
-      keeps : (k : ℕ) → Among k left → get_or (next_nears at waits near latest) k 0 ≡ (offer_at at waits near latest k).near
+      keeps : (k : ℕ) → Among k left → get_or (next_nears at waits near latest) k 0 ≡ (best_offer at near latest k).near
       keeps k m = value_at (near_at at waits near latest) most_pins k 0 (h.short k m) ∙ choose_yes _ (get_or near k 0) (h.awaited k m)
 
       stands : (a : ℕ) → Among a (t ∷ reached) → at a ≡ place_at feed a

@@ -2,7 +2,7 @@
 use Rattle.std.specs.Prelude.{Bool, not, List, ℕ, eqb}
 use Rattle.basics.specs.Tests.{both}
 use Rattle.basics.specs.Sums.{how_many}
-use Rattle.board.specs.declared.Spot.{Spot}
+use Rattle.board.specs.Spots.{Spot}
 use Rattle.board.specs.Place.{is_straight}
 use Rattle.tree.specs.declared.Run.{Run}
 use Rattle.board.specs.Spots.{place_at}

@@ -3,7 +3,7 @@ use Rattle.std.specs.Prelude.{Bool, not, List, ℕ, ℤ, eqb}
 use Rattle.std.specs.Int.Signed.{lt_z}
 use Rattle.basics.specs.Tests.{both, either, no_two}
 use Rattle.board.specs.declared.Place.{Place}
-use Rattle.board.specs.declared.Spot.{Spot}
+use Rattle.board.specs.Spots.{Spot}
 use Rattle.tree.specs.declared.Run.{Run}
 use Rattle.board.specs.Spots.{place_at}
 

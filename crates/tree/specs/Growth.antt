@@ -2,7 +2,7 @@
 use Rattle.std.specs.Prelude.{Bool, true, false, not, List, [], ◌∷◌, ◌++◌, ℕ, zero, suc, eqb, length}
 use Rattle.basics.specs.Tests.{choose}
 use Rattle.board.specs.Spots.{present, place_at}
-use Rattle.board.specs.declared.Spot.{Spot}
+use Rattle.board.specs.Spots.{Spot}
 use Rattle.tree.specs.declared.Pair.{Pair}
 use Rattle.tree.specs.Weight.{pair_of, comes_before}
 use Rattle.tree.specs.declared.Run.{Run}

@@ -2,7 +2,7 @@
 -- comes before every other pair joining them; and such a tree is unique.
 use Rattle.std.specs.Prelude.{◌≡◌, true, List, ◌∷◌, ◌⊎◌, ℕ, suc, length}
 use Rattle.basics.specs.Lists.{Among}
-use Rattle.board.specs.declared.Spot.{Spot}
+use Rattle.board.specs.Spots.{Spot}
 use Rattle.tree.specs.declared.Run.{Run}
 use Rattle.tree.specs.Weight.{comes_before}
 use Rattle.tree.specs.Growth.{pair_at, pins_of}

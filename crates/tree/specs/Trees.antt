@@ -1,12 +1,10 @@
 -- The runs of a feed, or 17.
-use Rattle.std.specs.Prelude.{Bool, true, false, List, [], ◌∷◌, ℕ, ◌-◌, length}
-use Rattle.basics.specs.Tests.{choose}
+use Rattle.std.specs.Prelude.{Bool, true, false, List, [], ◌∷◌, ℕ, ◌-◌, length, Result}
 use Rattle.basics.specs.Lists.{padded}
-use Rattle.refusal.specs.Refusals.{accepted}
-use Rattle.refusal.specs.Rows.{Row, given, first_of}
-use Rattle.refusal.specs.declared.Verdict.{Verdict}
-use Rattle.refusal.specs.declared.Verdict.TheVariants.{Accepted, NoPins}
-use Rattle.board.specs.declared.Spot.{Spot}
+use Rattle.refusal.specs.Rows.{Row, given, first_of, granted}
+use Rattle.refusal.specs.declared.Refusal.{Refusal}
+use Rattle.refusal.specs.declared.Refusal.TheVariants.{NoPins}
+use Rattle.board.specs.Spots.{Spot}
 use Rattle.board.specs.Spots.{most_pins}
 use Rattle.tree.specs.declared.Run.{Run}
 use Rattle.tree.specs.declared.Tree.{Tree}
@@ -20,9 +18,9 @@ most_runs = most_pins - 1
 unfoldable pub entries : List Run → List Run
 entries runs = padded most_runs (run 0 0) runs
 
--- A verdict with some runs.
-unfoldable pub tree_with : Verdict → List Run → Tree
-tree_with v runs = record { verdict = v; count = length runs; runs = entries runs }
+-- Some runs, with their number.
+unfoldable pub tree_with : List Run → Tree
+tree_with runs = record { count = length runs; runs = entries runs }
 
 -- There are no pins.
 abbrev pub none : List ℕ → Bool
@@ -34,6 +32,5 @@ abbrev pub tree_rows : List Spot → List Row
 tree_rows feed = given (none (pins_of feed)) NoPins ∷ []
 
 -- The runs of a feed, where it is not turned away.
-unfoldable pub tree_of : List Spot → Tree
-tree_of feed =
-    choose (accepted (first_of (tree_rows feed))) (tree_with Accepted (runs_of feed)) (tree_with (first_of (tree_rows feed)) [])
+unfoldable pub tree_of : List Spot → Result Tree Refusal
+tree_of feed = granted (first_of (tree_rows feed)) (tree_with (runs_of feed))

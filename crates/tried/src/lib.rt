@@ -1,107 +1,72 @@
 // A seat's edits tried on its pins: whether those taken back can be redone, and those that stand taken back.
 #![tactic(auto)]
 
-ghost use Rattle.std.specs.Prelude.{◌≡◌, true, reverse, ◌≤◌, drop, length, take};
+ghost use Rattle.std.specs.Prelude.{◌≡◌, true, reverse, ◌≤◌, drop, length, take, List};
+ghost use Rattle.std.specs.Iterator.{AlwaysYields, IsFinite};
 ghost use Rattle.drawing.specs.Pins.{lawful};
-ghost use Rattle.journal.specs.Journal.{most_records, own, makeable_all, takeable_all};
+ghost use Rattle.edits.specs.declared.Edit.{Edit};
+ghost use Rattle.journal.specs.Journal.{most_records, in_use, own, makeable_all, takeable_all};
 
 use board::PINS;
 use drawing::Pin;
-use journal::{RECORDS, Record};
+use edits::Edit;
+use journal::Journal;
 
-// Whether the seat's taken-back edits, those after the first `standing`, can be made on these pins, which keep the rules, one after the other.
-pub fn can_redo_all(
-    pins: [Pin; PINS],
-    journal: [Record; RECORDS],
-    used: usize,
-    seat: usize,
-    standing: usize,
-) -> bool
-    requires { (used ≤ most_records) × (lawful pins ≡ true) }
-    ensures { result ≡ makeable_all pins (drop standing (own seat (take used journal))) }
+// Whether edits can be made on these pins, which keep the rules, one after the other.
+fn can_make_all<I: Iterator<Item = Edit> + Drop>(pins: &[Pin; PINS], edits: I) -> bool
+    requires rules { lawful pins.now ≡ true }
+    requires can { I.can_next edits }
+    requires ends { IsFinite (I.remaining edits) }
+    ensures { (l : List Edit) → AlwaysYields I.next_gives (λ e. e) edits l → result ≡ makeable_all pins.now l }
 {
-    let lists = drawing::lists_of(pins);
-    let mut xs = lists.xs;
-    let mut ys = lists.ys;
-    let mut there = lists.there;
-    let mut q = pins;
-    let mut skip = standing;
-    let mut i = 0;
-    while i < used {
-        let redone = journal[i];
-        i += 1;
-        if redone.seat == seat {
-            if 0 < skip {
-                skip -= 1;
-            } else {
-                let e = redone.edit;
-                let number = edits::pin_of(e);
-                if PINS <= number {
-                    return false;
-                }
-                let pin = q[number];
-                if !edits::can_make(&xs, &ys, &there, e, pin) {
-                    return false;
-                }
-                let next = edits::pin_made(e, pin);
-                let place = drawing::place_of(next);
-                let x = place.x;
-                let y = place.y;
-                q[number] = next;
-                xs[number] = x;
-                ys[number] = y;
-                there[number] = drawing::is_there(next);
-            }
+    let mut after = *pins;
+    let mut spots = drawing::spots_of(pins);
+    for edit in edits {
+        let number = edits::pin_of(edit);
+        let pin = drawing::pin_at(&after, number);
+        if !edits::can_make(&spots, edit, pin) {
+            return false;
         }
+        let next = edits::pin_made(edit, pin);
+        after[number] = next;
+        spots[number] = drawing::spot_of(next);
     }
     true
 }
 
-// Whether the seat's first `standing` edits of the `owned` that it has can be taken back from these pins, which keep the rules, the latest first.
+// Whether the seat's taken-back edits, those after the first `standing`, can be made on these pins, which keep the rules, one after the other.
+pub fn can_redo_all(pins: &[Pin; PINS], journal: &Journal, seat: usize, standing: usize) -> bool
+    requires { (journal.now.used ≤ most_records) × (lawful pins.now ≡ true) }
+    ensures { result ≡ makeable_all pins.now (drop standing (own seat (in_use journal.now))) }
+{
+    let taken_back = journal
+        .in_use()
+        .iter()
+        .filter(|record| record.seat == seat)
+        .map(|record| record.edit)
+        .skip(standing);
+    can_make_all(pins, taken_back)
+}
+
+// Whether the seat's first `standing` edits of the `owned` that it has can be taken back from these pins, which keep the rules, the latest first:
+// whether the edits that take them back can be made.
 pub fn can_take_back_all(
-    pins: [Pin; PINS],
-    journal: [Record; RECORDS],
-    used: usize,
+    pins: &[Pin; PINS],
+    journal: &Journal,
     seat: usize,
     owned: usize,
     standing: usize,
 ) -> bool
-    requires { (used ≤ most_records) × (owned ≡ length (own seat (take used journal))) × (standing ≤ owned) × (lawful pins ≡ true) }
-    ensures { result ≡ takeable_all pins (reverse (take standing (own seat (take used journal)))) }
+    requires { (journal.now.used ≤ most_records) × (owned ≡ length (own seat (in_use journal.now))) × (standing ≤ owned) × (lawful pins.now ≡ true) }
+    ensures { result ≡ takeable_all pins.now (reverse (take standing (own seat (in_use journal.now)))) }
 {
-    let lists = drawing::lists_of(pins);
-    let mut xs = lists.xs;
-    let mut ys = lists.ys;
-    let mut there = lists.there;
-    let mut q = pins;
-    let mut later = owned - standing;
-    let mut i = used;
-    while 0 < i {
-        i -= 1;
-        let undone = journal[i];
-        if undone.seat == seat {
-            if 0 < later {
-                later -= 1;
-            } else {
-                let e = undone.edit;
-                let number = edits::pin_of(e);
-                if PINS <= number {
-                    return false;
-                }
-                let pin = q[number];
-                if !edits::can_take_back(&xs, &ys, &there, e, pin) {
-                    return false;
-                }
-                let former = edits::pin_unmade(e, pin);
-                let place = drawing::place_of(former);
-                let x = place.x;
-                let y = place.y;
-                q[number] = former;
-                xs[number] = x;
-                ys[number] = y;
-                there[number] = drawing::is_there(former);
-            }
-        }
-    }
-    true
+    let taking_back = journal
+        .in_use()
+        .iter()
+        .rev()
+        .filter(|record| record.seat == seat)
+        .map(|record| record.edit)
+        .skip(owned - standing)
+        .map(edits::reversed);
+    can_make_all(pins, taking_back)
 }

@@ -1,27 +1,29 @@
 -- What the parts of `wire_favouring` come to: a refusal of the tree, too little room, or the answer. From pins that stand on the board, no two
 -- of them too near.
-use mathlib.Core.Path.{◌≡◌, refl, sym, ap, ap₂, ◌∙◌}
-use mathlib.Core.Bool.{Bool, true, false, not}
+use mathlib.Core.Path.{◌≡◌, refl, sym, ap, ◌∙◌, subst}
+use mathlib.Core.Bool.{Bool, true, false}
 use mathlib.Core.List.{List, [], ◌∷◌, ◌++◌}
-use Prim.Native.Nat.{ℕ, zero, suc, ◌/◌, ◌%◌, ◌≤◌, ◌<◌}
+use Prim.Native.Nat.{ℕ, suc, ◌/◌, ◌%◌, ◌≤◌, ◌<◌}
 use native.Mathlib.Omega.{arith}
-use lib.IntN.{ℤ, pos}
+use lib.IntN.{pos}
 use lib.Dec.{ltb}
-use lib.ListN.{length, get_or, take, get_or-eq_default}
-use borrow.Author.Tests.{ltb-true, ltb-false, lt-ltb, le-ltb, not-true, not-false}
+use lib.ListN.{length, take, get_or-eq_default}
+use borrow.Author.Tests.{ltb-true, ltb-false, lt-ltb, le-ltb}
 use Rattle.basics.specs.Tests.{both, choose}
 use Rattle.basics.specs.Lists.{values_from}
 use Rattle.refusal.specs.Refusals.{accepted}
 use Rattle.refusal.specs.Rows.{first_of}
-use Rattle.refusal.specs.declared.Verdict.TheVariants.{Accepted, RoomTooSmall}
-use Rattle.basics.proofs.Tests.{opposite, choose_yes, choose_no}
+use Rattle.refusal.specs.declared.Refusal.{Refusal}
+use Rattle.refusal.specs.declared.Refusal.TheVariants.{NoPins, RoomTooSmall}
+use Rattle.std.specs.Prelude.{Result, Ok, Err}
+use Rattle.basics.proofs.Tests.{choose_yes, choose_no}
 use Rattle.basics.proofs.Lists.{padded_at, padded_first, values_long, value_at, values_shift, values_same}
 use Rattle.board.specs.declared.Place.{Place}
-use Rattle.board.specs.declared.Spot.{Spot}
-use Rattle.board.specs.Place.{on_board, inside}
+use Rattle.board.specs.Spots.{Spot}
+use Rattle.board.specs.Place.{on_board, inside, middle}
 use Rattle.tree.specs.declared.Run.{Run}
 use Rattle.tree.specs.declared.Tree.{Tree}
-use Rattle.board.specs.Spots.{most_pins, place_at, place_in, all_within, all_apart}
+use Rattle.board.specs.Spots.{most_pins, place_in, all_within, all_apart}
 use Rattle.tree.specs.Growth.{run, pins_of, runs_of}
 use Rattle.tree.specs.Trees.{most_runs, entries, tree_with, none, tree_of}
 use Rattle.tree.specs.Reached.{run_at, reached_pin, reached_near, reached_place}
@@ -40,56 +42,52 @@ use Rattle.laying.specs.declared.Strip.{Strip}
 use Rattle.laying.specs.Entries.{near_end, far_end, run_entry, no_run, run_entries, leg_entries}
 use Rattle.wiring.specs.Choices.{best_choice, legs_of_choice, length_of_choice, weighed_of}
 use Rattle.wiring.specs.Answer.{shaped_runs, turned_away, answer_with, wiring_rows, wiring_with, wiring_favouring}
-use Rattle.laying.specs.Reaching.{xs_of, ys_of, reached_as, nears_of, Numbered, upper_in, shaped_run, shaped_in, entries_in, legs_of_entry, legs_of_entries, strip, shapes_by}
+use Rattle.laying.specs.Reaching.{places_of, reached_as, nears_of, Numbered, upper_in, shaped_run, shaped_in, entries_in, legs_of_entry, legs_of_entries, strip, shapes_by}
 use Rattle.wiring.proofs.Laying.{grown, near_low, far_low, near_told}
 use Rattle.wiring.proofs.Best.{length_found, shapes_found}
 use Rattle.wiring.proofs.Weighed.{weighed_told}
 
--- ---- how a feed is refused
--- The tree refuses: so does the wiring.
-pub tree_refuses : (favoured : Bool) (feed : List Spot) (room : ℕ) (t : Tree) → t ≡ tree_of feed → accepted t.verdict ≡ false
-    → turned_away t.verdict ≡ wiring_favouring favoured feed room
-tree_refuses favoured feed room t e n = go (answer feed)
-  where
-    go : Answer feed → turned_away t.verdict ≡ wiring_favouring favoured feed room
-    go (no_pins p q) = unfold wiring_favouring wiring_with tree_with first_of accepted choose in rw (e, q, p)
-    go (the_runs f left p q) = absurd (opposite {t = accepted t.verdict} (unfold tree_with accepted in rw (e, q)) n)
-
--- ---- how it is accepted
--- A feed whose tree is accepted: its first pin and the others, and what the tree holds.
+-- ---- how a feed is refused, and how it has a tree
+-- What a feed that has a tree says: its first pin and the others, and what the tree holds.
 pub record Wired (feed : List Spot) (t : Tree) : Type 0 where
   pub first : ℕ
   pub left : List ℕ
   pub pins : pins_of feed ≡ first ∷ left
   pub count : t.count ≡ length (runs_of feed)
-  pub runs : t.runs ≡ entries (runs_of feed)
+  pub runs : take t.count t.runs ≡ runs_of feed
 
--- The tree accepts: there is a first pin, and its runs are those of the feed.
-pub tree_accepts : (feed : List Spot) (t : Tree) → t ≡ tree_of feed → accepted t.verdict ≡ true → Wired feed t
-tree_accepts feed t e y = go (answer feed)
+-- Its tree is that of its runs.
+wired_by : (feed : List Spot) (f : ℕ) (left : List ℕ) → pins_of feed ≡ f ∷ left → Wired feed (tree_with (runs_of feed))
+unfolding tree_with entries
+wired_by feed f left p = record { first = f; left = left; pins = p; count = refl; runs = padded_first most_runs (run 0 0) (runs_of feed) refl }
+
+-- Without pins the wiring is refused as the tree is.
+pins_refused : (favoured : Bool) (feed : List Spot) (room : ℕ) → pins_of feed ≡ [] → turned_away (Err NoPins) ≡ wiring_favouring favoured feed room
+unfolding wiring_favouring wiring_with first_of accepted choose
+pins_refused favoured feed room p = rw p
+
+-- What a tree comes to: a refusal that the wiring passes on, or a tree that holds the runs.
+unfoldable TreeSays : Bool → List Spot → ℕ → Result Tree Refusal → Type 0
+TreeSays favoured feed room (Ok t) = Wired feed t
+TreeSays favoured feed room (Err r) = turned_away (Err r) ≡ wiring_favouring favoured feed room
+
+tree_says : (favoured : Bool) (feed : List Spot) (room : ℕ) → TreeSays favoured feed room (tree_of feed)
+unfolding TreeSays
+tree_says favoured feed room = go (answer feed)
   where
-    go : Answer feed → Wired feed t
-    go (no_pins p q) = absurd (opposite y (unfold tree_with accepted in rw (e, q)))
-    go (the_runs f left p q) =
-        record { first = f; left = left; pins = p; count = unfold tree_with in rw (e, q); runs = unfold tree_with in rw (e, q) }
+    go : Answer feed → TreeSays favoured feed room (tree_of feed)
+    go (no_pins p q) = rw q (pins_refused favoured feed room p)
+    go (the_runs f left p q) = rw q (wired_by feed f left p)
 
--- ---- entries after the last are blank
--- The runs of the tree by number are those of its entries ..
-entries_at : (runs : List Run) (r : ℕ) → run_at (entries runs) r ≡ run_at runs r
-unfolding entries
-entries_at runs r = padded_at most_runs (run 0 0) runs r
+-- The tree refuses: so does the wiring.
+pub tree_refuses : (favoured : Bool) (feed : List Spot) (room : ℕ) (r : Refusal) → Err r ≡ tree_of feed → turned_away (Err r) ≡ wiring_favouring favoured feed room
+unfolding TreeSays
+tree_refuses favoured feed room r e = subst (TreeSays favoured feed room) (sym e) (tree_says favoured feed room)
 
--- .. and so are the pins that they reach.
-pin_entries : (runs : List Run) (i : ℕ) → reached_pin (entries runs) i ≡ reached_pin runs i
-unfolding reached_pin
-pin_entries runs zero = ap (λ (r : Run). r.near) (entries_at runs 0)
-pin_entries runs (suc r) = ap (λ (q : Run). q.far) (entries_at runs r)
-
--- So they tell the same numbers of pins.
-as_entries : (runs : List Run) (k pin : ℕ) → reached_as (entries runs) k pin ≡ reached_as runs k pin
-unfolding reached_as
-as_entries runs zero pin = refl
-as_entries runs (suc k) pin = rw (entries_at runs k, as_entries runs k pin)
+-- The tree is there: there is a first pin, and its runs are those of the feed.
+pub tree_accepts : (feed : List Spot) (t : Tree) → Ok t ≡ tree_of feed → Wired feed t
+unfolding TreeSays
+tree_accepts feed t e = subst (TreeSays true feed 0) (sym e) (tree_says true feed 0)
 
 -- The middle of the board is on it.
 middle-inside : inside (record { x = pos 0; y = pos 0 }) ≡ true
@@ -115,15 +113,15 @@ shaped_values feed upper (r ∷ runs) =
 
 -- So the run entries that a mask gives are those of the shapes that it tells.
 entries_shaped : (feed : List Spot) (favoured : Bool) (mask : ℕ) (runs : List Run)
-    → entries_in feed favoured mask (entries runs) (length runs) ≡ run_entries (shaped_runs runs (shapes_by feed (upper_in favoured mask) runs))
+    → entries_in feed favoured mask runs ≡ run_entries (shaped_runs runs (shapes_by feed (upper_in favoured mask) runs))
 unfolding entries_in
 entries_shaped feed favoured mask runs =
     ap run_entries
-    (values_same (shaped_in feed favoured mask (entries runs)) (bent_as feed (upper_in favoured mask) runs) 0 (length runs) (λ j. same j)
+    (values_same (shaped_in feed favoured mask runs) (bent_as feed (upper_in favoured mask) runs) 0 (length runs) (λ j. same j)
     ∙ shaped_values feed (upper_in favoured mask) runs)
   where
-    same : (j : ℕ) → shaped_in feed favoured mask (entries runs) j ≡ bent_as feed (upper_in favoured mask) runs j
-    same j = unfold shaped_in shaped_run in rw (entries_at runs j)
+    same : (j : ℕ) → shaped_in feed favoured mask runs j ≡ bent_as feed (upper_in favoured mask) runs j
+    same j = unfold shaped_in shaped_run in refl
 
 -- There are as many as runs.
 shaped_long : (feed : List Spot) (upper : ℕ → Bool) (runs : List Run) → length (shaped_runs runs (shapes_by feed upper runs)) ≡ length runs
@@ -155,49 +153,36 @@ module _ (feed : List Spot) (full : length feed ≡ most_pins) (ok : all_within 
   pub few : n ≤ most_runs
   few = runs_few feed full
 
-  abbrev xs : List ℤ
-  xs = xs_of feed (entries runs)
+  -- Where its pins stand, as they are reached,
+  abbrev places : List Place
+  places = places_of feed runs
 
-  abbrev ys : List ℤ
-  ys = ys_of feed (entries runs)
-
+  -- and the near pins of its runs.
   abbrev nears : List ℕ
-  nears = nears_of (entries runs) n
+  nears = nears_of runs
 
-  -- Pins that are reached stand at the same places by the entries ..
-  place_same : (i : ℕ) → reached_place feed (entries runs) i ≡ reached_place feed runs i
-  place_same i = ap (place_at feed) (pin_entries runs i)
-
-  -- .. and by the lists of x and y ..
-  place_is : (i : ℕ) → i < most_pins → place_in xs ys i ≡ reached_place feed runs i
-  unfolding xs_of ys_of
-  place_is i l =
-      ap₂ (λ (a b : ℤ). record { x = a; y = b }) (value_at (λ j. (reached_place feed (entries runs) j).x) most_pins i (pos 0) l ∙ ap (λ (p : Place). p.x) (place_same i))
-      (value_at (λ j. (reached_place feed (entries runs) j).y) most_pins i (pos 0) l ∙ ap (λ (p : Place). p.y) (place_same i))
+  -- Pins that are reached stand where the list of places says ..
+  place_is : (i : ℕ) → i < most_pins → place_in places i ≡ reached_place feed runs i
+  unfolding places_of
+  place_is i l = value_at (reached_place feed runs) most_pins i middle l
 
   -- .. and near pins are reached as the same numbers.
   near_is : (r : ℕ) → r < n → near_pin nears r ≡ reached_near runs r
   unfolding nears_of
   near_is r l =
-      let number : ℕ → ℕ = λ q. reached_as (entries runs) q (run_at (entries runs) q).near in
-      padded_at most_runs 0 (values_from number 0 n) r ∙ value_at number n r 0 l
-      ∙ as_entries runs r (run_at (entries runs) r).near ∙ ap (λ (q : Run). reached_as runs r q.near) (entries_at runs r)
-      ∙ near_told feed full ok w.first w.left w.pins r l
+      let number : ℕ → ℕ = λ q. reached_as runs q (run_at runs q).near in
+      padded_at most_runs 0 (values_from number 0 n) r ∙ value_at number n r 0 l ∙ near_told feed full ok w.first w.left w.pins r l
 
   -- The ends of its runs are pins from 0 to 31.
-  pub runs_numbered : Numbered (entries runs) n
+  pub runs_numbered : Numbered runs
   runs_numbered =
-      record {
-        few = few;
-        near = λ r l. rw (entries_at runs r) (near_low feed full ok w.first w.left w.pins r l);
-        far = λ r l. rw (entries_at runs r) (far_low feed full ok w.first w.left w.pins r l);
-      }
+      record { few = few; near = λ r l. near_low feed full ok w.first w.left w.pins r l; far = λ r l. far_low feed full ok w.first w.left w.pins r l }
 
   abbrev before : (r : ℕ) → r < n → reached_near runs r ≤ r
   before = grown feed full ok w.first w.left w.pins
 
   -- The tree can be asked.
-  pub tree_grown : Grown xs ys nears n
+  pub tree_grown : Grown places nears n
   tree_grown =
       record {
         few = few;
@@ -205,36 +190,29 @@ module _ (feed : List Spot) (full : length feed ≡ most_pins) (ok : all_within 
         on_board = λ i. go i (ltb i most_pins) refl;
       }
     where
-      go : (i : ℕ) (b : Bool) → ltb i most_pins ≡ b → inside (place_in xs ys i) ≡ true
-      go i true e = rw (place_is i (ltb-true i most_pins e)) (inside_at feed ok (reached_pin runs i))
-      go i false e =
-          let l : most_pins ≤ i = ltb-false i most_pins e in
-          let p : get_or xs i (pos 0) ≡ pos 0 = get_or-eq_default xs (pos 0) (long_x i l) in
-          let q : get_or ys i (pos 0) ≡ pos 0 = get_or-eq_default ys (pos 0) (long_y i l) in
-          rw (p, q) middle-inside
-        where
-          long_x : (i : ℕ) → most_pins ≤ i → length xs ≤ i
-          long_x i l = unfold xs_of in omega (arith, values_long (λ j. (reached_place feed (entries runs) j).x) 0 most_pins)
+      long : length places ≡ most_pins
+      long = unfold places_of in values_long (reached_place feed runs) 0 most_pins
 
-          long_y : (i : ℕ) → most_pins ≤ i → length ys ≤ i
-          long_y i l = unfold ys_of in omega (arith, values_long (λ j. (reached_place feed (entries runs) j).y) 0 most_pins)
+      go : (i : ℕ) (b : Bool) → ltb i most_pins ≡ b → inside (place_in places i) ≡ true
+      go i true e = rw (place_is i (ltb-true i most_pins e)) (inside_at feed ok (reached_pin runs i))
+      go i false e = rw (get_or-eq_default places middle {n = i} (omega (arith, long, ltb-false i most_pins e))) middle-inside
 
   -- The tree by its lists is told as the tree by its runs.
-  alike : Alike (place_in xs ys) (reached_place feed runs) (near_pin nears) (reached_near runs) n
+  alike : Alike (place_in places) (reached_place feed runs) (near_pin nears) (reached_near runs) n
   alike =
       record {
         nears = near_is;
-        near_ends = λ r l. ap (place_in xs ys) (near_is r l) ∙ place_is (reached_near runs r) (omega (arith, few, before r l));
+        near_ends = λ r l. ap (place_in places) (near_is r l) ∙ place_is (reached_near runs r) (omega (arith, few, before r l));
         far_ends = λ r l. place_is (suc r) (omega (arith, few));
       }
 
-  module _ (f : Least) (ef : f ≡ least_of_tree (place_in xs ys) (near_pin nears) favoured n) where
+  module _ (f : Least) (ef : f ≡ least_of_tree (place_in places) (near_pin nears) favoured n) where
     abbrev choice : List Shape
     choice = best_choice favoured feed runs
 
     -- What is found for the one is found for the other:
     found_is : f ≡ least_of_tree (reached_place feed runs) (reached_near runs) favoured n
-    found_is = ef ∙ found_alike (place_in xs ys) (reached_place feed runs) (near_pin nears) (reached_near runs) n alike favoured
+    found_is = ef ∙ found_alike (place_in places) (reached_place feed runs) (near_pin nears) (reached_near runs) n alike favoured
 
     -- the cost is the least of all choices of shapes,
     cost_is : f.cost ≡ least_of (reached_place feed runs) (reached_near runs) base (mark_of favoured) n
@@ -256,7 +234,7 @@ module _ (feed : List Spot) (full : length feed ≡ most_pins) (ok : all_within 
     unfolding least_of_tree
     weighed_is = ap (λ (z : Least). z.weighed) found_is ∙ weighed_told feed full ok w.first w.left w.pins
 
-    module _ (E : List RunEntry) (e_e : E ≡ entries_in feed favoured (f.cost % base) (entries runs) n) (S : Strip) (e_s : S ≡ strip (legs_of_entries feed (take n E))) where
+    module _ (E : List RunEntry) (e_e : E ≡ entries_in feed favoured (f.cost % base) runs) (S : Strip) (e_s : S ≡ strip (legs_of_entries feed (take n E))) where
       -- The run entries are those of the best choice ..
       entries_is : E ≡ run_entries (shaped_runs runs choice)
       entries_is = e_e ∙ entries_shaped feed favoured (f.cost % base) runs ∙ ap (λ (c : List Shape). run_entries (shaped_runs runs c)) shapes_is
@@ -286,78 +264,73 @@ module _ (feed : List Spot) (full : length feed ≡ most_pins) (ok : all_within 
       some = rw w.pins
 
       -- so that the room alone decides.
-      verdict_is : (room : ℕ) → first_of (wiring_rows feed choice room) ≡ choose (ltb room S.count) RoomTooSmall Accepted
+      verdict_is : (room : ℕ) → first_of (wiring_rows feed choice room) ≡ choose (ltb room S.count) (Err RoomTooSmall) (Ok tt)
       unfolding first_of choose
       verdict_is room = rw (some, many_is)
 
       -- Too little room.
-      pub room_refused : (room : ℕ) → room < S.count → turned_away RoomTooSmall ≡ wiring_favouring favoured feed room
+      pub room_refused : (room : ℕ) → room < S.count → turned_away (Err RoomTooSmall) ≡ wiring_favouring favoured feed room
       unfolding wiring_favouring wiring_with
       room_refused room l =
-          let v : first_of (wiring_rows feed choice room) ≡ RoomTooSmall = verdict_is room ∙ choose_yes RoomTooSmall Accepted (lt-ltb room S.count l) in
-          rw v (sym (choose_no (answer_with feed choice) (turned_away RoomTooSmall) (unfold accepted in refl)))
+          let v : first_of (wiring_rows feed choice room) ≡ Err RoomTooSmall = verdict_is room ∙ choose_yes (Err RoomTooSmall) (Ok tt) (lt-ltb room S.count l) in
+          rw v (sym (choose_no (answer_with feed choice) (turned_away (Err RoomTooSmall)) (unfold accepted in refl)))
 
       -- The answer.
       pub answer_is : (room : ℕ) → S.count ≤ room
           → record {
-            wiring = record { verdict = Accepted; length = f.cost / base; runs = n; entries = E; legs = S.count; weighed = f.weighed };
+            wiring = record { verdict = Ok tt; length = f.cost / base; runs = n; entries = E; legs = S.count; weighed = f.weighed };
             list = S.list;
           } ≡ wiring_favouring favoured feed room
       unfolding wiring_favouring wiring_with
       answer_is room l =
-          let v : first_of (wiring_rows feed choice room) ≡ Accepted = verdict_is room ∙ choose_no RoomTooSmall Accepted (le-ltb room S.count l) in
+          let v : first_of (wiring_rows feed choice room) ≡ Ok tt = verdict_is room ∙ choose_no (Err RoomTooSmall) (Ok tt) (le-ltb room S.count l) in
           rw v (unfold accepted choose answer_with in rw (length_is, weighed_is, entries_is, many_is, legs_is, count_is))
 
--- ---- the same of the tree as the code has it
+-- ---- the same of the tree as the code has it: its first runs, as many as it says
 module _ (feed : List Spot) (full : length feed ≡ most_pins) (ok : all_within feed ≡ true) (free : all_apart feed ≡ true) (favoured : Bool) (room : ℕ)
-    (t : Tree) (et : t ≡ tree_of feed) (b : Bool) (eb : b ≡ accepted t.verdict) where
-  -- The tree refuses.
-  pub wire_refused : not b ≡ true → turned_away t.verdict ≡ wiring_favouring favoured feed room
-  wire_refused y = tree_refuses favoured feed room t et (sym eb ∙ not-true b y)
+    (t : Tree) (et : Ok t ≡ tree_of feed) (R : List Run) (er : R ≡ take t.count t.runs) where
+  -- What the tree says.
+  w : Wired feed t
+  w = tree_accepts feed t et
 
-  module _ (y : not b ≡ false) where
-    -- What an accepted tree says.
-    w : Wired feed t
-    w = tree_accepts feed t et (sym eb ∙ not-false b y)
+  -- These are the runs of the feed:
+  runs_are : R ≡ runs_of feed
+  runs_are = er ∙ w.runs
 
-    -- It accepts: there are at most 31 runs,
-    pub count_few : t.count ≤ most_runs
-    count_few = omega (arith, few feed full ok free favoured t w, w.count)
+  -- at most 31,
+  pub count_few : t.count ≤ most_runs
+  count_few = omega (arith, few feed full ok free favoured t w, w.count)
 
-    -- between pins from 0 to 31,
-    pub wire_numbered : Numbered t.runs t.count
-    wire_numbered = rw (w.count, w.runs) (runs_numbered feed full ok free favoured t w)
+  pub runs_few_lem : length R ≤ most_runs
+  runs_few_lem = rw runs_are (few feed full ok free favoured t w)
 
-    -- and the tree can be asked.
-    pub wire_grown : Grown (xs_of feed t.runs) (ys_of feed t.runs) (nears_of t.runs t.count) t.count
-    wire_grown = rw (w.count, w.runs) (tree_grown feed full ok free favoured t w)
+  -- between pins from 0 to 31, and the tree can be asked.
+  pub wire_asked : Numbered R × Grown (places_of feed R) (nears_of R) (length R)
+  wire_asked = rw runs_are (runs_numbered feed full ok free favoured t w, tree_grown feed full ok free favoured t w)
 
-    module _ (f : Least) (ef : f ≡ least_of_tree (place_in (xs_of feed t.runs) (ys_of feed t.runs)) (near_pin (nears_of t.runs t.count)) favoured t.count)
-        (E : List RunEntry) (e_e : E ≡ entries_in feed favoured (f.cost % base) t.runs t.count)
-        (S : Strip) (e_s : S ≡ strip (legs_of_entries feed (take t.count E))) where
-      abbrev told_runs : List Run
-      told_runs = entries (runs_of feed)
+  module _ (f : Least) (ef : f ≡ least_of_tree (place_in (places_of feed R)) (near_pin (nears_of R)) favoured (length R))
+      (E : List RunEntry) (e_e : E ≡ entries_in feed favoured (f.cost % base) R)
+      (L : List RunEntry) (el : L ≡ take t.count E) (S : Strip) (e_s : S ≡ strip (legs_of_entries feed L)) where
+    -- What is found, by the tree of the definition.
+    found_as : f ≡ least_of_tree (place_in (places_of feed (runs_of feed))) (near_pin (nears_of (runs_of feed))) favoured (length (runs_of feed))
+    found_as = rw runs_are at ef
 
-      -- What is found, by the tree of the definition.
-      found_as : f ≡ least_of_tree (place_in (xs_of feed told_runs) (ys_of feed told_runs)) (near_pin (nears_of told_runs (length (runs_of feed)))) favoured (length (runs_of feed))
-      found_as = rw (w.count, w.runs) at ef
+    -- The run entries, by the tree of the definition,
+    entries_as : E ≡ entries_in feed favoured (f.cost % base) (runs_of feed)
+    entries_as = rw runs_are at e_e
 
-      -- The run entries, by the tree of the definition,
-      entries_as : E ≡ entries_in feed favoured (f.cost % base) told_runs (length (runs_of feed))
-      entries_as = rw (w.count, w.runs) at e_e
+    -- and the legs.
+    strip_as : S ≡ strip (legs_of_entries feed (take (length (runs_of feed)) E))
+    strip_as = e_s ∙ ap (λ (l : List RunEntry). strip (legs_of_entries feed l)) (el ∙ ap (λ (k : ℕ). take k E) w.count)
 
-      -- and the legs.
-      strip_as : S ≡ strip (legs_of_entries feed (take (length (runs_of feed)) E))
-      strip_as = rw w.count at e_s
+    -- Too little room is refused ..
+    pub wire_room : room < S.count → turned_away (Err RoomTooSmall) ≡ wiring_favouring favoured feed room
+    wire_room l = room_refused feed full ok free favoured t w f found_as E entries_as S strip_as room l
 
-      -- Too little room is refused ..
-      pub wire_room : room < S.count → turned_away RoomTooSmall ≡ wiring_favouring favoured feed room
-      wire_room l = room_refused feed full ok free favoured t w f found_as E entries_as S strip_as room l
-
-      -- .. and otherwise this is the answer.
-      pub wire_answer : S.count ≤ room
-          → record {
-            wiring = record { verdict = Accepted; length = f.cost / base; runs = t.count; entries = E; legs = S.count; weighed = f.weighed };
-            list = S.list;
-          } ≡ wiring_favouring favoured feed room
-      wire_answer l = rw w.count (answer_is feed full ok free favoured t w f found_as E entries_as S strip_as room l)
+    -- .. and otherwise this is the answer.
+    pub wire_answer : S.count ≤ room
+        → record {
+          wiring = record { verdict = Ok tt; length = f.cost / base; runs = t.count; entries = E; legs = S.count; weighed = f.weighed };
+          list = S.list;
+        } ≡ wiring_favouring favoured feed room
+    wire_answer l = rw w.count (answer_is feed full ok free favoured t w f found_as E entries_as S strip_as room l)

@@ -10,8 +10,8 @@ use Rattle.basics.proofs.Tests.{opposite}
 use Rattle.basics.proofs.Lists.{padded_first}
 use Rattle.refusal.specs.Refusals.{accepted}
 use Rattle.refusal.specs.Rows.{first_of}
-use Rattle.refusal.specs.declared.Verdict.{Verdict}
-use Rattle.board.specs.declared.Spot.{Spot}
+use Rattle.refusal.specs.Refusals.{Verdict}
+use Rattle.board.specs.Spots.{Spot}
 use Rattle.board.specs.Place.{distance_of}
 use Rattle.board.specs.Spots.{most_pins, place_at, all_within}
 use Rattle.tree.specs.declared.Run.{Run}

@@ -9,7 +9,7 @@ use lib.ListN.{length, length-append}
 use borrow.Author.Tests.{le-ltb}
 use Rattle.basics.specs.Tests.{choose}
 use Rattle.refusal.specs.Rows.{first_of}
-use Rattle.board.specs.declared.Spot.{Spot}
+use Rattle.board.specs.Spots.{Spot}
 use Rattle.board.specs.Spots.{most_pins}
 use Rattle.tree.specs.declared.Run.{Run}
 use Rattle.tree.specs.Growth.{runs_of}

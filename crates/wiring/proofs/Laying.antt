@@ -12,8 +12,8 @@ use borrow.Author.Tests.{eq-eqb, eqb-true, eqb-false, lt-ltb}
 use Rattle.basics.specs.Tests.{choose}
 use Rattle.basics.proofs.Tests.{opposite, both_of, both_left, both_right, choose_yes, choose_no}
 use Rattle.board.specs.declared.Place.{Place}
-use Rattle.board.specs.declared.Spot.{Spot}
-use Rattle.board.specs.declared.Spot.TheVariants.{Absent, At}
+use Rattle.board.specs.Spots.{Spot}
+use Rattle.std.specs.Prelude.{None, Some}
 use Rattle.board.specs.Place.{least_gap, difference, same_number, closer, too_near, same_place}
 use Rattle.board.proofs.Signed.{I32, difference_off}
 use Rattle.board.proofs.Flat.{Site, site, PlaceI32, order}
@@ -43,9 +43,9 @@ same_near p q e = both_of (same-closer p.x q.x (both_left _ _ e)) (same-closer p
 -- Two pins that are there at one place are too near.
 same_spots : (s t : Spot) → present s ≡ true → present t ≡ true → same_place (place_of s) (place_of t) ≡ true → spots_too_near s t ≡ true
 unfolding spots_too_near
-same_spots Absent t a b e = absurd (opposite a refl)
-same_spots (At p) Absent a b e = absurd (opposite b refl)
-same_spots (At p) (At q) a b e = same_near p q e
+same_spots None t a b e = absurd (opposite a refl)
+same_spots (Some p) None a b e = absurd (opposite b refl)
+same_spots (Some p) (Some q) a b e = same_near p q e
 
 -- Numbers that are the same are so in either order ..
 turned : (a b : ℤ) → I32 a → I32 b → same_number a b ≡ true → same_number b a ≡ true
@@ -143,7 +143,7 @@ module _ (feed : List Spot) (full : length feed ≡ most_pins) (ok : all_within 
     there a m =
         let z = pins_there_lem 0 feed (rw (sym e) at m) in
         let q : 0 + z.0 ≡ z.0 = omega arith in
-        ap (λ (p : ℕ). present (get_or feed p Absent)) (z.1 ∙ q) ∙ z.3
+        ap (λ (p : ℕ). present (get_or feed p None)) (z.1 ∙ q) ∙ z.3
 
     -- No two pins stand at one place.
     apart : (a b : ℕ) → a < b → b < most_pins → Among a (f ∷ left) → Among b (f ∷ left) → same_place (place_at feed a) (place_at feed b) ≡ true → ⊥

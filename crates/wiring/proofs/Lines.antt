@@ -13,7 +13,7 @@ use borrow.Author.Tests.{eqb-true}
 use Rattle.basics.specs.Tests.{choose}
 use Rattle.basics.proofs.Tests.{either_which, opposite}
 use Rattle.board.specs.declared.Place.{Place}
-use Rattle.board.specs.declared.Spot.{Spot}
+use Rattle.board.specs.Spots.{Spot}
 use Rattle.board.specs.Place.{difference, same_number, is_straight, smaller, distance_of}
 use Rattle.board.proofs.Board.{number_same, number_self}
 use Rattle.tree.specs.declared.Run.{Run}

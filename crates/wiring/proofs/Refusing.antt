@@ -6,7 +6,7 @@ use Rattle.basics.specs.Tests.{both, choose}
 use Rattle.refusal.specs.Refusals.{accepted}
 use Rattle.refusal.specs.Rows.{Row, first_of}
 use Rattle.refusal.proofs.Rows.{distinct, unlike, Apart, apart_by, behind}
-use Rattle.board.specs.declared.Spot.{Spot}
+use Rattle.board.specs.Spots.{Spot}
 use Rattle.tree.specs.Growth.{runs_of}
 use Rattle.copper.specs.declared.Favour.{Favour}
 use Rattle.copper.specs.Shapes.{favours_upper}

@@ -14,8 +14,8 @@ use Rattle.basics.specs.Sums.{different}
 use Rattle.basics.proofs.Lists.{padded_first}
 use Rattle.refusal.specs.Refusals.{accepted}
 use Rattle.refusal.specs.Rows.{first_of}
-use Rattle.refusal.specs.declared.Verdict.{Verdict}
-use Rattle.board.specs.declared.Spot.{Spot}
+use Rattle.refusal.specs.Refusals.{Verdict}
+use Rattle.board.specs.Spots.{Spot}
 use Rattle.tree.specs.declared.Run.{Run}
 use Rattle.board.specs.Spots.{most_pins, all_within}
 use Rattle.tree.specs.Growth.{pins_of, runs_of}

@@ -14,7 +14,7 @@ use Rattle.basics.specs.Tests.{both, choose}
 use Rattle.basics.proofs.Lists.{empty}
 use Rattle.basics.specs.Sums.{sum}
 use Rattle.board.specs.declared.Place.{Place}
-use Rattle.board.specs.declared.Spot.{Spot}
+use Rattle.board.specs.Spots.{Spot}
 use Rattle.board.proofs.Signed.{eqb_same}
 use Rattle.board.specs.Place.{is_straight}
 use Rattle.tree.specs.declared.Run.{Run}

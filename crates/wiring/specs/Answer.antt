@@ -1,11 +1,10 @@
 -- The wiring of a feed: its refusals and its answer, with the legs.
-use Rattle.std.specs.Prelude.{Bool, List, [], ◌∷◌, ◌++◌, ℕ, ltb, length}
+use Rattle.std.specs.Prelude.{Bool, List, [], ◌∷◌, ◌++◌, ℕ, ltb, length, Ok}
 use Rattle.basics.specs.Tests.{choose}
-use Rattle.refusal.specs.Refusals.{accepted}
+use Rattle.refusal.specs.Refusals.{Verdict, accepted}
 use Rattle.refusal.specs.Rows.{Row, given, first_of}
-use Rattle.refusal.specs.declared.Verdict.{Verdict}
-use Rattle.refusal.specs.declared.Verdict.TheVariants.{Accepted, RoomTooSmall}
-use Rattle.board.specs.declared.Spot.{Spot}
+use Rattle.refusal.specs.declared.Refusal.TheVariants.{RoomTooSmall}
+use Rattle.board.specs.Spots.{Spot}
 use Rattle.tree.specs.declared.Run.{Run}
 use Rattle.tree.specs.Growth.{pins_of, runs_of}
 use Rattle.tree.specs.Trees.{tree_rows}
@@ -40,7 +39,7 @@ turned_away v = laid_with v 0 [] 0 []
 unfoldable pub answer_with : List Spot → List Shape → Laid
 answer_with feed shapes =
     let runs : List Run = runs_of feed in
-    laid_with Accepted (length_of_choice feed runs shapes) (shaped_runs runs shapes) (weighed_of feed runs (pins_of feed)) (legs_of_choice feed runs shapes)
+    laid_with (Ok tt) (length_of_choice feed runs shapes) (shaped_runs runs shapes) (weighed_of feed runs (pins_of feed)) (legs_of_choice feed runs shapes)
 
 -- Wiring: 17, which is the tree's, then 19: lent room smaller than needed.
 abbrev pub wiring_rows : List Spot → List Shape → ℕ → List Row

@@ -2,7 +2,7 @@
 use Rattle.std.specs.Prelude.{Bool, List, [], ◌∷◌, ◌++◌, map, ℕ, ◌*◌, ◌^◌, eqb, ltb}
 use Rattle.basics.specs.Tests.{choose}
 use Rattle.basics.specs.Sums.{sum}
-use Rattle.board.specs.declared.Spot.{Spot}
+use Rattle.board.specs.Spots.{Spot}
 use Rattle.tree.specs.declared.Run.{Run}
 use Rattle.tree.specs.Bends.{bent, bent_from, bent_into}
 use Rattle.copper.specs.declared.Shape.{Shape}

@@ -3,7 +3,7 @@
 use Rattle.std.specs.Prelude.{◌≡◌, Bool, true, false, List, ◌∷◌, ◌++◌, map, ◌⊎◌, ℕ, ◌*◌, ◌-◌, ◌≤◌, ◌<◌, length, take, drop, replicate}
 use Rattle.basics.specs.Lists.{Among}
 use Rattle.refusal.specs.Refusals.{accepted}
-use Rattle.board.specs.declared.Spot.{Spot}
+use Rattle.board.specs.Spots.{Spot}
 use Rattle.board.specs.Place.{distance_of}
 use Rattle.board.specs.Spots.{place_at}
 use Rattle.tree.specs.declared.Run.{Run}

@@ -1,17 +1,19 @@
 // Wiring: the best shapes of the runs, the answer with its legs, and the choices weighed.
 #![tactic(auto)]
 
-ghost use Rattle.std.specs.Prelude.{◌≡◌, true};
-ghost use Rattle.board.specs.Spots.{spots_from, all_within, all_apart};
+ghost use Rattle.std.specs.Prelude.{◌≡◌, true, IfOk, IfErr};
+ghost use Rattle.board.specs.Spots.{all_within, all_apart};
 ghost use Rattle.wiring.specs.Answer.{turned_away, wiring_favouring, wiring_of};
 
-use board::PINS;
+use board::{PINS, Spot};
 use copper::{Favour, Leg};
-use laying::{LEGS, RunEntry};
-use refusal::Verdict;
+use laying::{LEGS, NO_LEG, NO_RUN, RunEntry};
+use least::BASE;
+use refusal::{Refusal, Verdict};
 use tree::RUNS;
 
 // The answer of a wiring: its verdict, the length, the number of runs, the run entries, the number of legs, and the choices weighed.
+// The verdict stands beside the rest, and numbers beside entries: a refused answer has zeros and blank entries (wiring/Demand: Empty), and there is no heap.
 #[derive(Clone, Copy)]
 pub struct Wiring {
     pub verdict: Verdict,
@@ -30,73 +32,57 @@ pub struct Laid {
 }
 
 // A refused wiring.
+#[tactic(auto, unfolding(crate::specs::Answer::turned_away, laying::specs::Entries::run_entries, laying::specs::Entries::leg_entries))]
 pub fn refused(verdict: Verdict) -> Laid
     ensures { result ≡ turned_away verdict }
 {
-    let blank = laying::no_run();
-    let none = laying::no_leg();
-    let entries = [blank; RUNS];
-    let list = [none; LEGS];
-    let wiring = Wiring {
-        verdict,
-        length: 0,
-        runs: 0,
-        entries,
-        legs: 0,
-        weighed: 0,
-    };
-    Laid { wiring, list }
+    Laid {
+        wiring: Wiring {
+            verdict,
+            length: 0,
+            runs: 0,
+            entries: [NO_RUN; RUNS],
+            legs: 0,
+            weighed: 0,
+        },
+        list: [NO_LEG; LEGS],
+    }
 }
 
-// The wiring of a feed, where one shape is favoured: false for lower, true for upper.
-#[tactic(auto, using(crate::proofs::Room::room_short))]
-fn wire_favouring(
-    xs: &[i32; PINS],
-    ys: &[i32; PINS],
-    there: &[bool; PINS],
-    room: usize,
-    favoured: bool,
-) -> Laid
-    requires { (all_within (spots_from xs.now ys.now there.now) ≡ true) × (all_apart (spots_from xs.now ys.now there.now) ≡ true) }
-    ensures { result ≡ wiring_favouring favoured (spots_from xs.now ys.now there.now) room }
+// The wiring of a feed, where one shape is favoured: false for lower, true for upper; or why there is none.
+#[tactic(auto, using(crate::proofs::Answering::tree_refuses, crate::proofs::Room::room_short))]
+fn wire_favouring(spots: &[Spot; PINS], room: usize, favoured: bool) -> Result<Laid, Refusal>
+    requires { (all_within spots.now ≡ true) × (all_apart spots.now ≡ true) }
+    ensures ok { IfOk result (λ laid. laid ≡ wiring_favouring favoured spots.now room) }
+    ensures err { IfErr result (λ r. turned_away (Err r) ≡ wiring_favouring favoured spots.now room) }
 {
-    let tree = tree::tree_of(xs, ys, there);
-    let verdict = tree.verdict;
-    if !refusal::is_accepted(verdict) {
-        return refused(verdict);
-    }
-    let count = tree.count;
-    let runs = tree.runs;
-    let found = laying::best_cost(xs, ys, there, runs, count, favoured);
-    let mask = found.cost % least::BASE;
-    let entries = laying::entries_in(xs, ys, there, favoured, mask, runs, count);
-    let strip = laying::legs_of(xs, ys, there, entries, count);
+    let tree = tree::tree_of(spots)?;
+    let runs = &tree.runs[..tree.count];
+    let found = laying::best_cost(spots, runs, favoured);
+    let mask = found.cost % BASE;
+    let entries = laying::entries_in(spots, favoured, mask, runs);
+    let strip = laying::legs_of(spots, &entries[..tree.count]);
     if room < strip.count {
-        return refused(Verdict::RoomTooSmall);
+        return Err(Refusal::RoomTooSmall);
     }
     let list = strip.list;
     let wiring = Wiring {
-        verdict: Verdict::Accepted,
-        length: found.cost / least::BASE,
-        runs: count,
+        verdict: Ok(()),
+        length: found.cost / BASE,
+        runs: tree.count,
         entries,
         legs: strip.count,
         weighed: found.weighed,
     };
-    Laid { wiring, list }
+    Ok(Laid { wiring, list })
 }
 
 // The wiring of a feed whose pins stand on the board, no two of them too near, with room for so many legs, where this is said of the shape to favour.
-pub fn wire_feed(
-    xs: &[i32; PINS],
-    ys: &[i32; PINS],
-    there: &[bool; PINS],
-    room: usize,
-    favour: Favour,
-) -> Laid
-    requires { (all_within (spots_from xs.now ys.now there.now) ≡ true) × (all_apart (spots_from xs.now ys.now there.now) ≡ true) }
-    ensures { result ≡ wiring_of (spots_from xs.now ys.now there.now) room favour }
+#[tactic(auto, unfolding(crate::specs::Answer::wiring_of))]
+pub fn wire_feed(spots: &[Spot; PINS], room: usize, favour: Favour) -> Laid
+    requires { (all_within spots.now ≡ true) × (all_apart spots.now ≡ true) }
+    ensures { result ≡ wiring_of spots.now room favour }
 {
-    let favoured = copper::favours_upper(favour);
-    wire_favouring(xs, ys, there, room, favoured)
+    let favoured = favour.is_upper();
+    wire_favouring(spots, room, favoured).unwrap_or_else(|refusal| refused(Err(refusal)))
 }

@@ -1,5 +1,5 @@
--- Further cases, each computed: moves to the place where the pin already stands and near it, a pin too near another, places at the board's ends, and desks broken in
--- each way of document 01's list. Assumes nothing.
+-- Further cases, each computed: moves to the place where the pin already stands and near it, a pin too near another, places at the board's ends, and desks
+-- broken in each way of document 01's list. Assumes nothing.
 use mathlib.Core.Path.{◌≡◌, refl}
 use mathlib.Core.Bool.{true}
 use mathlib.Core.List.{List, [], ◌∷◌, map}
@@ -8,18 +8,17 @@ use lib.IntN.{ℤ, pos, negsuc}
 use lib.ListN.{replicate}
 use Rattle.basics.specs.Tests.{both, either, choose, any_of, each_of, no_two}
 use Rattle.basics.specs.Lists.{padded, numbered}
-use Rattle.refusal.specs.Refusals.{accepted}
+use Rattle.refusal.specs.Refusals.{accepted, Verdict}
 use Rattle.refusal.specs.Rows.{first_of}
-use Rattle.refusal.specs.declared.Verdict.{Verdict}
-use Rattle.refusal.specs.declared.Verdict.TheVariants.{Accepted, PinThere, Outside, PinTooNear, NoSuchNet, DeskBroken}
+use Rattle.refusal.specs.declared.Refusal.TheVariants.{PinThere, Outside, PinTooNear, NoSuchNet, DeskBroken}
+use Rattle.std.specs.Prelude.{Ok, Err}
 use Rattle.board.specs.Place.{place, limit, on_board, inside, difference, closer, too_near, same_number, same_place}
 use Rattle.board.specs.declared.Place.{Place}
 use Rattle.drawing.specs.declared.Held.{Held}
-use Rattle.drawing.specs.declared.Pin.{Pin}
+use Rattle.drawing.specs.Pins.{Pin, absent, there, holding, is_net, has_net, is_there, same_held, same_pin, same_pins, lawful, spot_of, spots_of, stands_at, held_by}
 use Rattle.edits.specs.declared.Edit.TheVariants.{Placed}
 use Rattle.edits.specs.declared.stated.Making.TheVariants.{Placing, Moving}
 use Rattle.board.specs.Spots.{most_pins, spots_too_near, crowded, within, too_near_other}
-use Rattle.drawing.specs.Pins.{absent, there, holding, is_net, has_net, is_there, same_held, same_pin, same_pins, lawful, spot_of, spots_of, stands_at, held_by}
 use Rattle.edits.specs.Edits.{moved_pin, pin_made, pin_unmade, made, unmade, found_as, all_found, proper, makeable, takeable}
 use Rattle.pinmap.specs.declared.Form.TheVariants.{Old, New}
 use Rattle.readmap.specs.Map.{records_in, with_pins_of, rows_from, wrong_length, read_map}
@@ -52,36 +51,39 @@ placing s p at = making s (Placing p (held at))
 abbrev pub moving : ℕ → ℕ → Place → Call
 moving s p to = making s (Moving p to)
 
--- Pin 0 is placed at (20,20). A move to (20,20) is 9, one to (21,20), near its own former place, is accepted. Pin 1 at (40,39) is 9, 19 steps from pin 0 in x and in y; at (41,39) it is accepted.
-pub nearness : answers empty_desk (opening 0 7 Old [] ∷ placing 0 0 (place (pos 20) (pos 20)) ∷ moving 0 0 (place (pos 20) (pos 20)) ∷ moving 0 0 (place (pos 21) (pos 20))
+-- Pin 0 is placed at (20,20). A move to (20,20) is 9, one to (21,20), near its own former place, is accepted. Pin 1 at (40,39) is 9, 19 steps from pin 0 in x
+-- and in y; at (41,39) it is accepted.
+pub nearness : answers empty_desk (opening 0 7 Old [] ∷ placing 0 0 (place (pos 20) (pos 20)) ∷ moving 0 0 (place (pos 20) (pos 20))
+    ∷ moving 0 0 (place (pos 21) (pos 20))
     ∷ placing 0 1 (place (pos 40) (pos 39)) ∷ placing 0 1 (place (pos 41) (pos 39)) ∷ [])
-    ≡ Accepted ∷ Accepted ∷ PinTooNear ∷ Accepted ∷ PinTooNear ∷ Accepted ∷ []
-unfolding answers both either choose accepted first_of on_board inside difference closer too_near same_number same_place is_there same_held same_pin same_pins spots_too_near
-    too_near_other crowded within spot_of spots_of lawful has_net is_net moved_pin pin_made pin_unmade made unmade stands_at found_as all_found proper makeable takeable numbered held_by records_in with_pins_of rows_from wrong_length read_map
-    own kept filled in_turn same_job job_of sound_open sound_closed sound_seat sound_to sound edited effect answer_of
-    step empty_desk any_of each_of no_two
+    ≡ Ok tt ∷ Ok tt ∷ Err PinTooNear ∷ Ok tt ∷ Err PinTooNear ∷ Ok tt ∷ []
+unfolding answers both either choose accepted first_of on_board inside difference closer too_near same_number same_place is_there same_held same_pin same_pins
+    spots_too_near too_near_other crowded within spot_of spots_of lawful has_net is_net moved_pin pin_made pin_unmade made unmade stands_at found_as all_found
+    proper makeable takeable numbered held_by records_in with_pins_of rows_from wrong_length read_map own kept filled in_turn same_job job_of sound_open
+    sound_closed sound_seat sound_to sound edited effect answer_of step empty_desk any_of each_of no_two
 nearness = refl
 
--- Pin 0 of net 1 is placed at (20,20). A pin of net 2 near it is 9: nearness looks at all nets. Pin 0 again, of net 9, is 7; pin 1 of net 9 outside the board is 21, of net 0 too; of net 8 it is 8.
+-- Pin 0 of net 1 is placed at (20,20). A pin of net 2 near it is 9: nearness looks at all nets. Pin 0 again, of net 9, is 7; pin 1 of net 9 outside the board
+-- is 21, of net 0 too; of net 8 it is 8.
 pub nets : answers empty_desk (opening 0 7 New [] ∷ placing 0 0 (place (pos 20) (pos 20)) ∷ making 0 (Placing 1 (holding (place (pos 39) (pos 1)) 2 0))
     ∷ making 0 (Placing 0 (holding (place (pos 60001) (pos 0)) 9 0)) ∷ making 0 (Placing 1 (holding (place (pos 60001) (pos 0)) 9 0))
     ∷ making 0 (Placing 1 (holding (place (pos 60001) (pos 0)) 0 0)) ∷ making 0 (Placing 1 (holding (place (pos 60001) (pos 0)) 8 0)) ∷ [])
-    ≡ Accepted ∷ Accepted ∷ PinTooNear ∷ PinThere ∷ NoSuchNet ∷ NoSuchNet ∷ Outside ∷ []
-unfolding answers both either choose accepted first_of on_board inside difference closer too_near same_number same_place is_there same_held same_pin same_pins spots_too_near
-    too_near_other crowded within spot_of spots_of lawful has_net is_net moved_pin pin_made pin_unmade made unmade stands_at found_as all_found proper makeable takeable numbered held_by records_in with_pins_of rows_from wrong_length read_map
-    own kept filled in_turn same_job job_of sound_open sound_closed sound_seat sound_to sound edited effect answer_of
-    step empty_desk any_of each_of no_two
+    ≡ Ok tt ∷ Ok tt ∷ Err PinTooNear ∷ Err PinThere ∷ Err NoSuchNet ∷ Err NoSuchNet ∷ Err Outside ∷ []
+unfolding answers both either choose accepted first_of on_board inside difference closer too_near same_number same_place is_there same_held same_pin same_pins
+    spots_too_near too_near_other crowded within spot_of spots_of lawful has_net is_net moved_pin pin_made pin_unmade made unmade stands_at found_as all_found
+    proper makeable takeable numbered held_by records_in with_pins_of rows_from wrong_length read_map own kept filled in_turn same_job job_of sound_open
+    sound_closed sound_seat sound_to sound edited effect answer_of step empty_desk any_of each_of no_two
 nets = refl
 
 -- Pins are placed at (60000,-60000) and at (20001,20001), an ordinary place. x 60,001 and y 60,001 are 8, placed and moved to; (-60000,60000) is accepted.
 pub edges : answers empty_desk (opening 0 7 Old [] ∷ placing 0 0 (place (pos 60000) (negsuc 59999)) ∷ placing 0 1 (place (pos 60001) (pos 0))
-    ∷ placing 0 1 (place (pos 0) (pos 60001)) ∷ placing 0 1 (place (pos 20001) (pos 20001)) ∷ moving 0 1 (place (pos 60001) (pos 0)) ∷ moving 0 1 (place (pos 0) (pos 60001))
-    ∷ moving 0 1 (place (negsuc 59999) (pos 60000)) ∷ [])
-    ≡ Accepted ∷ Accepted ∷ Outside ∷ Outside ∷ Accepted ∷ Outside ∷ Outside ∷ Accepted ∷ []
-unfolding answers both either choose accepted first_of on_board inside difference closer too_near same_number same_place is_there same_held same_pin same_pins spots_too_near
-    too_near_other crowded within spot_of spots_of lawful has_net is_net moved_pin pin_made pin_unmade made unmade stands_at found_as all_found proper makeable takeable numbered held_by records_in with_pins_of rows_from wrong_length read_map
-    own kept filled in_turn same_job job_of sound_open sound_closed sound_seat sound_to sound edited effect answer_of
-    step empty_desk any_of each_of no_two
+    ∷ placing 0 1 (place (pos 0) (pos 60001)) ∷ placing 0 1 (place (pos 20001) (pos 20001)) ∷ moving 0 1 (place (pos 60001) (pos 0))
+    ∷ moving 0 1 (place (pos 0) (pos 60001)) ∷ moving 0 1 (place (negsuc 59999) (pos 60000)) ∷ [])
+    ≡ Ok tt ∷ Ok tt ∷ Err Outside ∷ Err Outside ∷ Ok tt ∷ Err Outside ∷ Err Outside ∷ Ok tt ∷ []
+unfolding answers both either choose accepted first_of on_board inside difference closer too_near same_number same_place is_there same_held same_pin same_pins
+    spots_too_near too_near_other crowded within spot_of spots_of lawful has_net is_net moved_pin pin_made pin_unmade made unmade stands_at found_as all_found
+    proper makeable takeable numbered held_by records_in with_pins_of rows_from wrong_length read_map own kept filled in_turn same_job job_of sound_open
+    sound_closed sound_seat sound_to sound edited effect answer_of step empty_desk any_of each_of no_two
 edges = refl
 
 -- A seat open for a job, with these pins and so many standing edits.
@@ -90,7 +92,7 @@ opened job l n = record { opened = true; job = job; pins = drawn l; standing = n
 
 -- A desk with these first seats, the others closed, these records, and so many said to be in use.
 abbrev pub desk_of : List Seat → List Record → ℕ → Desk
-desk_of l m n = record { seats = padded most_seats closed_seat l; journal = filled m; used = n }
+desk_of l m n = record { seats = padded most_seats closed_seat l; journal = record { records = filled m; used = n } }
 
 -- A pin at (20,20).
 abbrev pub here : Pin
@@ -108,9 +110,9 @@ taken_back = recorded 0 (Placed 1 (held (place (pos 40) (pos 40))))
 abbrev pub whole : Desk
 whole = desk_of (opened 7 (here ∷ []) 1 ∷ []) (stands ∷ taken_back ∷ []) 2
 
--- Broken desks: job 0; a repeated job; a closed seat with a record; a pin outside the board; two pins too near, of different nets; a pin of net 0; one of net 9;
--- a standing edit that could not have been made, at another place, with another part number; a taken-back one that could not be redone; 257 used records; a record of seat 8; more
--- standing edits than records; a closed seat that counts a standing edit.
+-- Broken desks: job 0; a repeated job; a closed seat with a record; a pin outside the board; two pins too near, of different nets; a pin of net 0; one of net
+-- 9; a standing edit that could not have been made, at another place, with another part number; a taken-back one that could not be redone; 257 used records;
+-- a record of seat 8; more standing edits than records; a closed seat that counts a standing edit.
 abbrev pub broken : List Desk
 broken =
     desk_of (opened 0 (here ∷ []) 1 ∷ []) (stands ∷ taken_back ∷ []) 2
@@ -134,8 +136,8 @@ abbrev pub undo : Desk → Verdict
 undo d = answer_of d (undoing 0)
 
 -- Undo is accepted on the sound desk, and 28 on every broken one.
-pub broken_refused : (undo whole ≡ Accepted) × (map undo broken ≡ replicate 14 DeskBroken)
-unfolding both either choose first_of on_board inside difference closer too_near same_number same_place is_there same_held same_pin same_pins spots_too_near too_near_other
-    crowded within spot_of spots_of lawful has_net is_net moved_pin pin_made pin_unmade made unmade stands_at found_as all_found proper makeable takeable numbered own kept filled in_turn same_job
-    job_of sound_open sound_closed sound_seat sound_to sound answer_of any_of each_of no_two
+pub broken_refused : (undo whole ≡ Ok tt) × (map undo broken ≡ replicate 14 (Err DeskBroken))
+unfolding both either choose first_of on_board inside difference closer too_near same_number same_place is_there same_held same_pin same_pins spots_too_near
+    too_near_other crowded within spot_of spots_of lawful has_net is_net moved_pin pin_made pin_unmade made unmade stands_at found_as all_found proper
+    makeable takeable numbered own kept filled in_turn same_job job_of sound_open sound_closed sound_seat sound_to sound answer_of any_of each_of no_two
 broken_refused = (refl, refl)

@@ -3,23 +3,19 @@ use mathlib.Core.Path.{◌≡◌, refl}
 use mathlib.Core.List.{List, [], ◌∷◌, ◌++◌}
 use lib.IntN.{pos, negsuc}
 use Rattle.basics.specs.Tests.{both, either, choose, any_of}
-use Rattle.basics.specs.Sums.{sum, different}
+use Rattle.basics.specs.Sums.{sum, different, how_many}
 use Rattle.refusal.specs.Refusals.{accepted}
 use Rattle.refusal.specs.Rows.{first_of}
-use Rattle.refusal.specs.declared.Verdict.TheVariants.{Accepted, RoomTooSmall, MapLength, OtherJob}
-use Rattle.board.specs.declared.Spot.TheVariants.{At}
-use Rattle.drawing.specs.declared.Pin.{Pin}
-use Rattle.drawing.specs.Pins.{absent, there, holding, is_there}
-use Rattle.board.specs.Place.{difference, larger, same_number, is_straight}
+use Rattle.refusal.specs.declared.Refusal.TheVariants.{RoomTooSmall, MapLength, OtherJob}
+use Rattle.std.specs.Prelude.{Ok, Err, Some}
+use Rattle.drawing.specs.Pins.{Pin, absent, there, holding, is_there}
+use Rattle.board.specs.Place.{difference, larger, same_number, is_straight, distance_of, smaller}
 use Rattle.tree.specs.Weight.{weight_of, pair_of, by_part, by_number, comes_before}
-use Rattle.board.specs.Place.{distance_of}
 use Rattle.tree.specs.Growth.{pair_at, sooner, kept_if, pins_from, without, runs_from, runs_between, earliest, earliest_of, next_run, grown, runs_among, pins_of, runs_of}
 use Rattle.tree.specs.Bends.{bent}
-use Rattle.basics.specs.Sums.{how_many}
 use Rattle.copper.specs.declared.Favour.{Favour}
 use Rattle.copper.specs.Shapes.{lower_corner, upper_corner, legs_of}
 use Rattle.copper.specs.Length.{same_step, steps_across, steps_up, steps_of, steps_of_all, length_of}
-use Rattle.board.specs.Place.{smaller}
 use Rattle.wiring.specs.declared.Laid.{Laid}
 use Rattle.wiring.specs.Choices.{bent_shapes, shapes_of, with_shape, with_shapes, choices_of, legs_of_choice, length_of_choice, shortest, shortest_of, best_choice, weighed_at, weighed_of}
 use Rattle.wiring.specs.Answer.{shaped_runs, turned_away, answer_with, wiring_with, wiring_favouring, wiring_of}
@@ -31,16 +27,17 @@ use Rattle.shown.specs.Shown.{entry_line, leg_text, pin_text, pins_text, wired_t
 
 -- W3: (0,0), (80,40), (80,-40).
 abbrev w3 : Laid
-w3 = wiring_of (At (record { x = pos 0; y = pos 0 }) ∷ At (record { x = pos 80; y = pos 40 }) ∷ At (record { x = pos 80; y = negsuc 39 }) ∷ []) 62 Favour.Lower
+w3 =
+    wiring_of (Some (record { x = pos 0; y = pos 0 }) ∷ Some (record { x = pos 80; y = pos 40 }) ∷ Some (record { x = pos 80; y = negsuc 39 }) ∷ [])
+    62 Favour.Lower
 
 -- W3 as a map of job 7.
 pub map_of_w3 : map_text 7 w3.wiring ≡ text "job 7 length 160 runs 2 weighed 5\n0 1 lower\n1 2 straight\n"
-unfolding wiring_of wiring_favouring wiring_with answer_with turned_away leg_entries run_entries shaped_runs weighed_of sum weighed_at
-    how_many bent best_choice shortest_of shortest length_of_choice legs_of_choice choices_of with_shapes with_shape shapes_of bent_shapes length_of different
-    any_of steps_of_all steps_of smaller steps_up steps_across same_step legs_of lower_corner upper_corner is_straight
-    runs_of pins_of runs_among grown next_run earliest_of earliest runs_between runs_from without pins_from kept_if sooner
-    pair_at comes_before by_part by_number pair_of weight_of distance_of difference larger same_number accepted first_of both either choose digits job_line run_line
-    entry_line text_for_each job_text map_text
+unfolding wiring_of wiring_favouring wiring_with answer_with turned_away leg_entries run_entries shaped_runs weighed_of sum weighed_at how_many bent
+    best_choice shortest_of shortest length_of_choice legs_of_choice choices_of with_shapes with_shape shapes_of bent_shapes length_of different any_of
+    steps_of_all steps_of smaller steps_up steps_across same_step legs_of lower_corner upper_corner is_straight runs_of pins_of runs_among grown next_run
+    earliest_of earliest runs_between runs_from without pins_from kept_if sooner pair_at comes_before by_part by_number pair_of weight_of distance_of
+    difference larger same_number accepted first_of both either choose digits job_line run_line entry_line text_for_each job_text map_text
 map_of_w3 = refl
 
 -- W3 with its legs.
@@ -57,18 +54,19 @@ laid_w3 = refl
 pub cut_w3 :
     cut_text
     (record {
-      milling = record { verdict = Accepted; segments = 2 };
+      milling = record { verdict = Ok tt; segments = 2 };
       list =
           record { from = record { x = pos 0; y = pos 0 }; to = record { x = pos 80; y = pos 0 } }
           ∷ record { from = record { x = pos 80; y = negsuc 39 }; to = record { x = pos 80; y = pos 40 } } ∷ no_leg ∷ [];
     })
-    ++ cut_text (record { milling = record { verdict = RoomTooSmall; segments = 0 }; list = no_leg ∷ [] })
+    ++ cut_text (record { milling = record { verdict = Err RoomTooSmall; segments = 0 }; list = no_leg ∷ [] })
     ≡ text "0 segments 2\nsegment 0 0 80 0\nsegment 80 -40 80 40\nrefused 19\n"
 unfolding accepted choose digits integer place_text carried_text told_line milled_line leg_line text_for_each leg_text milled_text cut_text
 cut_w3 = refl
 
 -- Refused maps: of a wrong length, and with a record of another job.
-pub refused_maps : map_text 7 (turned_away MapLength).wiring ++ map_text 7 (turned_away (OtherJob 2)).wiring ≡ text "refused 13\nrefused 14 record 2\n"
+pub refused_maps : map_text 7 (turned_away (Err MapLength)).wiring ++ map_text 7 (turned_away (Err (OtherJob 2))).wiring
+    ≡ text "refused 13\nrefused 14 record 2\n"
 unfolding turned_away run_entries accepted choose digits carried_text told_line map_text
 refused_maps = refl
 

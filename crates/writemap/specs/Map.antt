@@ -1,12 +1,13 @@
 -- The map that a drawing is written as, in the old form or the new, and what writing it into a lent buffer comes to.
-use Rattle.std.specs.Prelude.{List, [], ◌∷◌, ◌++◌, ℕ, ◌+◌, ltb, length, drop}
+use Rattle.std.specs.Prelude.{List, [], ◌∷◌, ◌++◌, ℕ, ◌+◌, ltb, length, drop, Result, Ok, Err}
+use Rattle.std.specs.Result.{result_unwrap_or}
 use Rattle.basics.specs.Tests.{choose}
-use Rattle.refusal.specs.Refusals.{accepted}
-use Rattle.refusal.specs.declared.Verdict.TheVariants.{RoomTooSmall}
-use Rattle.refusal.specs.Rows.{Row, given, first_of}
-use Rattle.drawing.specs.declared.Pin.{Pin}
+use Rattle.refusal.specs.declared.Refusal.{Refusal}
+use Rattle.refusal.specs.declared.Refusal.TheVariants.{RoomTooSmall}
+use Rattle.refusal.specs.Refusals.{Verdict, accepted}
+use Rattle.refusal.specs.Rows.{Row, given, first_of, granted}
+use Rattle.drawing.specs.Pins.{Pin}
 use Rattle.pinmap.specs.declared.Form.{Form}
-use Rattle.writemap.specs.declared.Writing.{Writing}
 use Rattle.writemap.specs.Record.{pin_bytes}
 
 -- The records of the pins numbered `from` and above.
@@ -26,18 +27,27 @@ written map buffer = map ++ drop (length map) buffer
 abbrev pub room_rows : Form → ℕ → List Pin → ℕ → List Row
 room_rows form job l room = given (ltb room (length (map_of form job l))) RoomTooSmall ∷ []
 
--- A writing that these rows decide: the number of bytes of the map, none where it is refused;
-abbrev pub write_by : List Row → List ℕ → Writing
-write_by rows map = record { verdict = first_of rows; bytes = choose (accepted (first_of rows)) (length map) 0 }
+-- A writing that these rows decide: the number of bytes of the map, or the refusal;
+abbrev pub write_by : List Row → List ℕ → Result ℕ Refusal
+write_by rows map = granted (first_of rows) (length map)
 
 -- the buffer after it, untouched where it is refused.
 abbrev pub buffer_by : List Row → List ℕ → List ℕ → List ℕ
 buffer_by rows map buffer = choose (accepted (first_of rows)) (written map buffer) buffer
 
 -- Writing a map in a form: 19, else the number of bytes written.
-unfoldable pub write_map : Form → List Pin → ℕ → List ℕ → Writing
+unfoldable pub write_map : Form → List Pin → ℕ → List ℕ → Result ℕ Refusal
 write_map form l job buffer = write_by (room_rows form job l (length buffer)) (map_of form job l)
 
 -- The buffer after writing.
 unfoldable pub buffer_after : Form → List Pin → ℕ → List ℕ → List ℕ
 buffer_after form l job buffer = buffer_by (room_rows form job l (length buffer)) (map_of form job l) buffer
+
+-- How many bytes a writing wrote: none where it was refused.
+abbrev pub bytes_of : Result ℕ Refusal → ℕ
+bytes_of answer = result_unwrap_or answer 0
+
+-- The verdict of an answer that gives a value where it is accepted.
+abbrev pub verdict_of : {A : Type 0} → Result A Refusal → Verdict
+verdict_of (Ok a) = Ok tt
+verdict_of (Err r) = Err r

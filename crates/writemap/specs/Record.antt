@@ -1,9 +1,7 @@
 -- The bytes that are written for a pin: its record in the old form or the new.
-use Rattle.std.specs.Prelude.{List, [], ◌∷◌, ◌++◌, ℕ, ◌/◌, ◌%◌}
+use Rattle.std.specs.Prelude.{List, [], ◌∷◌, ◌++◌, ℕ, ◌/◌, ◌%◌, None, Some}
 use Rattle.drawing.specs.declared.Held.{Held}
-use Rattle.drawing.specs.declared.Stand.{Stand}
-use Rattle.drawing.specs.declared.Stand.TheVariants.{Absent, There}
-use Rattle.drawing.specs.declared.Pin.{Pin}
+use Rattle.drawing.specs.Pins.{Pin}
 use Rattle.pinmap.specs.declared.Form.{Form}
 use Rattle.pinmap.specs.declared.Form.TheVariants.{Old, New}
 use Rattle.pinmap.specs.Number.{four_bytes, bits_of}
@@ -24,11 +22,7 @@ record_bytes form job pin held =
     (job / 256 ∷ job % 256 ∷ pin ∷ byte_for form held.net ∷ [])
     ++ four_bytes (bits_of held.place.x) ++ four_bytes (bits_of held.place.y) ++ part_bytes form held.part
 
--- The record of a pin that stands there, and nothing for an absent one.
-abbrev pub bytes_in : Form → ℕ → ℕ → Stand → List ℕ
-bytes_in form job pin Absent = []
-bytes_in form job pin (There held) = record_bytes form job pin held
-
 -- What a map has for a pin: its record, and nothing where it is absent.
 unfoldable pub pin_bytes : Form → ℕ → ℕ → Pin → List ℕ
-pin_bytes form job pin q = bytes_in form job pin q.stand
+pin_bytes form job pin None = []
+pin_bytes form job pin (Some held) = record_bytes form job pin held

@@ -1,6 +1,5 @@
 -- `answer::mill` meets its contract. Assumes nothing.
-use Rattle.asked.specs.declared.Milled.{Milled}
-use Rattle.asked.specs.Asked.{milled_of}
+use Rattle.asked.specs.Asked.{Milled, milled_of}
 use Rattle.script.specs.Said.{favour_given}
 use Rattle.shown.specs.Shown.{cut_text}
 use Rattle.answer.proofs.Telling.{asked}
@@ -9,5 +8,5 @@ use Rattle.answer.proofs.mill.Goals as goal
 pub returns : goal.returns
 returns c =
     let s = c.args in
-    asked (λ (w : Milled). cut_text w.cut) (milled_of s.desk s.seat s.net s.room (favour_given s.line.now)) s.out.now
-    (rw c.given_favour-favour.ensures at c.mill-milled.ensures) c.print_cut.ensures
+    asked (λ (w : Milled). cut_text w.answer) (milled_of s.desk.now s.seat s.net s.room (favour_given s.line.now)) s.out.now
+    (rw c.given_favour.ensures at c.mill-milled.ensures) c.print_cut.ensures

@@ -6,14 +6,14 @@ use Rattle.asked.proofs.mill_lent.Goals as goal
 pub fill-requires : goal.fill-requires
 fill-requires c =
     let a = c.args in
-    rw (c.strip_of-strip.ensures, c.mill-milled.ensures) (milling_fits a.desk a.seat a.net (length a.segments.now) a.favour)
+    rw (c.strip_of.ensures, c.mill.ensures) (milling_fits a.desk a.seat a.net (length a.segments.now) a.favour)
 
 pub returns-clause-value : goal.returns-clause-value
 returns-clause-value c =
     let a = c.args in
-    rw c.mill-milled.ensures (milling_answered a.desk a.seat a.net a.segments.now a.favour)
+    rw c.mill.ensures (milling_answered a.desk a.seat a.net a.segments.now a.favour)
 
 pub returns-clause-segments_after : goal.returns-clause-segments_after
 returns-clause-segments_after c =
     let a = c.args in
-    rw (c.fill.ensures, c.strip_of-strip.ensures, c.mill-milled.ensures) (segments_lent a.desk a.seat a.net a.segments.now a.favour)
+    rw (c.fill.ensures, c.strip_of.ensures, c.mill.ensures) (segments_lent a.desk a.seat a.net a.segments.now a.favour)

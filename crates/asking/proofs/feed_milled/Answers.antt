@@ -1,33 +1,36 @@
 -- `asking::feed_milled` meets its contract. Assumes nothing.
-use mathlib.Core.Path.{ap, sym, ◌∙◌}
+use mathlib.Core.Path.{refl, ap, sym, ◌∙◌}
 use mathlib.Core.List.{List}
-use Rattle.refusal.proofs.Rows.{Apart}
-use Rattle.board.specs.declared.Spot.{Spot}
+use Rattle.refusal.specs.Refusals.{accepted}
+use Rattle.board.specs.Spots.{Spot}
 use Rattle.drawing.specs.Pins.{feed_of}
 use Rattle.mill.specs.Answer.{copper_of, mill_rows, cut_of}
 use Rattle.rows.specs.Found.{naming_net}
 use Rattle.rows.proofs.Rows.{net_apart, cut_away, cut_on}
-use Rattle.asking.proofs.Fed.{fed}
+use Rattle.asking.proofs.Fed.{fed, unfed}
 use Rattle.asking.proofs.feed_milled.Goals as goal
 
 pub mill_feed-requires : goal.mill_feed-requires
 mill_feed-requires c =
-    let e = fed c.args.found c.args.net c.turned_asking-verdict.ensures (sym c.is_accepted.ensures ∙ c.if-is_accepted.true) c.requires c.feed_lists-lists.ensures in
+    let e = fed c.args.found.now c.args.net (sym c.feed_asked.ensures ∙ c.in-Ok.is) c.requires in
     (e.board, e.apart)
 
-pub returns-then-is_accepted : goal.returns-then-is_accepted
-unfolding cut_of
-returns-then-is_accepted c =
-    let apart : Apart (naming_net c.args.found c.args.net) =
-    net_apart c.args.found.broken c.args.found.seat c.args.found.state.opened c.args.net in
-    let i = sym c.is_accepted.ensures ∙ c.if-is_accepted.true in
-    let e = (fed c.args.found c.args.net c.turned_asking-verdict.ensures i c.requires c.feed_lists-lists.ensures).told in
-    c.mill_feed.ensures ∙ ap (λ (f : List Spot). cut_of f c.args.room c.args.favour) (sym e)
-    ∙ cut_on (naming_net c.args.found c.args.net) (mill_rows (feed_of c.args.found.state.pins c.args.net) c.args.room c.args.favour) apart c.turned_asking-verdict.ensures (copper_of (feed_of c.args.found.state.pins c.args.net) c.args.favour) i
+pub returns-in-Ok : goal.returns-in-Ok
+unfolding cut_of accepted
+returns-in-Ok c =
+    let a = c.args in
+    let f = a.found.now in
+    let feed = feed_of f.state.pins a.net in
+    let e = fed f a.net (sym c.feed_asked.ensures ∙ c.in-Ok.is) c.requires in
+    c.mill_feed.ensures ∙ ap (λ (spots : List Spot). cut_of spots a.room a.favour) e.told
+    ∙ cut_on (naming_net f a.net) (mill_rows feed a.room a.favour) (net_apart f.broken f.seat f.state.opened a.net) (sym e.passed) (copper_of feed a.favour) refl
 
-pub returns-else-is_accepted : goal.returns-else-is_accepted
-returns-else-is_accepted c =
-    let apart : Apart (naming_net c.args.found c.args.net) =
-    net_apart c.args.found.broken c.args.found.seat c.args.found.state.opened c.args.net in
-    let n = sym c.is_accepted.ensures ∙ c.if-is_accepted.false in
-    c.refused.ensures ∙ cut_away (naming_net c.args.found c.args.net) (mill_rows (feed_of c.args.found.state.pins c.args.net) c.args.room c.args.favour) apart c.turned_asking-verdict.ensures (copper_of (feed_of c.args.found.state.pins c.args.net) c.args.favour) n
+pub returns-in-Err : goal.returns-in-Err
+unfolding accepted
+returns-in-Err c =
+    let a = c.args in
+    let f = a.found.now in
+    let feed = feed_of f.state.pins a.net in
+    let e = unfed f a.net (sym c.feed_asked.ensures ∙ c.in-Err.is) in
+    c.refused.ensures
+    ∙ cut_away (naming_net f a.net) (mill_rows feed a.room a.favour) (net_apart f.broken f.seat f.state.opened a.net) (sym e) (copper_of feed a.favour) refl

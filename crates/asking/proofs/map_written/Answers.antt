@@ -1,33 +1,47 @@
 -- `asking::map_written` meets its contract. Assumes nothing.
-use mathlib.Core.Path.{sym, ◌∙◌}
+use mathlib.Core.Path.{refl, sym, ◌∙◌}
 use lib.ListN.{length}
-use Rattle.refusal.proofs.Rows.{Apart}
+use Rattle.refusal.specs.Refusals.{accepted}
+use Rattle.refusal.proofs.Rows.{granted_away, granted_on}
 use Rattle.drawing.proofs.Rules.{lawful_parts}
 use Rattle.pinmap.specs.declared.Form.TheVariants.{New}
 use Rattle.writemap.specs.Map.{map_of, room_rows, write_map, buffer_after}
+use Rattle.pinrows.proofs.Apart.{handed_on}
 use Rattle.rows.specs.Found.{naming_found}
-use Rattle.rows.proofs.Rows.{naming_apart, naming_passed, write_away, write_on}
+use Rattle.rows.proofs.Rows.{naming_apart, naming_passed, buffer_away, buffer_on}
 use Rattle.asking.proofs.map_written.Goals as goal
 
 pub write_map-requires : goal.write_map-requires
 write_map-requires c =
-    let n = naming_passed c.args.found c.turned_naming-verdict.ensures (sym c.is_accepted.ensures ∙ c.if-is_accepted.true) in
+    let n = naming_passed c.args.found.now (sym c.in_ok-turned_naming.was ∙ c.turned_naming.ensures) in
     (lawful_parts _ (c.requires n.unbroken n.shown)).nets
 
-pub returns-then-is_accepted : goal.returns-then-is_accepted
-unfolding buffer_after write_map
-returns-then-is_accepted c =
-    let apart : Apart (naming_found c.args.found) =
-    naming_apart c.args.found.broken c.args.found.seat c.args.found.state.opened in
-    let w = c.write_map.ensures in
-    let y = sym c.is_accepted.ensures ∙ c.if-is_accepted.true in
-    let o = write_on (naming_found c.args.found) (room_rows New c.args.found.state.job c.args.found.state.pins (length c.args.buffer.now)) apart c.turned_naming-verdict.ensures (map_of New c.args.found.state.job c.args.found.state.pins) c.args.buffer.now y in
-    record { value = w.value ∙ o.0; buffer_after = w.buffer_after ∙ o.1 }
+pub returns : goal.returns
+unfolding buffer_after write_map accepted
+returns c =
+    let f = c.args.found.now in
+    let b = c.args.buffer.now in
+    let rows = naming_found f in
+    let more = room_rows New f.state.job f.state.pins (length b) in
+    let apart = naming_apart f.broken f.seat f.state.opened in
+    let e = sym c.in_ok-turned_naming.was ∙ c.turned_naming.ensures in
+    let map = map_of New f.state.job f.state.pins in
+    record {
+      value = c.write_map.ensures.value ∙ granted_on rows more apart e refl (length map);
+      buffer_after = c.write_map.ensures.buffer_after ∙ buffer_on rows more apart e map b refl;
+    }
 
-pub returns-else-is_accepted : goal.returns-else-is_accepted
-returns-else-is_accepted c =
-    let apart : Apart (naming_found c.args.found) =
-    naming_apart c.args.found.broken c.args.found.seat c.args.found.state.opened in
-    let n = sym c.is_accepted.ensures ∙ c.if-is_accepted.false in
-    let o = write_away (naming_found c.args.found) (room_rows New c.args.found.state.job c.args.found.state.pins (length c.args.buffer.now)) apart c.turned_naming-verdict.ensures (map_of New c.args.found.state.job c.args.found.state.pins) c.args.buffer.now n in
-    record { value = o.0; buffer_after = o.1 }
+pub returns-in_err-turned_naming : goal.returns-in_err-turned_naming
+unfolding accepted
+returns-in_err-turned_naming c =
+    let f = c.args.found.now in
+    let b = c.args.buffer.now in
+    let rows = naming_found f in
+    let more = room_rows New f.state.job f.state.pins (length b) in
+    let apart = naming_apart f.broken f.seat f.state.opened in
+    let e = sym c.in_err-turned_naming.was ∙ c.turned_naming.ensures in
+    let map = map_of New f.state.job f.state.pins in
+    record {
+      value = handed_on c.from_residual.result c.from_residual.ensures.1 ∙ granted_away rows more apart e (length map);
+      buffer_after = buffer_away rows more apart e map b refl;
+    }

@@ -1,27 +1,22 @@
--- `edits::is_proper` meets its contract, by the edit's three cases. Assumes nothing.
+-- `edits::is_proper` meets its contract, by the edit's cases. Assumes nothing.
 use mathlib.Core.Path.{sym, ap, ◌∙◌}
 use mathlib.Core.Bool.{not}
 use borrow.Author.Tests.{lt-ltb, le-ltb}
-use Rattle.basics.proofs.Tests.{both_no, both_yes}
+use Rattle.basics.proofs.Tests.{both_yes}
+use Rattle.board.proofs.Board.{place_told}
 use Rattle.edits.specs.Edits.{proper}
+use Rattle.edits.proofs.Changing.{improper_number, proper_stays}
 use Rattle.edits.proofs.is_proper.Goals as goal
 
-pub returns-in-Placed : goal.returns-in-Placed
+pub returns-in-Moved : goal.returns-in-Moved
 unfolding proper
-returns-in-Placed c = rw (c.in-Placed.is, c.wide.ensures)
-
-pub returns-then-wide-lt-PINS : goal.returns-then-wide-lt-PINS
-unfolding proper
-returns-then-wide-lt-PINS c =
+returns-in-Moved c =
     rw c.in-Moved.is
-    (ap not c.same_place.ensures ∙ sym (both_yes _ (lt-ltb _ _ (rw c.wide-in-Moved.ensures at c.if-wide-lt-PINS.true))))
+    (c.ne.ensures ∙ ap not (place_told _ _) ∙ sym (both_yes _ (lt-ltb _ _ (rw (c.pin_of.ensures, c.in-Moved.is) at c.if-pin_of-lt-PINS.true))))
 
-pub returns-else-wide-lt-PINS : goal.returns-else-wide-lt-PINS
-unfolding proper
-returns-else-wide-lt-PINS c =
-    rw c.in-Moved.is
-    (le-ltb _ _ c.if-wide-lt-PINS.false ∙ sym (both_no _ (le-ltb _ _ (rw c.wide-in-Moved.ensures at c.if-wide-lt-PINS.false))))
+pub returns-in_default : goal.returns-in_default
+returns-in_default c = sym (proper_stays c.args.edit c.in_default.not-Moved (rw c.pin_of.ensures at c.if-pin_of-lt-PINS.true))
 
-pub returns-in-Removed : goal.returns-in-Removed
-unfolding proper
-returns-in-Removed c = rw (c.in-Removed.is, c.wide-in-Removed.ensures)
+pub returns-else-pin_of-lt-PINS : goal.returns-else-pin_of-lt-PINS
+returns-else-pin_of-lt-PINS c =
+    le-ltb _ _ c.if-pin_of-lt-PINS.false ∙ sym (improper_number c.args.edit (rw c.pin_of.ensures at c.if-pin_of-lt-PINS.false))

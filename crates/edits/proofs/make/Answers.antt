@@ -5,13 +5,10 @@ use lib.Seq.{set_out}
 use Rattle.edits.proofs.Changing.{made_is}
 use Rattle.edits.proofs.make.Goals as goal
 
-pub returns-then-number-ge-PINS : goal.returns-then-number-ge-PINS
-returns-then-number-ge-PINS c =
-    let a = c.args in
-    let p = c.pin_of-number.ensures in
-    sym (made_is a.pins a.edit ∙ set_out a.pins _ _ (omega arith))
+pub returns-then-number-lt-PINS : goal.returns-then-number-lt-PINS
+returns-then-number-lt-PINS c =
+    rw (made_is c.args.pins.now c.args.edit, ← c.pin_of-number.ensures) (rw (c.pin_made.ensures, ← c.pin_of-number.ensures))
 
-pub returns : goal.returns
-returns c =
-    let a = c.args in
-    rw (made_is a.pins a.edit, ← c.pin_of-number.ensures) (rw (c.pin_made.ensures, ← c.pin_of-number.ensures))
+pub returns-else-number-lt-PINS : goal.returns-else-number-lt-PINS
+returns-else-number-lt-PINS c =
+    sym (made_is c.args.pins.now c.args.edit ∙ set_out c.args.pins.now _ _ (omega arith))

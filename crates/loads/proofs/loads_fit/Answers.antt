@@ -1,35 +1,12 @@
--- `loads::loads_fit` meets its contract: the loads that are left to look at give the answer. Assumes nothing.
-use mathlib.Core.Path.{◌≡◌, ap, ◌∙◌}
-use native.Mathlib.Omega.{arith}
-use Rattle.loads.specs.Loads.{load_fits, load_at}
-use Rattle.loads.proofs.Ranges.{load_read, all_left, absent-next, fits_next, fits_stop, fits_all}
+-- `loads::loads_fit` meets its contract: `all` asks of each pin number whether its load is in its range or no pin is there. Assumes nothing.
+use Rattle.std.proofs.Common.{rules, ◌∙◌, arith}
+use Rattle.std.proofs.lemmas.Iterator.{YieldsList-from_slice, YieldsList-from_zip}
+use Rattle.basics.proofs.Chains.{each_answers}
+use Rattle.loads.proofs.Ranges.{passes, loads_pass}
 use Rattle.loads.proofs.loads_fit.Goals as goal
 
-pub loop-count-init : goal.loop-count-init
-loop-count-init c xs ys = all_left c.args.loads xs ys c.args.there.now
-
-pub returns-then-not-load_fits : goal.returns-then-not-load_fits
-returns-then-not-load_fits c xs ys =
-    let a = c.args in
-    let tried : c.load_fits.result ≡ load_fits (load_at a.loads c.loop-count.count) =
-    c.load_fits.ensures ∙ ap load_fits (load_read _ a.loads c.loop-count.count (omega arith)) in
-    fits_stop a.loads xs ys a.there.now _ c.loop-count-test.true (cc) tried
-    c.if-not-load_fits.true (c.loop-count.invariant xs ys)
-
-pub loop-count-preserved-else-not-load_fits : goal.loop-count-preserved-else-not-load_fits
-loop-count-preserved-else-not-load_fits c xs ys =
-    let a = c.args in
-    let tried : c.load_fits.result ≡ load_fits (load_at a.loads c.loop-count.count) =
-    c.load_fits.ensures ∙ ap load_fits (load_read _ a.loads c.loop-count.count (omega arith)) in
-    fits_next a.loads xs ys a.there.now _ c.loop-count-test.true (cc) tried
-    c.if-not-load_fits.false (c.loop-count.invariant xs ys)
-
-pub loop-count-preserved : goal.loop-count-preserved
-loop-count-preserved c xs ys =
-    let a = c.args in
-    absent-next a.loads xs ys a.there.now _ c.loop-count-test.true (cc) (c.loop-count.invariant xs ys)
-
 pub returns : goal.returns
-returns c xs ys =
-    let a = c.args in
-    fits_all a.loads xs ys a.there.now _ c.loop-count-test.false (c.loop-count.invariant xs ys)
+returns c =
+    each_answers c.all.new.self _ passes _ (YieldsList-from_zip (YieldsList-from_slice c.args.loads.now cc) (YieldsList-from_slice c.args.spots.now cc))
+    (λ x b q k. search rules) c.all.ensures.ran
+    ∙ loads_pass c.args.loads.now c.args.spots.now (omega arith)

@@ -1,20 +1,14 @@
 -- `mill::segments_of` meets its contract: segments are written span by span. Assumes nothing.
-use native.Mathlib.Omega.{arith}
-use Rattle.mill.specs.Numbered.{is_numbered}
-use Rattle.mill.proofs.Filling.{told_passes, write_turn, write_all}
+use Rattle.std.proofs.Common.{arith}
+use Rattle.spans.specs.Spans.{span}
+use Rattle.laying.specs.Entries.{most_legs, no_leg}
+use Rattle.mill.specs.Numbered.{segment_of, is_numbered}
+use Rattle.mill.proofs.Filling.{each_passes, made_more}
 use Rattle.mill.proofs.segments_of.Goals as goal
 
-pub loop-at-init : goal.loop-at-init
-loop-at-init c = record { within = omega arith; filled = rw c.no_leg-none.ensures }
-
 pub segment_of-requires : goal.segment_of-requires
-segment_of-requires c =
-    told_passes is_numbered c.args.lows.now c.args.highs.now c.args.count c.requires.1 c.requires.0 c.requires.2 c.loop-at.at (omega arith)
+segment_of-requires c = each_passes is_numbered c.args.spans.now c.loop-at.at (span 0 0) c.requires.1 (omega arith)
 
 pub loop-at-preserved : goal.loop-at-preserved
 loop-at-preserved c =
-    write_turn c.loop-at.invariant c.requires.1 c.requires.0 (omega arith) c.segment_of.result c.segment_of.ensures
-
-pub returns : goal.returns
-returns c =
-    write_all c.loop-at.invariant c.requires.1 c.requires.0 (omega arith)
+    rw (c.loop-at.invariant, c.segment_of.ensures) (made_more segment_of c.args.spans.now most_legs no_leg c.loop-at.at (span 0 0) (omega arith) (omega arith))

@@ -4,11 +4,8 @@ use Rattle.play.specs.Log.{most_kept, log_of}
 use Rattle.play.specs.Answers.{Streamed}
 use Rattle.play.proofs.play_all.Given as goal
 
-abbrev pub invariant-loop-turns : goal.invariant-loop-turns
-invariant-loop-turns g l =
+abbrev pub invariant-loop : goal.invariant-loop
+invariant-loop g l =
     (l.s.kept ≤ most_kept)
     × Streamed (log_of l.initial.s l.initial.line l.initial.out) (log_of l.s l.line l.out) (g.R.Read.remaining l.initial.reader) (g.R.Read.remaining l.reader)
     (g.W.Write.contents l.initial.writer) (g.W.Write.contents l.writer)
-
-abbrev pub decreases-loop-turns : goal.decreases-loop-turns
-decreases-loop-turns g l = l.turns

@@ -16,19 +16,19 @@ pub slice_bounds-put_lent-end : goal.slice_bounds-put_lent-end
 slice_bounds-put_lent-end c =
     let s = c.args in
     sym
-    (length-take-le c.smaller-shown.result s.buffer.now
-    (omega (arith, c.smaller-shown.ensures)))
+    (length-take-le c.min-shown.result s.buffer.now
+    (omega (arith, c.min-shown.ensures)))
 
 pub put_lent-two-requires : goal.put_lent-two-requires
 put_lent-two-requires c =
     let s = c.args in
-    let smaller = c.smaller-shown.ensures in (
+    let least = c.min-shown.ensures in (
       omega (arith, c.put_field-one.ensures.value.1),
       omega (
         arith,
-        smaller,
-        length-take-le c.smaller-shown.result s.buffer.now
-            (omega (arith, smaller)),
+        least,
+        length-take-le c.min-shown.result s.buffer.now
+            (omega (arith, least)),
       ),
     )
 
@@ -39,7 +39,7 @@ pub returns : goal.returns
 unfolding written_line
 returns c =
     let s = c.args in
-    let n = c.smaller-shown.ensures in
+    let n = c.min-shown.ensures in
     let a = c.put_field-one.ensures in
     let b = c.put_lent-two.ensures in
     let d = c.put.ensures in

@@ -9,22 +9,22 @@ use Rattle.text.proofs.Printing.{then_put, put_as, each_more}
 use Rattle.printed.specs.Answers.{drop_text}
 use Rattle.printed.proofs.put_drops.Goals as goal
 
-pub loop-pin-init : goal.loop-pin-init
+pub loop-drop-init : goal.loop-drop-init
 unfolding text_for_each
-loop-pin-init c = ((omega arith, omega arith), (omega arith, refl))
+loop-drop-init c = ((omega arith, omega arith), (omega arith, refl))
 
-pub loop-pin-preserved : goal.loop-pin-preserved
-loop-pin-preserved c =
+pub loop-drop-preserved : goal.loop-drop-preserved
+loop-drop-preserved c =
     let s = c.args in
-    let q = c.loop-pin in
+    let q = c.loop-drop in
     let e = c.put_drop-next.ensures in
-    let x = get_or s.drops q.pin nan in
-    let h = then_put s.out.now s.at (text_for_each drop_text (take q.pin s.drops)) (drop_text x) q.invariant.1 (e.value.0, e.out_after) in
-    ((omega arith, omega (arith, e.value.1)), put_as s.out.now s.at (each_more drop_text nan s.drops q.pin (omega arith)) h)
+    let x = get_or s.drops.now q.drop-index nan in
+    let h = then_put s.out.now s.at (text_for_each drop_text (take q.drop-index s.drops.now)) (drop_text x) q.invariant.1 (e.value.0, e.out_after) in
+    ((omega arith, omega (arith, e.value.1)), put_as s.out.now s.at (each_more drop_text nan s.drops.now q.drop-index (omega arith)) h)
 
 pub returns : goal.returns
 returns c =
     let s = c.args in
-    let q = c.loop-pin in
-    let h = put_as s.out.now s.at (ap (text_for_each drop_text) (take_all q.pin s.drops (omega arith))) q.invariant.1 in
+    let q = c.loop-drop in
+    let h = put_as s.out.now s.at (ap (text_for_each drop_text) (take_all q.drop-index s.drops.now (omega arith))) q.invariant.1 in
     record { value = (h.0, omega arith); out_after = h.1 }

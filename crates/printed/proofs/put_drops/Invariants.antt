@@ -7,8 +7,5 @@ use Rattle.text.proofs.Printing.{Put}
 use Rattle.printed.specs.Answers.{most_drop_bytes, drop_text}
 use Rattle.printed.proofs.put_drops.Given as goal
 
-abbrev pub invariant-loop-pin : goal.invariant-loop-pin
-invariant-loop-pin l = ((l.pin ≤ most_pins) × (l.next ≤ l.at + l.pin * most_drop_bytes)) × Put l.initial.out l.at (text_for_each drop_text (take l.pin l.drops)) l.next l.out
-
-abbrev pub decreases-loop-pin : goal.decreases-loop-pin
-decreases-loop-pin l = most_pins - l.pin
+abbrev pub invariant-loop-drop : goal.invariant-loop-drop
+invariant-loop-drop l = ((l.drop-index ≤ most_pins) × (l.next ≤ l.at + l.drop-index * most_drop_bytes)) × Put l.initial.out l.at (text_for_each drop_text (take l.drop-index l.drops)) l.next l.out

@@ -1,15 +1,16 @@
--- `seats::jobs_of` meets its contract: the array is filled from the front with the jobs of the seats. Assumes nothing.
+-- `seats::jobs_of` meets its contract: `map` asks the job of each seat. Assumes nothing.
+use mathlib.Core.Path.{sym, ap, ◌∙◌}
+use mathlib.Core.List.{map-map}
 use native.Mathlib.Omega.{arith}
-use Rattle.basics.proofs.Lists.{overlaid_none, mapped_turn, mapped_all}
-use Rattle.seats.specs.Seats.{no_seat, job_of}
+use Rattle.std.proofs.Common.{rules}
+use Rattle.std.specs.Borrow.{Bor}
+use Rattle.basics.proofs.Mapped.{map_answers}
+use Rattle.seats.specs.declared.Seat.{Seat}
+use Rattle.seats.specs.Seats.{job_of, jobs_in}
 use Rattle.seats.proofs.jobs_of.Goals as goal
 
-pub loop-i-init : goal.loop-i-init
-loop-i-init c = overlaid_none _ _
-
-pub loop-i-preserved : goal.loop-i-preserved
-loop-i-preserved c =
-    mapped_turn job_of c.args.seats _ _ c.loop-i.i c.loop-i.invariant no_seat _ (omega arith) (omega arith) c.job_of.ensures
-
 pub returns : goal.returns
-returns c = mapped_all job_of c.args.seats _ _ c.loop-i.i c.loop-i.invariant (omega arith) (omega arith)
+returns c =
+    map_answers _ (λ y. job_of y.now) (λ x y q k. search rules) c.each_ref.result _ _ (omega arith) c.map.ensures.items
+    ∙ sym (map-map job_of (λ (y : Bor Seat). y.now) c.each_ref.result)
+    ∙ ap jobs_in c.each_ref.ensures.items

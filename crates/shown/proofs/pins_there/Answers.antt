@@ -1,17 +1,15 @@
--- `shown::pins_there` meets its contract. Assumes nothing.
-use mathlib.Core.Path.{ap}
-use native.Mathlib.Omega.{arith}
-use lib.ListN.{drop_of_length-le}
-use Rattle.basics.specs.Sums.{how_many}
-use Rattle.shown.specs.Shown.{pins_there}
+-- `shown::pins_there` meets its contract: the pins that are there are counted. Assumes nothing.
+use mathlib.Core.Path.{◌∙◌}
+use Rattle.std.proofs.Common.{rules}
+use Rattle.std.proofs.lemmas.Iterator.{YieldsList-from_slice}
+use Rattle.std.proofs.lemmas.Iterator.Consumers.{YieldsList-from_filter, count_from_yields_List}
+use Rattle.drawing.specs.Pins.{is_there}
+use Rattle.shown.proofs.Lines.{counted}
 use Rattle.shown.proofs.pins_there.Goals as goal
 
-pub loop-number-init : goal.loop-number-init
-loop-number-init c = ((omega arith, omega arith), omega arith)
-
 pub returns : goal.returns
-unfolding how_many
+unfolding is_there
 returns c =
-    let s = c.args in
-    let q = c.loop-number in
-    omega (arith, q.invariant.1, ap pins_there (drop_of_length-le s.pins {i = q.number} (omega arith)))
+    count_from_yields_List c.filter.result c.count.result c.count.ensures.ran
+    (YieldsList-from_filter _ is_there (YieldsList-from_slice c.args.pins.now cc) c.filter.ensures.closure (λ x b q k. search rules))
+    ∙ counted c.args.pins.now

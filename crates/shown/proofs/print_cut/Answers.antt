@@ -1,5 +1,6 @@
 -- `shown::print_cut` meets its contract. Assumes nothing.
-use mathlib.Core.Path.{sym, ◌∙◌}
+use Rattle.std.proofs.Common.{rules}
+use Rattle.printed.proofs.Telling.{refused_is, passed_is}
 use native.Mathlib.Omega.{arith}
 use lib.ListN.{take}
 use Rattle.printed.specs.Answers.{most_line_bytes, milled_line}
@@ -9,27 +10,25 @@ use Rattle.shown.specs.Shown.{legs_text, cut_text}
 use Rattle.shown.proofs.Lines.{begun, cut_refused, cut_accepted}
 use Rattle.shown.proofs.print_cut.Goals as goal
 
-pub returns-then-not-is_accepted : goal.returns-then-not-is_accepted
-returns-then-not-is_accepted c =
+pub returns-then-is_err : goal.returns-then-is_err
+returns-then-is_err c =
     let s = c.args in
-    let j = sym c.is_accepted.ensures ∙ c.if-not-is_accepted.true in
-    held s.out.now most_line_bytes (omega arith) (cut_refused s.cut j) c.print_verdict.ensures
+    let j = refused_is _ (search rules) in
+    held s.out.now most_line_bytes (omega arith) (cut_refused s.cut.now j) c.print_verdict.ensures
 
 pub returns : goal.returns
 returns c =
     let s = c.args in
-    let n = s.cut.milling.segments in
+    let n = s.cut.now.milling.segments in
     let a = c.print_milled-next.ensures in
     let b = c.put_legs.ensures in
-    let j =
-    sym c.is_accepted.ensures
-    ∙ c.if-not-is_accepted.false in
+    let j = passed_is _ (search rules) in
     let h =
-    line s.out.now (cut_text s.cut)
-    (put_as s.out.now 0 (cut_accepted s.cut j)
+    line s.out.now (cut_text s.cut.now)
+    (put_as s.out.now 0 (cut_accepted s.cut.now j)
     (then_put s.out.now 0
     (milled_line n)
-    (legs_text (text "segment ") (take n s.cut.list))
+    (legs_text (text "segment ") (take n s.cut.now.list))
     (begun s.out.now (milled_line n) a.0.0 a.1)
     (b.value.0, b.out_after))) in
     ((h.0, omega (arith, a.0.1, b.value.1)), h.1)

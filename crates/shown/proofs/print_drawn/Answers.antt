@@ -16,10 +16,10 @@ returns c =
     let a = c.print_drawing-next.ensures in
     let b = c.put_pins.ensures in
     let h =
-    line s.out.now (drawn_text s.job s.pins s.standing s.taken)
+    line s.out.now (drawn_text s.job s.pins.now s.standing s.taken)
     (then_put s.out.now 0
-    (drawing_line s.job (pins_there s.pins) s.standing s.taken)
-    (pins_text 0 s.pins)
+    (drawing_line s.job (pins_there s.pins.now) s.standing s.taken)
+    (pins_text 0 s.pins.now)
     (put_as s.out.now 0 (ap (λ (k : ℕ). drawing_line s.job k s.standing s.taken) n)
     (begun s.out.now (drawing_line s.job c.pins_there-there.result s.standing s.taken) a.0.0 a.1))
     (b.value.0, b.out_after)) in

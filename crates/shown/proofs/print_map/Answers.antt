@@ -1,6 +1,8 @@
 -- `shown::print_map` meets its contract. Assumes nothing.
 use mathlib.Core.Path.{◌≡◌}
 use mathlib.Core.Bool.{true}
+use Rattle.std.proofs.Common.{rules}
+use Rattle.printed.proofs.Telling.{passed_is}
 use native.Mathlib.Omega.{arith}
 use lib.ListN.{take}
 use Rattle.refusal.specs.Refusals.{accepted}
@@ -13,10 +15,10 @@ use Rattle.shown.proofs.print_map.Goals as goal
 pub returns : goal.returns
 returns c =
     let s = c.args in
-    let w = s.wiring in
+    let w = s.wiring.now in
     let a = c.print_job-one.ensures in
     let b = c.put_runs.ensures in
-    let j : accepted w.verdict ≡ true = cc in
+    let j : accepted w.verdict ≡ true = passed_is _ (search rules) in
     let h =
     line s.out.now (map_text s.job w)
     (put_as s.out.now 0 (map-accepted s.job w j)

@@ -18,13 +18,13 @@ loop-number-preserved c =
     let s = c.args in
     let q = c.loop-number in
     let e = c.put_pin-next.ensures in
-    let a = get_or s.pins q.number absent in
-    let h = then_put s.out.now s.at (pins_text 0 (take q.number s.pins)) (pin_text q.number a.stand) q.invariant.1 (e.value.0, e.out_after) in
-    ((omega arith, omega (arith, e.value.1)), put_as s.out.now s.at (pins_more s.pins q.number (omega arith)) h)
+    let a = get_or s.pins.now q.number absent in
+    let h = then_put s.out.now s.at (pins_text 0 (take q.number s.pins.now)) (pin_text q.number a) q.invariant.1 (e.value.0, e.out_after) in
+    ((omega arith, omega (arith, e.value.1)), put_as s.out.now s.at (pins_more s.pins.now q.number (omega arith)) h)
 
 pub returns : goal.returns
 returns c =
     let s = c.args in
     let q = c.loop-number in
-    let h = put_as s.out.now s.at (ap (pins_text 0) (take_all q.number s.pins (omega arith))) q.invariant.1 in
+    let h = put_as s.out.now s.at (ap (pins_text 0) (take_all q.number s.pins.now (omega arith))) q.invariant.1 in
     record { value = (h.0, omega arith); out_after = h.1 }

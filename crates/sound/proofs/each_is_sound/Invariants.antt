@@ -1,15 +1,9 @@
--- `sound::each_is_sound` meets its contract. The loop's invariant: the first `i` seats are sound.
--- The measure is how many are left. Assumes nothing.
+-- `sound::each_is_sound` meets its contract: the seats before the next are sound. Assumes nothing.
 use mathlib.Core.Path.{◌≡◌}
 use mathlib.Core.Bool.{true}
-use Prim.Native.Nat.{◌≤◌, ◌-◌}
-use lib.ListN.{take}
-use Rattle.journal.specs.Journal.{most_seats}
+use Rattle.journal.specs.Journal.{in_use}
 use Rattle.sound.specs.Sound.{sound_to}
 use Rattle.sound.proofs.each_is_sound.Given as goal
 
-abbrev pub invariant-loop-i : goal.invariant-loop-i
-invariant-loop-i l = (l.i ≤ most_seats) × (sound_to l.i l.seats (take l.used l.journal) ≡ true)
-
-abbrev pub decreases-loop-i : goal.decreases-loop-i
-decreases-loop-i l = most_seats - l.i
+abbrev pub invariant-loop-number : goal.invariant-loop-number
+invariant-loop-number l = sound_to l.number l.seats (in_use l.journal) ≡ true

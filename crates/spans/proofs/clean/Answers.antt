@@ -1,26 +1,25 @@
--- `spans::clean` meets its contract: the spans are added one after another, then what is left of them is cleared. Assumes nothing.
-use native.Mathlib.Omega.{arith}
-use mathlib.Core.Path.{ap, ◌∙◌}
-use Rattle.basics.specs.Lists.{padded}
-use Rattle.spans.specs.Spans.{most_spans}
-use Rattle.spans.proofs.Telling.{told_many}
-use Rattle.spans.proofs.Cleaning.{clean_start, clean_turn, clean_number, clean_ends}
+-- `spans::clean` meets its contract: the spans are put in one after another, then what is left of them is cleared. Assumes nothing.
+use Rattle.std.proofs.Common.{arith, sym, ◌∙◌}
+use Rattle.std.proofs.lemmas.Grind.{common_steps}
+use Rattle.spans.proofs.Cleaning.{give_put, give_empty, give_all, give_number, cleared}
+use Rattle.spans.proofs.clean.Goals.{then-span, else-span}
 use Rattle.spans.proofs.clean.Goals as goal
 
-pub loop-i-init : goal.loop-i-init
-loop-i-init c = clean_start _ _ _ c.requires.1
+pub loop-at-preserved : goal.loop-at-preserved
+loop-at-preserved c =
+    elim c.if-span.branch [
+      | then-span w ↦
+          let e = w.put_in-kept.ensures in
+          let g = give_put c.loop-at.spans w.put_in-kept.new.spans c.loop-at.kept w.put_in-kept.result c.loop-at.at c.args.count
+          (omega arith) (omega arith) (omega arith) w.if-span.true e.list_after e.rest_unchanged in
+          grind arith
+      | else-span w ↦ grind (arith, common_steps, give_empty)
+    ]
 
-pub loop-i-preserved : goal.loop-i-preserved
-loop-i-preserved c =
-    let e = c.add_to-kept.ensures in
-    clean_turn c.loop-i.invariant _ _ _ (omega arith) (omega (arith, told_many c.requires.1)) e.number e.list_after e.rest_unchanged e.long
+pub returns-clause-value : goal.returns-clause-value
+returns-clause-value c = give_number _ _ _ _ _ (omega arith) (omega arith) c.loop-at.invariant.same
 
-pub returns : goal.returns
-returns c =
-    let w = c.loop-i.invariant in
-    let e = clean_ends w (omega arith) in
-    record {
-      value = clean_number w (omega arith);
-      lows_after = c.clear_after.ensures ∙ ap (padded most_spans 0) e.0;
-      highs_after = c.clear_after-2.ensures ∙ ap (padded most_spans 0) e.1;
-    }
+pub returns-clause-list_after : goal.returns-clause-list_after
+returns-clause-list_after c =
+    let kept = sym (give_all _ _ _ _ (omega arith)) ∙ c.loop-at.invariant.same in
+    cleared _ _ _ _ (omega arith) (omega arith) kept (c.fill.ensures.after (λ y h. h))

@@ -1,30 +1,28 @@
 -- `tree::grow` meets its contract: the runs taken, with those still to be taken, are all. Assumes nothing.
+use mathlib.Core.Path.{◌≡◌, sym, ◌∙◌}
 use native.Mathlib.Omega.{arith}
-use borrow.Author.Tests.{not-true, not-false}
-use Rattle.tree.specs.Offers.{}
+use Rattle.tree.specs.Trees.{most_runs}
 use Rattle.tree.proofs.Going.{ready, far_low, going_turn, going_stop, going_end}
 use Rattle.tree.proofs.Result.{going_first}
 use Rattle.tree.proofs.grow.Goals as goal
 
 pub loop-count-init : goal.loop-count-init
 loop-count-init c =
-    going_first c.args.xs.now c.args.ys.now c.args.there.now c.args.first c.requires.1 c.requires.2
+    rw c.are_there-waits.ensures (going_first c.args.spots.now (omega arith) c.args.first c.requires.1)
 
-pub next_offer-next-requires : goal.next_offer-next-requires
-next_offer-next-requires c = ready c.requires.0 c.loop-count.invariant
+pub next_offer-requires : goal.next_offer-requires
+next_offer-requires c = ready c.requires.0 c.loop-count.invariant
 
-pub returns-then-not-next : goal.returns-then-not-next
-returns-then-not-next c =
-    going_stop c.requires.0 c.loop-count.invariant c.next_offer-next.result c.next_offer-next.ensures.value (not-true _ c.if-not-next.true)
+pub returns-in_default : goal.returns-in_default
+returns-in_default c = going_stop c.requires.0 c.loop-count.invariant (sym c.next_offer.ensures.value ∙ c.in_default.is)
 
-pub bounds-waits-far : goal.bounds-waits-far
-bounds-waits-far c =
-    far_low c.requires.0 c.loop-count.invariant c.next_offer-next.result c.next_offer-next.ensures.value (not-false _ c.if-not-next.false)
+pub bounds-waits-next : goal.bounds-waits-next
+bounds-waits-next c = far_low c.requires.0 c.loop-count.invariant c.in-Some.next (sym c.next_offer.ensures.value ∙ c.in-Some.is)
 
 pub loop-count-preserved : goal.loop-count-preserved
-loop-count-preserved c =
-    going_turn c.requires.0 c.loop-count.invariant c.next_offer-next.result c.next_offer-next.ensures.value _ c.next_offer-next.ensures.near_after
-    (not-false _ c.if-not-next.false)
+loop-count-preserved c = going_turn c.requires.0 c.loop-count.invariant c.in-Some.next (sym c.next_offer.ensures.value ∙ c.in-Some.is) _ c.next_offer.ensures.near_after
 
 pub returns : goal.returns
-returns c = going_end c.loop-count.invariant (omega arith)
+returns c =
+    let e : c.loop-count.count ≡ most_runs = omega arith in
+    rw e at (going_end c.loop-count.invariant (omega arith))

@@ -1,30 +1,18 @@
--- `writemap::bytes_needed` meets its contract. The loop's invariant: the bytes so far and those of the pins from `i` on are all.
--- The measure is how many pins those are. Assumes nothing.
-use Prim.Native.Nat.{◌<◌, ◌≤◌}
-use native.Mathlib.Omega.{arith}
-use lib.ListN.{length, get_or}
-use Rattle.drawing.specs.Pins.{absent}
-use Rattle.pinmap.proofs.Sizes.{size_range}
-use Rattle.writemap.proofs.Written.{counted_start, counted_next, counted_end, pin_length}
+-- `writemap::bytes_needed` meets its contract: a record for each pin that is there. Assumes nothing.
+use mathlib.Core.Path.{ap, sym, ◌∙◌}
+use Prim.Native.Nat.{◌*◌}
+use Rattle.std.proofs.Common.{rules}
+use Rattle.std.specs.Prelude.{is_some}
+use Rattle.std.proofs.lemmas.Iterator.{YieldsList-from_slice}
+use Rattle.std.proofs.lemmas.Iterator.Consumers.{YieldsList-from_filter, count_from_yields_List}
+use Rattle.pinmap.specs.Map.{record_size}
+use Rattle.writemap.specs.Map.{map_of}
+use Rattle.writemap.proofs.Written.{map_count}
 use Rattle.writemap.proofs.bytes_needed.Goals as goal
 
-pub loop-i-init : goal.loop-i-init
-loop-i-init c = counted_start _ _
-
-pub bytes_of-bytes-requires : goal.bytes_of-bytes-requires
-bytes_of-bytes-requires c = tt
-
-pub overflow_add-bytes : goal.overflow_add-bytes
-overflow_add-bytes c =
-    let A = c.args.form in
-    omega (arith, pin_length A 0 0 (get_or c.args.pins c.loop-i.i absent), size_range A, c.bytes_of-bytes.ensures 0 0)
-
-pub loop-i-preserved : goal.loop-i-preserved
-loop-i-preserved c =
-    let h : c.loop-i.i < length c.args.pins = omega arith in
-    counted_next _ _ _ _ c.loop-i.invariant h (omega arith) c.bytes_of-bytes.ensures
-
 pub returns : goal.returns
+unfolding map_of
 returns c =
-    let h : length c.args.pins ≤ c.loop-i.i = omega arith in
-    counted_end _ _ _ _ c.loop-i.invariant h
+    let e = count_from_yields_List _ _ c.count-there.ensures.ran
+    (YieldsList-from_filter _ is_some (YieldsList-from_slice c.args.pins.now cc) c.filter.ensures.closure (λ x b q k. search rules)) in
+    λ job. rw c.record_bytes.ensures (ap (λ n. n * record_size c.args.form) e) ∙ sym (map_count c.args.form job 0 c.args.pins.now)

@@ -1,35 +1,27 @@
--- `writemap::write_records` meets its contract. The loop's invariant: storing the records of the pins from `i` on gives what storing the map gives.
--- The measure is how many pins those are. Assumes nothing.
-use Prim.Native.Nat.{◌<◌, ◌≤◌}
+-- `writemap::write_records` meets its contract. The loop's invariant: storing the records of the pins from `number` on gives what storing the map gives.
+-- Assumes nothing.
 use native.Mathlib.Omega.{arith}
-use lib.ListN.{length}
 use Rattle.writemap.proofs.Written.{storing_start, storing_room, storing_next, storing_end, net_at}
 use Rattle.writemap.proofs.write_records.Goals as goal
 
-pub loop-i-init : goal.loop-i-init
-loop-i-init c = storing_start _ _ _ _ c.requires.0
+pub loop-number-init : goal.loop-number-init
+loop-number-init c = storing_start _ _ _ _ c.requires.0
 
 pub write_pin-at-requires : goal.write_pin-at-requires
 write_pin-at-requires c =
     let A = c.args in
-    let L = c.loop-i in
-    let h : L.i < length A.pins = omega arith in
-    (storing_room A.form A.job A.pins A.buffer.now L.buffer L.at L.i L.invariant h, omega arith, net_at A.pins L.i c.requires.1)
+    let L = c.loop-number in
+    (storing_room A.form A.job A.pins.now A.buffer.now L.buffer L.at L.number L.invariant (omega arith), omega arith, net_at A.pins.now L.number c.requires.1)
 
-pub loop-i-preserved : goal.loop-i-preserved
-loop-i-preserved c =
+pub loop-number-preserved : goal.loop-number-preserved
+loop-number-preserved c =
     let A = c.args in
-    let L = c.loop-i in
-    let h : L.i < length A.pins = omega arith in
+    let L = c.loop-number in
     let e = c.write_pin-at.ensures in
-    storing_next A.form A.job A.pins A.buffer.now L.buffer L.at L.i L.invariant h (omega arith) e.value e.buffer_after
-
-pub shape_of-buffer : goal.shape_of-buffer
-shape_of-buffer c = c.loop-i.invariant.same
+    storing_next A.form A.job A.pins.now A.buffer.now L.buffer L.at L.number L.invariant (omega arith) e.value e.buffer_after
 
 pub returns : goal.returns
 returns c =
     let A = c.args in
-    let L = c.loop-i in
-    let h : length A.pins ≤ L.i = omega arith in
-    storing_end A.form A.job A.pins A.buffer.now L.buffer L.at L.i L.invariant h c.requires.0
+    let L = c.loop-number in
+    storing_end A.form A.job A.pins.now A.buffer.now L.buffer L.at L.number L.invariant (omega arith) c.requires.0

@@ -1,7 +1,7 @@
 -- `play::to_hear` meets its contract. Assumes nothing.
-use Rattle.std.proofs.Common.{◌≡◌, ℕ, ◌<◌, ◌≤◌, List, length, take, set, sym, arith, length-set, length-take-le, ne_eqb}
+use Rattle.std.proofs.Common.{◌≡◌, ◌∙◌, ℕ, ◌≤◌, List, length, take, sym, arith, length-take-le, ne_eqb}
 use Rattle.basics.proofs.Tests.{choose_no}
-use Rattle.play.proofs.Ended.{ended_within, ended_window}
+use Rattle.play.proofs.Ended.{ended_by}
 use Rattle.play.proofs.windows.to_hear.Goals as goal
 
 -- Bytes that a window has are counted in it.
@@ -13,12 +13,5 @@ returns-then-came-ne0 c =
     let n = ne_eqb c.args.came 0 c.if-came-ne0.true in
     record { value = sym (choose_no _ _ n); window_after = sym (choose_no _ _ n); in_bounds = counts _ _ c.requires.0 }
 
-pub returns : goal.returns
-returns c =
-    let e : c.args.came ≡ 0 = omega arith in
-    let n : 0 < length c.args.line.now = omega arith in
-    record {
-      value = ended_within _ e n;
-      window_after = ended_window _ e;
-      in_bounds = counts 1 (set c.args.window.now 0 10) (omega (arith, length-set c.args.window.now 0 10, c.requires.1));
-    }
+pub returns-clause-value : goal.returns-clause-value
+returns-clause-value c = c.from.ensures ∙ ended_by c.args.line.now c.is_empty.result (omega arith) c.is_empty.ensures

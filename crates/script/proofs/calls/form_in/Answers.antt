@@ -1,10 +1,8 @@
--- `script::form_in` meets its contract. Assumes nothing.
-use mathlib.Core.Path.{sym, ◌∙◌}
-use Rattle.script.proofs.Asking.{form_old, form_new}
+-- `script::calls::form_in` meets its contract. Assumes nothing.
+use Rattle.std.proofs.Common.{sym}
+use Rattle.basics.proofs.Tests.{choose_no}
+use Rattle.script.proofs.Asking.{form_none}
 use Rattle.script.proofs.calls.form_in.Goals as goal
 
-pub returns-then-same : goal.returns-then-same
-returns-then-same c = form_old _ (sym c.same.ensures ∙ c.if-same.true)
-
-pub returns : goal.returns
-returns c = form_new _ (sym c.same.ensures ∙ c.if-same.false)
+pub returns-in_default-2 : goal.returns-in_default-2
+returns-in_default-2 c = sym (choose_no _ _ (form_none c.args.name.now (rw c.in_default.is at c.from_utf8.ensures.cases).0))

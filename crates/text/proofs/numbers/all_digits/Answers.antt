@@ -1,32 +1,14 @@
--- `text::all_digits` meets its contract. Assumes nothing.
-use mathlib.Core.Path.{ap}
-use mathlib.Core.Bool.{not}
-use mathlib.Core.Path.{refl, sym, ◌∙◌}
-use native.Mathlib.Omega.{arith}
-use lib.ListN.{drop_of_length-le}
-use Rattle.basics.proofs.Lists.{front}
-use Rattle.basics.proofs.Anyone.{each_next, each_stop, each_end}
+-- `text::numbers::all_digits` meets its contract. Assumes nothing.
+use Rattle.std.proofs.Common.{◌∙◌, rules, tests}
+use Rattle.std.proofs.lemmas.Iterator.{YieldsList-from_slice}
+use Rattle.std.proofs.lemmas.Iterator.Search.{all_from_yields_List}
+use Rattle.std.specs.Char.{is_ascii_digit}
 use Rattle.text.specs.Numbers.{is_digit}
-use borrow.Author.Tests.{not-true, not-false}
+use Rattle.text.proofs.Library.{all_each}
+use Rattle.text.proofs.Values.{digit_same}
 use Rattle.text.proofs.numbers.all_digits.Goals as goal
 
-pub loop-i-init : goal.loop-i-init
-loop-i-init c = (omega arith, refl)
-
-pub returns-then-not-is_digit : goal.returns-then-not-is_digit
-returns-then-not-is_digit c =
-    sym
-    (c.loop-i.invariant.1
-    ∙ each_stop (front 0 _ c.loop-i.i c.loop-i-test.true) is_digit
-    c.is_digit.ensures (not-true c.is_digit.result (ap not c.if-not-is_digit.true)))
-
-pub loop-i-preserved : goal.loop-i-preserved
-loop-i-preserved c = (
-  omega arith,
-  c.loop-i.invariant.1
-      ∙ each_next (front 0 _ c.loop-i.i c.loop-i-test.true) is_digit
-      c.is_digit.ensures (not-false c.is_digit.result (ap not c.if-not-is_digit.false)),
-)
-
 pub returns : goal.returns
-returns c = sym (c.loop-i.invariant.1 ∙ each_end (drop_of_length-le c.args.word.now c.loop-i-test.false) is_digit)
+returns c =
+    all_from_yields_List is_ascii_digit _ _ c.all.result c.all.ensures.ran (YieldsList-from_slice _ c.iter.ensures.rest) (λ x b q k. search (rules, tests))
+    ∙ all_each is_digit is_ascii_digit digit_same c.args.word.now

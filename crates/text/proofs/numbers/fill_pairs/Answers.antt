@@ -1,32 +1,24 @@
--- `text::fill_pairs` meets its contract. Assumes nothing.
-use mathlib.Core.Path.{refl, ◌∙◌}
-use native.Mathlib.Omega.{arith}
-use Rattle.text.proofs.Steps.{fill_more, fill_done}
-use Rattle.text.proofs.Values.{bytes_next, bytes_end}
-use Rattle.text.specs.Numbers.{bytes_of}
+-- `text::numbers::fill_pairs` meets its contract. Assumes nothing.
+use Rattle.std.proofs.Common.{◌/◌, ◌∙◌, refl, sym, ap, map as each, length, List, [], ℕ, arith}
+use Rattle.std.proofs.lemmas.List.{length-map}
+use Rattle.text.specs.Text.{over}
+use Rattle.text.proofs.Steps.{map_more, map_done}
+use Rattle.text.proofs.Values.{pair_byte, bytes_pairs}
 use Rattle.text.proofs.numbers.fill_pairs.Goals as goal
 
-pub loop-at-init : goal.loop-at-init
-loop-at-init c = (omega arith, omega arith, refl)
+pub loop-i-preserved : goal.loop-i-preserved
+loop-i-preserved c =
+    map_more pair_byte [] c.as_chunks.result.0.now c.args.map.now c.loop-i.i c.loop-i.invariant (omega arith) c.joined.ensures
 
-pub loop-at-preserved : goal.loop-at-preserved
-loop-at-preserved c =
-    let s = c.args in
-    let at = c.loop-at.at in
-    let more = c.loop-at-test.true in (
-      omega arith,
-      omega
-          (arith, (fill_more 0 (bytes_of s.word.now) s.map.now at (bytes_next s.word.now at more)).1),
-      rw (c.loop-at.invariant.2, c.joined.ensures)
-          (fill_more 0 (bytes_of s.word.now) s.map.now at (bytes_next s.word.now at more)).0,
-    )
+pub returns-clause-value : goal.returns-clause-value
+returns-clause-value c =
+    let w = c.args.word.now in
+    let e = ap (each pair_byte) c.as_chunks.ensures.front ∙ bytes_pairs w (length w / 2) refl in
+    (sym (length-map c.as_chunks.result.0.now pair_byte) ∙ ap length e, omega (arith, c.as_chunks.ensures.front_len))
 
-pub returns : goal.returns
-returns c =
-    let s = c.args in
-    let at = c.loop-at.at in
-    let inv = c.loop-at.invariant in record {
-      value = ((fill_done (bytes_of s.word.now) s.map.now at inv.1 (bytes_end s.word.now at c.loop-at-test.false)).0, omega arith);
-      map_after = inv.2
-          ∙ (fill_done (bytes_of s.word.now) s.map.now at inv.1 (bytes_end s.word.now at c.loop-at-test.false)).1;
-    }
+pub returns-clause-map_after : goal.returns-clause-map_after
+returns-clause-map_after c =
+    let w = c.args.word.now in
+    let e = ap (each pair_byte) c.as_chunks.ensures.front ∙ bytes_pairs w (length w / 2) refl in
+    map_done pair_byte [] c.as_chunks.result.0.now c.args.map.now c.loop-i.i c.loop-i.invariant (omega arith)
+    ∙ ap (λ (l : List ℕ). over l c.args.map.now) e

@@ -1,13 +1,8 @@
--- `text::fill_pairs` meets its contract. Assumes nothing.
+use Rattle.std.proofs.Common.{◌≡◌, map as each, take}
 use Rattle.text.specs.Text.{over}
-use mathlib.Core.Path.{◌≡◌}
-use Prim.Native.Nat.{◌≤◌, ◌-◌, ◌*◌}
-use lib.ListN.{length, take}
-use Rattle.text.specs.Numbers.{bytes_of}
+use Rattle.text.proofs.Values.{pair_byte}
 use Rattle.text.proofs.numbers.fill_pairs.Given as goal
 
-abbrev pub invariant-loop-at : goal.invariant-loop-at
-invariant-loop-at l = (l.at * 2 ≤ length l.word) × (l.at ≤ length (bytes_of l.word)) × (l.map ≡ over (take l.at (bytes_of l.word)) l.initial.map)
-
-abbrev pub decreases-loop-at : goal.decreases-loop-at
-decreases-loop-at l = length l.word - l.at * 2
+-- The bytes of the pairs gone through are stored from the start on.
+abbrev pub invariant-loop-i : goal.invariant-loop-i
+invariant-loop-i l = l.map ≡ over (take l.i (each pair_byte l.pairs)) l.initial.map

@@ -1,32 +1,21 @@
--- `text::put_hex` meets its contract. Assumes nothing.
-use mathlib.Core.Path.{refl, ◌∙◌, ap}
-use Prim.Native.Nat.{ℕ}
-use native.Mathlib.Omega.{arith}
-use mathlib.Core.List.{List}
-use Rattle.text.proofs.Printing.{hex-length, hex_more}
-use lib.Seq.{sets, take_all}
+-- `text::put::put_hex` meets its contract. Assumes nothing.
+use Rattle.std.proofs.Common.{arith, refl, ◌∙◌}
 use Rattle.text.specs.Digits.{hex}
+use Rattle.text.proofs.Printing.{hex-length, hex_more}
 use Rattle.text.proofs.put.put_hex.Goals as goal
 
-pub loop-i-init : goal.loop-i-init
+pub loop-b-init : goal.loop-b-init
 unfolding hex
-loop-i-init c = (omega arith, refl)
+loop-b-init c = record { far = omega arith; put = refl }
 
-pub loop-i-preserved : goal.loop-i-preserved
-loop-i-preserved c =
-    let s = c.args in (
-      omega arith,
-      rw
-          (c.loop-i.invariant.1, c.hex_digit.ensures, c.hex_digit-in-loop-i.ensures)
-          (hex_more s.out.now s.bytes.now s.at c.loop-i.i
-          c.loop-i-test.true),
-    )
-
-pub returns : goal.returns
-returns c =
-    let s = c.args in record {
-      value = (omega (arith, hex-length s.bytes.now), refl);
-      out_after = c.loop-i.invariant.1
-          ∙ ap (λ (l : List ℕ). sets s.out.now s.at (hex l))
-          (take_all c.loop-i.i s.bytes.now c.loop-i-test.false);
+pub loop-b-preserved : goal.loop-b-preserved
+loop-b-preserved c =
+    let l = c.loop-b in record {
+      far = omega (arith, c.put-next.ensures.value);
+      put = c.put-next.ensures.out_after
+          ∙ hex_more c.args.out.now c.args.bytes.now c.args.at l.b-index c.loop-b-test.true l.invariant.far l.invariant.put
+          c.hex_digit.ensures c.hex_digit-in-loop-b.ensures;
     }
+
+pub returns-clause-value : goal.returns-clause-value
+returns-clause-value c = omega (arith, hex-length c.args.bytes.now)

@@ -1,13 +1,9 @@
--- `text::put_hex` meets its contract. Assumes nothing.
-use mathlib.Core.Path.{◌≡◌}
-use Prim.Native.Nat.{◌≤◌, ◌-◌}
-use lib.ListN.{length, take}
-use lib.Seq.{sets}
+-- `text::put::put_hex` meets its contract. Assumes nothing.
+use Rattle.std.proofs.Common.{◌≡◌, ◌+◌, ◌*◌, take}
+use Rattle.std.proofs.lemmas.List.Edits.{sets}
 use Rattle.text.specs.Digits.{hex}
 use Rattle.text.proofs.put.put_hex.Given as goal
 
-abbrev pub invariant-loop-i : goal.invariant-loop-i
-invariant-loop-i l = (l.i ≤ length l.bytes) × (l.out ≡ sets l.initial.out l.at (hex (take l.i l.bytes)))
-
-abbrev pub decreases-loop-i : goal.decreases-loop-i
-decreases-loop-i l = length l.bytes - l.i
+-- The digits of the bytes gone through are put, two for each.
+abbrev pub invariant-loop-b : goal.invariant-loop-b
+invariant-loop-b l = record { far : l.next ≡ l.at + l.b-index * 2; put : l.out ≡ sets l.initial.out l.at (hex (take l.b-index l.bytes)) }

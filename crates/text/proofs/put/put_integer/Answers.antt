@@ -1,10 +1,7 @@
--- `text::put_integer` meets its contract. Assumes nothing.
+-- `text::put::put_integer` meets its contract. Assumes nothing.
+use Rattle.std.proofs.Common.{◌∙◌, ap, ◌++◌, ℕ, arith}
 use lib.IntN.{nat_abs}
 use Rattle.board.proofs.Signed.{held}
-use mathlib.Core.Path.{◌∙◌, ap}
-use mathlib.Core.List.{◌++◌}
-use Prim.Native.Nat.{ℕ}
-use native.Mathlib.Omega.{arith}
 use Rattle.text.proofs.Printing.{then_put, put_as, integer-below, integer_above}
 use Rattle.text.specs.Text.{text}
 use Rattle.text.specs.Digits.{decimal, integer}
@@ -16,7 +13,7 @@ returns-then-z-lt0 c =
     let f = c.ranges.z in
     let p = c.put-next in
     let b = c.put_field.ensures in
-    let z = c.magnitude.ensures ∙ ap nat_abs (held s.z f.sfits) in
+    let z = c.unsigned_abs-from_zero.ensures.value ∙ ap nat_abs (held s.z f.sfits) in
     let h =
     then_put s.out.now s.at s.label.now (integer s.z) (p.ensures.value, p.ensures.out_after)
     (put_as p.new.out p.result
@@ -30,7 +27,7 @@ returns c =
     let f = c.ranges.z in
     let p = c.put-next in
     let b = c.put_decimal.ensures in
-    let z = c.magnitude-2.ensures ∙ ap nat_abs (held s.z f.sfits) in
+    let z = c.unsigned_abs-from_zero.ensures.value ∙ ap nat_abs (held s.z f.sfits) in
     let h =
     then_put s.out.now s.at s.label.now (integer s.z) (p.ensures.value, p.ensures.out_after)
     (put_as p.new.out p.result (ap (λ (n : ℕ). decimal n) z ∙ integer_above s.z f c.if-z-lt0.false) (b.value.0, b.out_after)) in

@@ -1,30 +1,18 @@
--- `text::count_words` meets its contract. Assumes nothing.
-use native.Mathlib.Omega.{arith}
+-- `text::words::count_words` meets its contract. Assumes nothing.
+use Rattle.std.proofs.Common.{◌∙◌, ap, eqb, length, rules, tests}
+use Rattle.std.proofs.lemmas.Iterator.Consumers.{count_from_yields_List, YieldsList-from_filter, YieldsList-at}
+use Rattle.std.proofs.lemmas.Iterator.Splits.{YieldsList-from_slice_split}
 use Rattle.text.specs.Words.{space}
-use Rattle.text.proofs.Cutting.{stop_within, count_start, count_more, count_done}
+use Rattle.text.proofs.Library.{holds_some, split_words}
 use Rattle.text.proofs.words.count_words.Goals as goal
 
-pub loop-from-init : goal.loop-from-init
-loop-from-init c = count_start _ c.start_at-from.ensures
-
-pub stop_at-to-requires : goal.stop_at-to-requires
-stop_at-to-requires c = c.loop-from.invariant.within
-
-pub start_at-from-requires-in-loop-from : goal.start_at-from-requires-in-loop-from
-start_at-from-requires-in-loop-from c = rw c.stop_at-to.ensures (stop_within space _ _ c.loop-from.invariant.within)
-
-pub overflow_add-count : goal.overflow_add-count
-overflow_add-count c = omega (arith, c.loop-from.invariant.bytes)
-
-pub loop-from-smaller : goal.loop-from-smaller
-loop-from-smaller c =
-    let l = c.loop-from in
-    omega (arith, (count_more _ l.invariant c.loop-from-test.true c.stop_at-to.ensures c.start_at-from-in-loop-from.ensures).1)
-
-pub loop-from-preserved : goal.loop-from-preserved
-loop-from-preserved c =
-    let l = c.loop-from in
-    (count_more _ l.invariant c.loop-from-test.true c.stop_at-to.ensures c.start_at-from-in-loop-from.ensures).0
-
 pub returns : goal.returns
-returns c = count_done _ c.loop-from.invariant c.loop-from-test.false
+returns c =
+    let text = c.args.text.now in
+    count_from_yields_List c.filter.result _ c.count.ensures.ran
+    (YieldsList-from_filter _ holds_some
+    (YieldsList-at c.filter.ensures.source
+    (YieldsList-from_slice_split _ (λ b. eqb b space) text c.split.ensures.rest c.split.ensures.done c.split.ensures.closure (λ x b q k. search (rules, tests))))
+    c.filter.ensures.closure
+    (λ x b q k. search (rules, tests)))
+    ∙ ap length (split_words text)

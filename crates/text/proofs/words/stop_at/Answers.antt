@@ -1,20 +1,20 @@
--- `text::stop_at` meets its contract. Assumes nothing.
-use Rattle.std.proofs.Common.{refl, sym, ◌∙◌, arith}
-use Rattle.text.proofs.Cutting.{stop_here, stop_next, stop_end}
+-- `text::words::stop_at` meets its contract. Assumes nothing.
+use Rattle.std.proofs.Common.{◌∙◌, ◌+◌, ap, ℕ, Option, unwrap_or, drop, length, eqb, rules, tests}
+use Rattle.std.proofs.lemmas.Iterator.{YieldsList-from_slice}
+use Rattle.std.proofs.lemmas.Iterator.Search.{position_from_yields_List}
+use Rattle.text.specs.Words.{stop_at}
+use Rattle.text.proofs.Library.{found_index, rest_from}
 use Rattle.text.proofs.words.stop_at.Goals as goal
 
-pub loop-i-init : goal.loop-i-init
-loop-i-init c = (c.requires, refl)
-
-pub returns-then-text-i : goal.returns-then-text-i
-returns-then-text-i c =
-    stop_here _ c.args.separator c.loop-i.i c.loop-i-test.true c.if-text-i.true ∙ sym c.loop-i.invariant.1
-
-pub loop-i-preserved : goal.loop-i-preserved
-loop-i-preserved c = (
-  omega arith,
-  c.loop-i.invariant.1 ∙ stop_next _ c.args.separator c.loop-i.i c.loop-i-test.true c.if-text-i.false,
-)
-
 pub returns : goal.returns
-returns c = stop_end c.args.text.now c.args.separator c.loop-i.i c.loop-i-test.false ∙ sym c.loop-i.invariant.1
+unfolding stop_at
+returns c =
+    let at = c.args.at in
+    let s = c.args.separator in
+    let rest = drop at c.args.text.now in
+    let whole = rest_from at c.args.text.now in
+    let place = position_from_yields_List (λ b. eqb b s) _ _ c.position.result c.position.ensures.ran (YieldsList-from_slice _ c.iter.ensures.rest) (λ x b q k. search (rules, tests)) in
+    ap (λ (n : ℕ). at + n)
+    (rw whole at c.unwrap_or.ensures
+    ∙ ap (λ (o : Option ℕ). unwrap_or o (length rest)) (rw whole at place)
+    ∙ found_index s rest)

@@ -1,9 +1,8 @@
--- `text::without_return` meets its contract. Assumes nothing.
-use Rattle.text.proofs.Cutting.{end_whole}
+-- `text::words::without_return` meets its contract. Assumes nothing.
+use Rattle.std.proofs.Common.{◌∙◌, ap, List, ℕ}
+use Rattle.std.specs.Borrow.{Bor}
+use Rattle.text.proofs.Library.{stripped}
 use Rattle.text.proofs.words.without_return.Goals as goal
 
-pub slice_bounds-result-end : goal.slice_bounds-result-end
-slice_bounds-result-end c = end_whole _ c.end_of-end.ensures
-
 pub returns : goal.returns
-returns c = rw c.end_of-end.ensures
+returns c = ap (λ (x : Bor (List ℕ)). x.now) c.unwrap_or.ensures ∙ stripped c.args.line c.strip_suffix.result c.strip_suffix.ensures.cases

@@ -1,31 +1,22 @@
--- `text::word` meets its contract. Assumes nothing.
-use native.Mathlib.Omega.{arith}
+-- `text::words::word` meets its contract. Assumes nothing.
+use Rattle.std.proofs.Common.{◌∙◌, ap, refl, eqb, get_or, List, [], ℕ, rules, tests}
+use Rattle.std.specs.Borrow.{Bor}
+use Rattle.std.proofs.lemmas.Iterator.Consumers.{nth_from_yields_List, YieldsList-from_filter, YieldsList-at}
+use Rattle.std.proofs.lemmas.Iterator.Splits.{YieldsList-from_slice_split}
 use Rattle.text.specs.Words.{space}
-use Rattle.text.proofs.Cutting.{start_within, stop_within, stop_from, after-within, word_found}
+use Rattle.text.proofs.Library.{holds_some, split_words, got_word}
 use Rattle.text.proofs.words.word.Goals as goal
-
-pub start_at-from-requires : goal.start_at-from-requires
-start_at-from-requires c = rw c.after_words.ensures (after-within _ _)
-
-pub stop_at-to-requires : goal.stop_at-to-requires
-stop_at-to-requires c = rw c.start_at-from.ensures (start_within _ _ (rw c.after_words.ensures (after-within _ _)))
-
-pub slice_bounds-result-count : goal.slice_bounds-result-count
-slice_bounds-result-count c = rw c.stop_at-to.ensures (stop_from space _ _)
-
-pub slice_bounds-result-start : goal.slice_bounds-result-start
-slice_bounds-result-start c =
-    let text = c.args.text.now in
-    omega (arith, c.stop_at-to.ensures, stop_from space text c.start_at-from.result)
-
-pub slice_bounds-result-end : goal.slice_bounds-result-end
-slice_bounds-result-end c =
-    let text = c.args.text.now in
-    let at = c.after_words.result in
-    let start = start_within text at (rw c.after_words.ensures (after-within _ _)) in
-    omega (arith, c.stop_at-to.ensures, stop_within space text c.start_at-from.result (rw c.start_at-from.ensures start))
 
 pub returns : goal.returns
 returns c =
-    word_found _ c.args.number c.after_words.ensures
-    c.start_at-from.ensures c.stop_at-to.ensures
+    let text = c.args.text.now in
+    let k = c.args.number in
+    ap (λ (x : Bor (List ℕ)). x.now) c.unwrap_or.ensures
+    ∙ got_word c.nth.result _ _ k refl
+    (nth_from_yields_List c.nth.result _ k c.nth.ensures.ran
+    (YieldsList-from_filter _ holds_some
+    (YieldsList-at c.filter.ensures.source
+    (YieldsList-from_slice_split _ (λ b. eqb b space) text c.split.ensures.rest c.split.ensures.done c.split.ensures.closure (λ x b q k. search (rules, tests))))
+    c.filter.ensures.closure
+    (λ x b q k. search (rules, tests))))
+    ∙ ap (λ (l : List (List ℕ)). get_or l k []) (split_words text)

@@ -1,0 +1,2 @@
+-- What the functions that try edits share.
+mod Trying
