@@ -2,7 +2,7 @@
 """Counts the places of docs/DESIGN-PASS.md in crates/*/src/*.rt, point by point, and lists them with --list: python3 tools/design_places.py [--list] [TREE].
 
 Comments are left out. A place is what one regular expression finds, or one function of a list of names; both stand below, so that a reader can look for each
-by hand. At a commit: git worktree add /tmp/tree COMMIT, then this script with /tmp/tree.
+by hand. At a commit: git worktree add DIR COMMIT, then this script with DIR.
 """
 import glob
 import os

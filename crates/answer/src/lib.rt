@@ -1,4 +1,5 @@
 // One line of a log answered on a desk: the desk that follows, and the text to be printed.
+// The lent buffer is a parameter of its own, for the reason that text/put has.
 #![tactic(auto)]
 
 ghost use Rattle.std.specs.Prelude.{◌≡◌, ◌≤◌, length};
@@ -10,12 +11,12 @@ ghost use Rattle.text.specs.Text.{over, most_room, answer_bytes, Holds};
 ghost use Rattle.script.specs.Said.{map_given, xs_given, ys_given, favour_given, sheet_given, loads_given};
 ghost use Rattle.printed.specs.Answers.{verdict_line, lost_line};
 ghost use Rattle.shown.specs.Shown.{laid_text, cut_text};
-ghost use Rattle.answer.specs.Answered.{played, call_text, lent_bytes, written_text, writing_text, moving_text, is_not_open, seat_text, answered};
+ghost use Rattle.answer.specs.Answered.{played, call_text, lent_bytes, written_text, writing_text, moving_text, seat_text, answered};
 
 use desk::{Answered, Desk};
 use pinmap::Form;
 use printed::{print_closed, print_drops, print_not_a_call, print_verdict, print_written};
-use refusal::{Refusal, Verdict};
+use refusal::Refusal;
 use script::Said;
 use shown::{print_cut, print_drawn, print_laid};
 use text::{ANSWER_BYTES, MOST_NUMBERS, MOST_PAIRS, MOST_ROOM};
@@ -74,7 +75,7 @@ fn write_into(desk: &Desk, seat: usize, buffer: &mut [u8], out: &mut [u8; ANSWER
     print_lent(written.answer, buffer, out)
 }
 
-// The most room that is lent, each byte holding EE.
+// The most room that is lent, each byte holding EE: what the room holds before a call. A function, since its clause names the definition lent_bytes.
 fn lent_bytes() -> [u8; MOST_ROOM]
     ensures { result ≡ lent_bytes most_room }
 {
@@ -168,33 +169,26 @@ fn drops(desk: &Desk, seat: usize, net: u32, line: &[u8], out: &mut [u8; ANSWER_
     print_drops(dropped.answer, out)
 }
 
-// Whether a verdict is 2: the seat is not open.
-fn is_not_open(verdict: Verdict) -> bool
-    ensures { result ≡ is_not_open verdict }
-{
-    verdict == Err(Refusal::NotOpen)
-}
-
 // Shows the drawing at a seat; 28 comes first, as for every call.
 fn show_pins(desk: &Desk, seat: usize, out: &mut [u8; ANSWER_BYTES]) -> usize
     ensures { Holds answer_bytes (seat_text desk.now seat) out.old result out.new }
 {
     let found = desk.find(seat);
     let verdict = rows::turned_naming(&found);
-    if is_not_open(verdict) {
-        return print_closed(out);
+    match verdict {
+        Err(Refusal::NotOpen) => print_closed(out),
+        Err(_) => print_verdict(verdict, out),
+        Ok(()) => {
+            let taken_back = found.state.taken_back_count(&desk.journal, seat);
+            print_drawn(
+                found.state.job,
+                &found.state.pins,
+                found.state.standing,
+                taken_back,
+                out,
+            )
+        }
     }
-    if verdict.is_err() {
-        return print_verdict(verdict, out);
-    }
-    let taken_back = found.state.taken_back_count(&desk.journal, seat);
-    print_drawn(
-        found.state.job,
-        &found.state.pins,
-        found.state.standing,
-        taken_back,
-        out,
-    )
 }
 
 // Answers the line of that number, without its newline.

@@ -72,6 +72,7 @@ pub fn drops(desk: Desk, seat: usize, net: u32, loads: &[Load; PINS], sheet: She
 }
 
 // Wires a net of the drawing at `seat` and fills a lent list with its legs, or says why not. Entries after the legs keep what they held.
+// Two calls fill a lent list, for wiring and for milling: each is promised by definitions of its own, and their bodies are three lines.
 pub fn wire_lent(desk: Desk, seat: usize, net: u32, legs: &mut [Leg], favour: Favour) -> WiredSeat
     ensures value { result ≡ wired_seat_of desk seat net legs.old favour }
     ensures legs_after { legs.new ≡ lent_of desk seat net legs.old favour }

@@ -1,4 +1,5 @@
 // Bare wiring: lists of x and y as a feed, what is turned away, and the wiring of the rest.
+// x and y are two lists, as they are lent: 16 is answered where they differ in length (bare/Bare: wrong_lengths).
 #![tactic(auto)]
 
 ghost use Rattle.std.specs.Prelude.{◌≡◌, length};

@@ -4,7 +4,7 @@
 pub mod spots;
 
 ghost use Rattle.std.specs.Prelude.{◌≡◌};
-ghost use Rattle.board.specs.Place.{on_board, inside, difference, closer, too_near};
+ghost use Rattle.board.specs.Place.{on_board, inside, difference, distance_of, closer, too_near};
 
 // x and y go from -LIMIT to LIMIT.
 pub const LIMIT: i32 = 60000;
@@ -43,6 +43,14 @@ pub fn apart(a: i32, b: i32) -> u64
     ensures { result ≡ difference a b }
 {
     u64::from(a.abs_diff(b))
+}
+
+// The distance of two places.
+#[tactic(auto, using(crate::proofs::Board::difference_below), unfolding(crate::specs::Place::distance_of))]
+pub fn distance(from: Place, to: Place) -> u64
+    ensures { result ≡ distance_of from to }
+{
+    apart(from.x, to.x) + apart(from.y, to.y)
 }
 
 // Whether two numbers differ by less than the least gap.

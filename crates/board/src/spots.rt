@@ -1,4 +1,6 @@
 // What stands at each pin number, and what the rules say of it.
+// Functions that ask that all spots are on the board, or none too near another, take the list as it is: a type for such lists would have to be built
+// from each drawing, bare list and map, where one test or the rules of a drawing show it.
 ghost use Rattle.std.specs.Prelude.{◌≡◌, Some};
 ghost use Rattle.board.specs.Spots.{place_at, within, spots_too_near, too_near_any, crowded, all_within, all_apart};
 
@@ -60,6 +62,7 @@ fn is_near_any(spot: Spot, spots: &[Spot]) -> bool
 }
 
 // Whether no two pins are too near each other.
+// A call of itself, as the definition no_two has it.
 #[tactic(auto, unfolding(basics::specs::Tests::no_two, basics::specs::Tests::both))]
 pub fn are_apart(spots: &[Spot]) -> bool
     ensures { result ≡ all_apart spots.now }

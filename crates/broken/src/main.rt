@@ -1,6 +1,9 @@
 // Tries 28 on desks broken by hand, one or more for each way that the rules list: every call on each of them, on the whole desk that they were made from, and on it with its unused parts changed.
 #![tactic(auto)]
 
+ghost use Rattle.std.specs.Prelude.{◌<◌};
+ghost use Rattle.journal.specs.Journal.{most_records};
+
 use board::{LIMIT, PINS, Place};
 use copper::Favour;
 use desk::{Answered, Desk};
@@ -78,11 +81,18 @@ fn pin_of_net_9() -> Desk {
     with_pin(Place { x: 100, y: 0 }, 9)
 }
 
+// The record of this number holds another edit of seat 0: 0 is the one that stands, 1 the one that is taken back.
+fn with_record(number: usize, edit: Edit) -> Desk
+    requires { number < most_records }
+{
+    let mut d = whole();
+    d.journal.records[number] = Record { seat: 0, edit };
+    d
+}
+
 // The edit that stands is another.
 fn with_standing(edit: Edit) -> Desk {
-    let mut d = whole();
-    d.journal.records[0] = Record { seat: 0, edit };
-    d
+    with_record(0, edit)
 }
 
 // The edit that stands placed pin 0 elsewhere.
@@ -120,9 +130,7 @@ fn standing_from_outside() -> Desk {
 
 // The edit that is taken back is another.
 fn with_taken_back(edit: Edit) -> Desk {
-    let mut d = whole();
-    d.journal.records[1] = Record { seat: 0, edit };
-    d
+    with_record(1, edit)
 }
 
 // The edit that is taken back places pin 1 too near to pin 0.

@@ -1,5 +1,5 @@
 -- Whether a run is straight, by tests of the bits of its ends. Assumes nothing.
-use Rattle.std.proofs.Common.{◌≡◌, ℕ, false, sym, ◌∙◌}
+use Rattle.std.proofs.Common.{◌≡◌, false, sym, ◌∙◌}
 use borrow.Author.Tests.{ne_eqb}
 use lib.Dec.{eqb}
 use mir.Syntax.{w32}

@@ -114,6 +114,7 @@ impl Desk {
 }
 
 // The calls. Each takes the desk as it stands and hands back the desk that follows, or the same desk with the number of a refusal.
+// What a call states are parameters of their own, as a host states them; and each body says what it hands back: a function for that would be no shorter.
 impl Desk {
     // Opens `seat` for a job with the drawing of a pin map of a form, or says why not.
     pub fn open(mut self, seat: usize, job: u16, form: Form, map: &[u8]) -> Answered

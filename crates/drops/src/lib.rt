@@ -4,7 +4,7 @@
 ghost use Rattle.std.specs.Prelude.{◌≡◌, true, ◌≤◌, ◌<◌, ◌*◌, IfSome};
 ghost use Rattle.basics.specs.Lists.{padded};
 ghost use Rattle.refusal.specs.Rows.{first_of, granted};
-ghost use Rattle.board.specs.Place.{limit, distance_of};
+ghost use Rattle.board.specs.Place.{limit};
 ghost use Rattle.board.specs.Spots.{all_within};
 ghost use Rattle.tree.specs.Trees.{most_runs};
 ghost use Rattle.loads.specs.Loads.{nought};
@@ -51,7 +51,8 @@ fn currents_of(runs: &[Run], loads: &[Load; PINS], sheet: Sheet) -> [f32; RUNS]
     ensures { result ≡ padded most_runs nought (currents_of (amps_at loads.now sheet) runs.now) }
 {
     let mut currents = [0.0f32; RUNS];
-    // Chains of numbers in two arrays: nothing is on a heap here, and so each current is added once, in run order.
+    // Chains of numbers in two arrays: nothing is on a heap here, and so each current is added once, in run order. The currents
+    // stand beside the runs, as currents_of (drops/Drops) has them in a list.
     let mut leading: [Option<usize>; PINS] = [None; PINS];
     let mut chain: [Option<usize>; RUNS] = [None; RUNS];
     for (at, run) in runs.iter().enumerate().rev() {
@@ -61,14 +62,6 @@ fn currents_of(runs: &[Run], loads: &[Load; PINS], sheet: Sheet) -> [f32; RUNS]
         leading[run.near] = Some(at);
     }
     currents
-}
-
-// The distance of two places.
-#[tactic(auto, using(board::proofs::Board::difference_below), unfolding(board::specs::Place::distance_of))]
-fn distance(from: Place, to: Place) -> u64
-    ensures { result ≡ distance_of from to }
-{
-    board::apart(from.x, to.x) + board::apart(from.y, to.y)
 }
 
 // The drop of a run: current times ohms per step, then times the distance, which an f32 holds without loss.
@@ -89,7 +82,7 @@ fn drop_between(spots: &[Spot; PINS], run: Run, current: f32, sheet: Sheet) -> f
 {
     let from = place_at(spots, run.near);
     let to = place_at(spots, run.far);
-    run_drop(current, sheet, distance(from, to))
+    run_drop(current, sheet, board::distance(from, to))
 }
 
 // The drops of the pins, run by run: a pin's drop is its near pin's plus that of the run.

@@ -61,6 +61,7 @@ pub fn pin_made(edit: Edit, pin: Pin) -> Pin
 }
 
 // The pin that an edit names, with the edit taken back.
+// What takes an edit back is what makes the reversed one. The three functions of it stay: they are public, and say what pin_unmade, unmade and takeable_at are.
 #[tactic(auto, using(crate::proofs::Reversing::reversed_pin, crate::proofs::Reversing::reversed_pin_made))]
 pub fn pin_unmade(edit: Edit, pin: Pin) -> Pin
     ensures { result ≡ pin_unmade edit (pin_of edit) pin }

@@ -11,8 +11,8 @@ use Rattle.std.specs.Prelude.{Result, Ok, Err, is_ok}
 use Rattle.refusal.specs.declared.Refusal.{Refusal}
 use Rattle.refusal.specs.Refusals.{accepted}
 use Rattle.basics.proofs.Tests.{choose_yes, choose_no, choose-same}
-use Rattle.writemap.specs.Map.{verdict_of}
-use Rattle.writemap.proofs.Written.{verdict_is}
+use Rattle.writemap.specs.Map.{verdict_of, bytes_of}
+use Rattle.writemap.proofs.Written.{verdict_is, refused_stays}
 use Rattle.journal.specs.declared.Record.{Record}
 use Rattle.journal.specs.Journal.{own}
 use Rattle.journal.proofs.Own.{own_other, other_added}
@@ -20,7 +20,8 @@ use Rattle.journal.proofs.Filled.{take-filled}
 use Rattle.seats.specs.declared.Seat.{Seat}
 use Rattle.desk.specs.declared.Desk.{Desk}
 use Rattle.rows.specs.Calls.{Call, seat_in, opening, closing, making, undoing, redoing, asking, Asking, writing}
-use Rattle.desk.specs.Desk.{no_seat, seat_of, in_use, edits_of, with_seat, with_records, edited, effect, answer_of, step}
+use Rattle.desk.specs.Desk.{no_seat, seat_of, in_use, edits_of, with_seat, with_records, edited, rows_at, effect, answer_of, step}
+use Rattle.asked.specs.Asked.{map_at}
 use Rattle.asked.specs.Asked.{written_of, buffer_of, wired_of}
 use Rattle.history.specs.AsPast.{Untouched}
 use Rattle.copper.specs.declared.Favour.{Favour}
@@ -98,11 +99,18 @@ pub written_verdict : (d : Desk) (s : ℕ) (buffer : List ℕ) → verdict_of (w
 unfolding written_of answer_of
 written_verdict d s buffer = verdict_is _ _
 
--- A refused writing leaves the lent buffer as it was, and answers the refusal and nothing else: no number of bytes.
-pub refused_leaves_the_buffer : (d : Desk) (s : ℕ) (buffer : List ℕ) (r : Refusal) → answer_of d (asking s (writing (length buffer))) ≡ Err r
-    → (buffer_of d s buffer ≡ buffer) × ((written_of d s buffer).answer ≡ Err r)
-unfolding written_of buffer_of answer_of accepted choose
-refused_leaves_the_buffer d s buffer r e = (rw e refl, rw e refl)
+-- A refused writing leaves the lent buffer as it was, and writes no bytes;
+pub refused_leaves_the_buffer : (d : Desk) (s : ℕ) (buffer : List ℕ) → is_ok (written_of d s buffer).answer ≡ false
+    → (buffer_of d s buffer ≡ buffer) × (bytes_of (written_of d s buffer).answer ≡ 0)
+unfolding written_of buffer_of
+refused_leaves_the_buffer d s buffer e =
+    let r = refused_stays (rows_at d (asking s (writing (length buffer)))) (map_at d s) buffer e in (r.1, r.0)
+
+-- and it answers the refusal.
+pub refused_writing_says_why : (d : Desk) (s : ℕ) (buffer : List ℕ) (r : Refusal) → answer_of d (asking s (writing (length buffer))) ≡ Err r
+    → (written_of d s buffer).answer ≡ Err r
+unfolding written_of answer_of
+refused_writing_says_why d s buffer r e = rw e refl
 
 -- Where one seat alone changes, or nothing does, the journal stays as it is.
 seat_alone_lem : (d : Desk) (s : ℕ) (r : Seat) (b : Bool) → (choose b (with_seat d s r) d).journal ≡ d.journal

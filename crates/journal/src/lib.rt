@@ -111,6 +111,7 @@ impl Journal {
     {
         let mut left = keep;
         let mut written = 0;
+        // By number: the loop writes to the list that it reads.
         for read in 0..self.used {
             let record = self.records[read];
             if record.seat == seat {

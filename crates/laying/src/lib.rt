@@ -1,4 +1,5 @@
 // Laying runs in copper: what the best shapes of the runs cost, the run entries that a mask of shapes gives, and the legs of these.
+// A shape is a bool, and so is the favoured one: upper_in, shaped_run and entries_in (laying/Reaching) and least_of_tree (least/Asking) are functions of a Bool.
 #![tactic(auto)]
 
 ghost use Rattle.std.specs.Prelude.{◌≡◌, ◌≤◌, ◌<◌, length};

@@ -158,7 +158,7 @@ impl Reached {
         tally.leading_on(upper, ends.near, ends.far)
     }
 
-    // The first run from number `from` on that leads on from a pin.
+    // The first run from number `from` on that leads on from a pin. By number: the answer is one, and the list before `from` is not read.
     #[tactic(auto, using(crate::proofs::Owning::own_hit, crate::proofs::Owning::own_past, crate::proofs::Owning::own_end))]
     fn own_from(&self, pin: usize, from: usize) -> Option<usize>
         ensures first { result ≡ own_from (near_pin self.now.near) (self.now.count - from) pin from }
@@ -173,7 +173,7 @@ impl Reached {
     }
 
     // What a pin costs with all below it, where it shows `tally`, the runs from number `from` on are to come, and runs cost what is kept for them:
-    // every choice of the shapes to come is weighed.
+    // every choice of the shapes to come is weighed. What the runs were asked is lent beside the tree: it is of the pin's own turn.
     fn weigh(&self, asked: &[Asked; RUNS], pin: usize, from: usize, tally: Tally) -> Least
         requires { Weighable asked.now tally }
         ensures { result ≡ least_kept (place_in self.now.places) (near_pin self.now.near) (kept asked.now) self.now.count pin from tally }
@@ -222,6 +222,7 @@ impl Reached {
     {
         let mut asked = [UNASKED; RUNS];
         let mut weighed = 0;
+        // By number: a run is asked by its number, and two lists are read at it.
         for run in pin..self.count {
             if self.near[run] == pin {
                 let far = self.run_best(favoured, run);

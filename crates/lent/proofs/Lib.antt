@@ -2,3 +2,4 @@
 pub mod Fitting
 pub mod Untouched
 pub mod Demand
+pub mod Filling

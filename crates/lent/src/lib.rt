@@ -9,7 +9,7 @@ use copper::Leg;
 use laying::Strip;
 use wiring::{Laid, Wiring};
 
-// The wiring of an answer, without its legs. A reader of the field needs no function for it today; it stays since it is public.
+// The wiring of an answer, without its legs. It stays since it is public; reading the field would do.
 pub fn wiring_of(laid: Laid) -> Wiring
     ensures { result ≡ laid.wiring }
 {
@@ -17,6 +17,7 @@ pub fn wiring_of(laid: Laid) -> Wiring
 }
 
 // The legs of an answer, with their number.
+// One function here and one in mill: they read other fields of other structs, and a trait for the two would be longer than both.
 pub fn strip_of(laid: Laid) -> Strip
     ensures { result ≡ strip_of laid }
 {

@@ -1,4 +1,5 @@
 // What the program wiremap answers to its input, as bytes in a lent buffer.
+// The lent buffer is a parameter of its own, for the reason that text/put has.
 #![tactic(auto)]
 
 ghost use Rattle.std.specs.Prelude.{◌≡◌, true, ◌≤◌, length, replicate};
@@ -25,6 +26,7 @@ use wiring::Laid;
 const MOST_READ: usize = (PINS + 1) * OLD_BYTES + 1;
 
 // Room for as much of the input as is enough to read.
+// A function, since MOST_READ is private: the program takes the array from here.
 pub fn window() -> [u8; MOST_READ]
     ensures { result ≡ replicate most_read 0 }
 {

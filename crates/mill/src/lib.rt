@@ -24,7 +24,7 @@ const WIDTH: usize = 131072;
 // The number where columns begin.
 const COLUMNS: usize = WIDTH * WIDTH;
 
-// The answer of milling: its verdict and the number of segments, side by side, since a refused answer has no segments (mill/Answer: cut_with).
+// The answer of milling: its verdict and the number of segments, side by side, since a refused answer has no segments (mill/Answer: cut_by).
 #[derive(Clone, Copy)]
 pub struct Milling {
     pub verdict: Verdict,
@@ -39,6 +39,7 @@ pub struct Cut {
 }
 
 // A number of the board, counted from the lowest.
+// No TryFrom: only numbers of the board are counted, and from the lowest of them (mill/Numbered: counted).
 #[tactic(auto, using(crate::proofs::Counting::count_sum, crate::proofs::Counting::count_fits))]
 fn count_of(z: i32) -> usize
     requires { on_board z ≡ true }
@@ -57,6 +58,7 @@ fn count_back(n: usize) -> i32
 }
 
 // The number of the step of a row that begins at a place.
+// Two functions for rows and columns: x and y change places, and the columns are numbered after the rows.
 #[tactic(auto, using(crate::proofs::Counting::place_read), unfolding(crate::specs::Numbered::row_number))]
 fn row_number(a: Place) -> usize
     requires { inside a ≡ true }
@@ -172,6 +174,7 @@ pub fn refused(verdict: Verdict) -> Cut
 }
 
 // The segments of an answer, with their number.
+// One function here and one in lent: they read other fields of other structs, and a trait for the two would be longer than both.
 pub fn strip_of(cut: Cut) -> Strip
     ensures { result ≡ strip_of_cut cut }
 {

@@ -1,4 +1,5 @@
 // A log of calls played on one desk: the input taken in window by window, each line answered where it ends, and its answer written.
+// The lent buffer is a parameter of its own, for the reason that text/put has.
 #![tactic(auto)]
 
 mod windows;
@@ -18,6 +19,7 @@ use text::ANSWER_BYTES;
 
 // A log in play: the desk as it stands, how many bytes of the line that is being read are kept, how many lines were played,
 // and whether the input has ended, a flag of its own: a log of which nothing is kept may go on.
+// The buffers are lent beside it, and how much of a line is kept is asked of each function, not of the type: a host may read every field, and `Played` says all.
 #[derive(Clone, Copy)]
 pub struct Session {
     pub desk: Desk,

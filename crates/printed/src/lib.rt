@@ -1,4 +1,5 @@
 // Answers printed into a lent buffer, a line each: from its start on, with the bytes printed told, or from a position on, with the position after them told.
+// The lent buffer is a parameter of its own, for the reason that text/put has.
 #![tactic(auto)]
 
 ghost use Rattle.std.specs.Prelude.{◌≡◌, ◌+◌, ◌*◌, ◌≤◌};
@@ -133,6 +134,7 @@ pub fn print_pin(
 {
     let one = put_field(out, at, b"pin ", pin);
     let two = put_place(out, one, b" ", place);
+    // Casts: no From makes a usize of a u32.
     let three = put_field(out, two, b" ", net as usize);
     let four = put_field(out, three, b" ", part as usize);
     put(out, four, b"\n")
@@ -155,6 +157,7 @@ fn put_carried(out: &mut [u8; ANSWER_BYTES], at: usize, carried: Option<usize>) 
 fn print_told(told: Told, out: &mut [u8; ANSWER_BYTES]) -> usize
     ensures { Holds most_line_bytes (told_line told) out.old result out.new }
 {
+    // By its number: 0 is what a host is told of a call that is accepted.
     if told.number == 0 {
         return put(out, 0, b"0\n");
     }

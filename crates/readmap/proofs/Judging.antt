@@ -1,5 +1,5 @@
 -- A map read record by record: the first faulty one ends the reading, and the rows of a map are apart. From the laws of rows; assumes nothing.
-use mathlib.Core.Path.{◌≡◌, refl, sym, ap}
+use mathlib.Core.Path.{◌≡◌, refl, sym, ap, ◌∙◌}
 use mathlib.Core.Bool.{Bool, true, false}
 use mathlib.Core.List.{List, [], ◌∷◌}
 use Prim.Native.Nat.{ℕ, ◌+◌, ◌≤◌}
@@ -8,7 +8,7 @@ use native.Mathlib.Omega.{arith}
 use borrow.Author.Tests.{eq-eqb, ne_eqb}
 use Rattle.std.specs.Prelude.{Result, Ok, Err}
 use Rattle.basics.specs.Tests.{choose}
-use Rattle.basics.proofs.Tests.{opposite, choose_no}
+use Rattle.basics.proofs.Tests.{opposite, choose_yes, choose_no}
 use Rattle.refusal.specs.declared.Refusal.{Refusal}
 use Rattle.refusal.specs.declared.Refusal.TheVariants.{JobZero, MapLength, OtherJob, FaultyRecord}
 use Rattle.refusal.specs.Refusals.{Verdict, number_of, accepted}
@@ -52,6 +52,14 @@ module _ (form : Form) (map : List ℕ) (job : ℕ) where
   pub right_read : wrong_length form map ≡ false → read_map form map job ≡ read_from form job 0 0 no_pins (records_of form map)
   unfolding read_map read_from first_of
   right_read e = ap (λ (v : Verdict). granted v (with_pins_of form no_pins (records_of form map))) (choose_no _ _ e)
+
+  -- So a map is read by its length, whatever it is.
+  pub read_by_length : read_map form map job ≡ choose (wrong_length form map) (Err MapLength) (read_from form job 0 0 no_pins (records_of form map))
+  read_by_length = by (wrong_length form map) refl
+    where
+      by : (t : Bool) → wrong_length form map ≡ t → read_map form map job ≡ choose (wrong_length form map) (Err MapLength) (read_from form job 0 0 no_pins (records_of form map))
+      by true e = sym (turned_away e) ∙ sym (choose_yes _ _ e)
+      by false e = right_read e ∙ sym (choose_no _ _ e)
 
   -- ---- where nothing else is looked at
 

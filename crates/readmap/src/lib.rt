@@ -23,6 +23,7 @@ fn is_wrong_length(form: Form, map: &[u8]) -> bool
 }
 
 // What the record in its own part of the map says, as the one of this number after those that were read, or why it is turned away.
+// Five values tell what was read so far, as record_rows takes them: a struct of them would be taken apart for each rule.
 #[tactic(auto, using(crate::proofs::Progress::pin_low))]
 fn judged_record(
     form: Form,

@@ -1,4 +1,5 @@
 // A record of a pin map: what it says in its own part of the map, what it gives its pin, and whether it is faulty.
+// The form and a record's bytes are two parameters, as the documents and specs have them: a match over the form is plainer than a trait of two types.
 #![tactic(auto)]
 
 ghost use Rattle.std.specs.Prelude.{◌≡◌, ◌≤◌, length};

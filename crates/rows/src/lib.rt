@@ -1,10 +1,11 @@
 // Rows of refusals: what a call finds at the seat that it names, and over that, for each call that changes a desk, its row in the order of documents 01 and 02; and what opening reads.
 #![tactic(auto)]
 
-ghost use Rattle.std.specs.Prelude.{◌≡◌, false, ◌++◌, ◌≤◌};
-ghost use Rattle.refusal.specs.Rows.{first_of};
+ghost use Rattle.std.specs.Prelude.{◌≡◌, false, [], ◌∷◌, ◌++◌, ◌≤◌, leb};
+ghost use Rattle.refusal.specs.Rows.{given, first_of};
+ghost use Rattle.refusal.specs.declared.Refusal.TheVariants.{SeatAbove, DeskBroken};
 ghost use Rattle.readmap.specs.Map.{map_rows, read_by};
-ghost use Rattle.journal.specs.Journal.{most_records, in_use, own};
+ghost use Rattle.journal.specs.Journal.{most_seats, most_records, in_use, own};
 ghost use Rattle.seats.specs.Seats.{taken_back_count, jobs_in};
 ghost use Rattle.rows.specs.Refusals.{taking_rows, full_row, undoing_row, redoing_row};
 ghost use Rattle.pinrows.specs.PinRows.{making_rows};
@@ -39,17 +40,27 @@ pub fn find(seats: &[Seat; SEATS], journal: &Journal, seat: usize) -> Found
     }
 }
 
-// Every call naming a seat, but opening: 28, 1, 2. Closing no more than these.
+// Every call that names a seat: 28, 1.
 #[tactic(auto, unfolding(refusal::specs::Rows::first_of, basics::specs::Tests::choose))]
-pub fn turned_naming(found: &Found) -> Verdict
-    ensures { result ≡ first_of (naming_found found.now) }
+fn turned_anywhere(found: &Found) -> Verdict
+    ensures { result ≡ first_of (given found.now.broken DeskBroken ∷ given (leb most_seats found.now.seat) SeatAbove ∷ []) }
 {
     if found.broken {
         return Err(Refusal::DeskBroken);
     }
     if SEATS <= found.seat {
-        return Err(Refusal::SeatAbove);
+        Err(Refusal::SeatAbove)
+    } else {
+        Ok(())
     }
+}
+
+// Every call naming a seat, but opening: 28, 1, 2. Closing no more than these.
+#[tactic(auto, unfolding(refusal::specs::Rows::first_of, basics::specs::Tests::choose))]
+pub fn turned_naming(found: &Found) -> Verdict
+    ensures { result ≡ first_of (naming_found found.now) }
+{
+    turned_anywhere(found)?;
     if found.state.opened {
         Ok(())
     } else {
@@ -113,12 +124,7 @@ pub fn turned_redoing(found: &Found, journal: &Journal) -> Verdict
 fn turned_taking(found: &Found, seats: &[Seat; SEATS], job: u16) -> Verdict
     ensures { result ≡ first_of (taking_rows found.now.broken found.now.seat found.now.state.opened job (jobs_in seats.now)) }
 {
-    if found.broken {
-        return Err(Refusal::DeskBroken);
-    }
-    if SEATS <= found.seat {
-        return Err(Refusal::SeatAbove);
-    }
+    turned_anywhere(found)?;
     if found.state.opened {
         return Err(Refusal::OpenAlready);
     }

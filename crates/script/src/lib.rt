@@ -24,6 +24,7 @@ const MOST_LINE: usize = 16384;
 
 // What a line says: nothing, no call, or a call with its numbers. The map of an opening or of a moving, the lists of a bare wiring, the shape to
 // favour and what drops are asked for are read from the line by functions of their own, map and lists into lent buffers.
+// Skip and NotACall are cases, and no Option of a call: the documents know three kinds of line.
 #[derive(Clone, Copy)]
 pub enum Said {
     Skip,
@@ -113,8 +114,8 @@ pub fn given_map(line: &[u8], at: usize, map: &mut [u8; MOST_PAIRS]) -> usize
     fill_map(word(without_return(line), at), map)
 }
 
-// Two readers for x and y, one line each: of one with the word's number for a parameter, every caller would have to know where a line has them.
 // Writes the x of a bare wiring from the start on, and answers how many there are.
+// Two readers for x and y, one line each: each is promised by a definition of its own (xs_given, ys_given).
 #[tactic(auto, unfolding(crate::specs::Said::xs_given))]
 pub fn given_xs(line: &[u8], xs: &mut [i32; MOST_NUMBERS]) -> usize
     ensures value { (result ≡ length (xs_given line.now)) × (result ≤ most_numbers) }

@@ -55,6 +55,7 @@ impl Seat {
     }
 
     // How many of a seat's edits are taken back.
+    // The journal and the seat's number are lent beside a seat, here and below: the desk has one journal for all seats, and a seat does not know its number.
     pub fn taken_back_count(&self, journal: &Journal, seat: usize) -> usize
         requires { journal.now.used ≤ most_records }
         ensures { result ≡ taken_back_count self.now (own seat (in_use journal.now)) }
@@ -117,6 +118,7 @@ pub fn job_among(job: u16, jobs: &[u16]) -> bool
 }
 
 // Whether no job is repeated.
+// A call of itself, as the definition no_two has it; the test of two spots in board is the only other of this form, and each is a match of two lines.
 #[tactic(auto, unfolding(basics::specs::Tests::no_two, basics::specs::Tests::both))]
 pub fn jobs_apart(jobs: &[u16]) -> bool
     ensures { result ≡ jobs_apart jobs.now }

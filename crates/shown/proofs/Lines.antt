@@ -3,7 +3,7 @@ use mathlib.Core.Path.{◌≡◌, refl, sym, ◌∙◌, ap}
 use mathlib.Core.Bool.{Bool, true, false, cond}
 use mathlib.Core.List.{List, [], ◌∷◌, ◌++◌, append_assoc, append-nil}
 use Prim.Native.Nat.{ℕ, suc, ◌+◌, ◌<◌, ◌≤◌, min}
-use native.Mathlib.Nat.{add-zero, zero-add}
+use native.Mathlib.Nat.{add-zero}
 use native.Mathlib.Omega.{arith}
 use lib.ListN.{length, take, get_or}
 use lib.Seq.{length-take-le, take_all}
@@ -21,7 +21,7 @@ use Rattle.mill.specs.declared.Cut.{Cut}
 use Rattle.text.specs.Text.{text, over}
 use Rattle.printed.specs.Answers.{verdict_line, wired_line, milled_line, job_line}
 use Rattle.text.proofs.Printing.{Put, take-smaller}
-use Rattle.text.proofs.Steps.{front, first_more}
+use Rattle.text.proofs.Steps.{first_more}
 use Rattle.shown.specs.Shown.{runs_text, legs_text, pin_text, pins_text, pins_there, wired_text, laid_text, milled_text, cut_text, job_text, map_text}
 
 -- As many elements as are asked for, or all there are.

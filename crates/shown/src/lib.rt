@@ -1,4 +1,5 @@
 // Answers of several lines printed into a lent buffer: a wiring, a milling, the wiring of a map, a drawing.
+// The lent buffer is a parameter of its own, for the reason that text/put has.
 #![tactic(auto)]
 
 ghost use Rattle.std.specs.Prelude.{◌≡◌, ◌+◌, ◌*◌, ◌≤◌, length, take};
@@ -39,6 +40,8 @@ fn put_entry(run: RunEntry, out: &mut [u8; ANSWER_BYTES], at: usize) -> usize
 }
 
 // The first runs of a list, from a position on.
+// A list and a count, here and below, and no slice: an answer may come with a number past its list, which is cut where the loop is and not in each caller.
+// The loops are one for each kind of line: a generic one would have to say what may be asked of each and what it answers.
 fn put_runs(runs: &[RunEntry; RUNS], count: usize, out: &mut [u8; ANSWER_BYTES], at: usize) -> usize
     requires { at + most_runs * most_run_bytes ≤ answer_bytes }
     ensures value { (result ≡ at + length (runs_text (take count runs.now))) × (result ≤ at + most_runs * most_run_bytes) }
@@ -99,8 +102,8 @@ fn put_pins(pins: &[Pin; PINS], out: &mut [u8; ANSWER_BYTES], at: usize) -> usiz
     ensures out_after { out.new ≡ sets out.old at (pins_text 0 pins.now) }
 {
     let mut next = at;
-    for number in 0..PINS {
-        next = put_pin(number, pins[number], out, next);
+    for (number, &pin) in pins.iter().enumerate() {
+        next = put_pin(number, pin, out, next);
     }
     next
 }

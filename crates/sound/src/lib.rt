@@ -54,6 +54,7 @@ fn seat_is_sound(seat: &Seat, number: usize, owned: usize, journal: &Journal) ->
 }
 
 // Whether every seat is sound.
+// A loop, since a closure would have to require what the loop's invariant shows.
 #[tactic(auto, using(journal::proofs::Counts::count_at, crate::proofs::Tests::seats_none, crate::proofs::Tests::seats_next, crate::proofs::Tests::seats_stop))]
 fn each_is_sound(seats: &[Seat; SEATS], journal: &Journal) -> bool
     requires { journal.now.used ≤ most_records }

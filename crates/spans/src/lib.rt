@@ -74,6 +74,7 @@ fn put_in(spans: &mut [Span; SPANS], count: usize, span: Span) -> usize
     ensures rest_unchanged { drop (count + 1) spans.new ≡ drop (count + 1) spans.old }
     ensures long { length spans.new ≡ most_spans }
 {
+    // A count, as in clean: what lies after the list is promised too.
     let mut carry = span;
     let mut kept = 0;
     // By number: the walk writes to the list that it reads.
@@ -98,6 +99,7 @@ pub fn clean(spans: &mut [Span; SPANS], count: usize) -> usize
     ensures list_after { spans.new ≡ padded most_spans (span 0 0) (cleaned (take count spans.old)) }
 {
     let mut kept = 0;
+    // By number, as in put_in.
     for at in 0..count {
         let span = spans[at];
         if span.low < span.high {

@@ -2,14 +2,15 @@
 use mathlib.Core.Path.{◌≡◌, refl, sym}
 use mathlib.Core.Bool.{Bool, true, false}
 use mathlib.Core.List.{List, [], ◌∷◌}
-use Prim.Native.Nat.{ℕ, suc, ◌+◌, ◌-◌, ◌≤◌}
+use Prim.Native.Nat.{ℕ, suc, ◌+◌, ◌-◌, ◌≤◌, ◌<◌}
 use native.Mathlib.Nat.{le_refl}
 use native.Mathlib.Omega.{arith}
 use lib.Dec.{eqb}
-use lib.ListN.{length, take, drop, get_or, length-drop}
+use lib.ListN.{length, take, drop, get_or, length-drop, drop_of_length-le}
 use lib.Seq.{length-take-le}
-use borrow.Author.Tests.{eqb-true}
+use borrow.Author.Tests.{eqb-true, eq-eqb, ne_eqb}
 use Rattle.basics.specs.Tests.{choose}
+use Rattle.basics.proofs.Lists.{front}
 use Rattle.basics.proofs.Tests.{opposite, both_left, both_right}
 use Rattle.text.specs.Text.{same}
 use Rattle.text.specs.Words.{return, end_of, without_return, index_after, index_of, stop_at}
@@ -30,6 +31,21 @@ module _ (l : List ℕ) where
   -- and at most one fewer than there are.
   pub return-one : length l ≤ length (without_return l) + 1
   return-one = omega (arith, end_whole refl, end_there.0)
+
+  -- A separator that stands at a position is found there,
+  pub stop_here : (s i : ℕ) → i < length l → get_or l i 0 ≡ s → i ≡ stop_at s l i
+  unfolding stop_at index_of index_after
+  stop_here s i h e = rw (front 0 l i h, eq-eqb (get_or l i 0) s e) (omega arith)
+
+  -- at any other byte it is found where it is found after that byte,
+  pub stop_next : (s i : ℕ) → i < length l → (get_or l i 0 ≡ s → ⊥) → stop_at s l i ≡ stop_at s l (i + 1)
+  unfolding stop_at index_of index_after
+  stop_next s i h e = rw (front 0 l i h, ne_eqb (get_or l i 0) s e) (omega arith)
+
+  -- and at the end of the text it is found nowhere else.
+  pub stop_end : (s i : ℕ) → length l ≤ i → i ≡ stop_at s l i
+  unfolding stop_at index_of
+  stop_end s i h = rw (drop_of_length-le l h) (omega arith)
 
 -- Texts that pass for the same are equal.
 pub same_is : (u v : List ℕ) → same u v ≡ true → u ≡ v

@@ -1,4 +1,5 @@
 // Words read as numbers, as lists of numbers, as bytes and as an f32.
+// Read by functions and not by the library's FromStr: a log's words are bytes, with a grammar and bounds of their own (Numbers: number_of, coordinate_of).
 ghost use Rattle.std.specs.Prelude.{◌≡◌, IfSome, get_or, [], Bool, List, ℕ, map, ◌+◌, ◌*◌, ◌≤◌, ◌-◌, ◌^◌, min, length};
 ghost use Rattle.text.specs.Text.{over};
 ghost use Rattle.text.specs.Words.{comma, pieces};
@@ -26,6 +27,7 @@ pub const NOTHING: &[u8] = b"-";
 const FLOAT_DIGITS: usize = 8;
 
 // Whether every byte of a word is a digit.
+// all_digits and all_hex are a chain each over the library's own test of a byte, and is_row one row of the generic is_row_of.
 fn all_digits(word: &[u8]) -> bool
     ensures { result ≡ all_digits word.now }
 {
@@ -176,6 +178,7 @@ pub fn is_map(word: &[u8]) -> bool
 }
 
 // The byte that two hex digits spell.
+// By hand: the library reads hex digits of a text as one number, and hex_value is what the contracts say of each.
 fn joined(high: u8, low: u8) -> u8
     ensures { result ≡ hex_value high * 16 + hex_value low }
 {

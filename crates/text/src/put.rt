@@ -1,6 +1,7 @@
 // Bytes, numbers, places and an f32 put into a lent buffer from a position on, with the position after them told.
 // The buffer and the position are two parameters, here and above: what the rest of the lent buffer holds is promised too (answer::answer_line), which a text that owns its
 // buffer and its length could not say.
+// No struct that borrows both, since it would hide the contents that each contract tells; and no Display: each contract says which bytes are put, and where.
 ghost use Rattle.std.specs.Prelude.{◌≡◌, ◌++◌, ◌+◌, ◌*◌, ◌≤◌, ◌<◌, length};
 ghost use Rattle.std.proofs.lemmas.List.Edits.{sets};
 ghost use Rattle.text.specs.Text.{answer_bytes};
@@ -23,6 +24,7 @@ pub fn put(out: &mut [u8; ANSWER_BYTES], at: usize, bytes: &[u8]) -> usize
 }
 
 // Puts the decimal digits of a number at a position.
+// A call of itself and no loop: the last digit goes where those before it end.
 pub fn put_decimal(out: &mut [u8; ANSWER_BYTES], at: usize, n: usize) -> usize
     requires { at + most_decimal_bytes ≤ answer_bytes }
     ensures value { (result ≡ at + length (decimal n)) × (result ≤ at + most_decimal_bytes) }
@@ -62,6 +64,7 @@ fn put_integer(out: &mut [u8; ANSWER_BYTES], at: usize, label: &[u8], z: i32) ->
 }
 
 // A hex digit, in small letters.
+// By hand: the library prints hex digits as text, and hex_digit (text/Digits) says which byte is put.
 fn hex_digit(d: u8) -> u8
     requires { d < 16 }
     ensures { result ≡ hex_digit d }

@@ -87,6 +87,7 @@ impl Offer {
 }
 
 // The earliest offer to a pin that waits, once the pin `latest` is reached; each such pin keeps the near pin of its own earliest offer.
+// Two arrays, since next_offer and next_nears (tree/Offers) take which pins wait and what each keeps; and by number, since one is written where it is read.
 // Two weights are worked out for each waiting pin and turn, n * (n - 1) for n pins: under their square, and none is kept.
 fn next_offer(
     spots: &[Spot; PINS],
@@ -129,6 +130,7 @@ fn grow(spots: &[Spot; PINS], first: usize) -> Tree
     let mut near = [first; PINS];
     let mut latest = first;
     let mut runs = [Run { near: 0, far: 0 }; RUNS];
+    // By number: it is the count of an early answer.
     for count in 0..RUNS {
         let Some(next) = next_offer(spots, &waits, &mut near, latest) else {
             return Tree { count, runs };

@@ -13,6 +13,7 @@ use edits::Edit;
 use journal::Journal;
 
 // Whether edits can be made on these pins, which keep the rules, one after the other.
+// That the pins keep the rules is asked here and is no invariant of a type: the pins are those of a seat, which a host may hand with any (rows::Found).
 fn can_make_all<I: Iterator<Item = Edit> + Drop>(pins: &[Pin; PINS], edits: I) -> bool
     requires rules { lawful pins.now ≡ true }
     requires can { I.can_next edits }

@@ -30,6 +30,7 @@ fn play_named(rt: &HostRuntime, name: &[u8]) -> io::Result<()> {
 
 fn main(rt: HostRuntime) -> io::Result<()> {
     let mut name = [0u8; NAME_BYTES];
+    // Nothing says how many arguments there are: the first that is not present ends the loop.
     for number in 1..usize::MAX {
         match rt.arg(number, &mut name) {
             Ok(length) => play_named(&rt, &name[..length])?,

@@ -50,6 +50,8 @@ pub fn refused(verdict: Verdict) -> Laid
 }
 
 // The wiring of a feed, where one shape is favoured: false for lower, true for upper; or why there is none.
+// It stays a bool: wiring_favouring (wiring/Answer) and BestWiring (wiring/Demand) take a Bool.
+// The room and the favour are parameters of their own, here and above, as a host states them.
 #[tactic(auto, using(crate::proofs::Answering::tree_refuses, crate::proofs::Room::room_short))]
 fn wire_favouring(spots: &[Spot; PINS], room: usize, favoured: bool) -> Result<Laid, Refusal>
     requires { (all_within spots.now ≡ true) × (all_apart spots.now ≡ true) }
