@@ -227,7 +227,7 @@ def stack():
 
 
 # How often a function that calls itself stands on the stack at most: for every pin of a chain; for each of the eight runs that a pin may have, and once more; for every digit.
-DEEPEST = {"least::pin_best": 32, "least::weigh": 9, "text::put::put_decimal": 20}
+DEEPEST = {"least::Reached::pin_best": 32, "least::Reached::weigh": 9, "text::put::put_decimal": 20}
 
 
 def disassembled(program):
