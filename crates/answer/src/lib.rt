@@ -116,7 +116,7 @@ fn move_map(to: Form, job: u16, room: usize, line: &[u8], out: &mut [u8; ANSWER_
     move_into(to, job, &map[..bytes], &mut buffer[..room], out)
 }
 
-// Wires a net of a seat, as the line says of the shape to favour.
+// Wires a net of a seat, as the line says of the shape to favour. Beside the function that mills one: each asks and prints by functions of its own, in two lines.
 fn wire(
     desk: &Desk,
     seat: usize,

@@ -23,7 +23,8 @@ pub fn print_not_a_call(line: usize, out: &mut [u8; ANSWER_BYTES]) -> usize
     put(out, next, b": not a call\n")
 }
 
-// A wiring: its length, runs and legs, and the choices weighed.
+// A wiring: its length, runs and legs, and the choices weighed. Three lines have four numbers each, this one, that of a job and that of a drawing: one function
+// for them would take four labels and four numbers, and its contract would have to say how long the labels may be, which is longer than five calls.
 pub fn print_wired(
     length: usize,
     runs: usize,
