@@ -1,2 +1,3 @@
 -- What is proved of laying runs beside the functions' contracts.
 pub mod Filling
+pub mod Places

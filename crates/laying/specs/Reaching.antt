@@ -1,11 +1,13 @@
 -- How the best shapes are found: the pins as they are reached, and the shapes that a mask holds. No entry point's promise rests on these.
-use Rattle.std.specs.Prelude.{Bool, List, [], ◌∷◌, ◌++◌, ℕ, zero, suc, ◌/◌, ◌%◌, ◌≤◌, ◌<◌, eqb, length}
+use Rattle.std.specs.Prelude.{Bool, List, [], ◌∷◌, ◌++◌, ℕ, zero, suc, ◌/◌, ◌%◌, ◌≤◌, ◌<◌, eqb, length, slice_get}
+use Rattle.std.specs.Option.{option_map_or}
 use Rattle.basics.specs.Tests.{choose}
 use Rattle.basics.specs.Lists.{padded, values_from}
 use Rattle.board.specs.declared.Place.{Place}
+use Rattle.board.specs.Place.{middle}
 use Rattle.tree.specs.declared.Run.{Run}
 use Rattle.board.specs.Spots.{Spot, most_pins, place_at}
-use Rattle.tree.specs.Reached.{run_at, reached_place}
+use Rattle.tree.specs.Reached.{run_at}
 use Rattle.tree.specs.Trees.{most_runs}
 use Rattle.copper.specs.declared.Shape.{Shape}
 use Rattle.copper.specs.declared.Leg.{Leg}
@@ -15,9 +17,15 @@ use Rattle.laying.specs.declared.RunEntry.{RunEntry}
 use Rattle.laying.specs.declared.Strip.{Strip}
 use Rattle.laying.specs.Entries.{near_end, far_end, run_entry, run_entries, leg_entries}
 
+-- Where the pin stands that is reached as number i: the near pin of the first run, then the far pins in run order; the middle of the board where no run
+-- reaches one.
+unfoldable pub place_if_reached : List Spot → List Run → ℕ → Place
+place_if_reached feed runs zero = option_map_or (near_end feed) (slice_get runs 0) middle
+place_if_reached feed runs (suc r) = option_map_or (far_end feed) (slice_get runs r) middle
+
 -- Where the pins stand, as they are reached.
 unfoldable pub places_of : List Spot → List Run → List Place
-places_of feed runs = values_from (reached_place feed runs) 0 most_pins
+places_of feed runs = values_from (place_if_reached feed runs) 0 most_pins
 
 -- The number as which a pin is reached by the first k runs: that of the last of them that reaches it; 0 where none does.
 unfoldable pub reached_as : List Run → ℕ → ℕ → ℕ

@@ -5,9 +5,8 @@
 ghost use Rattle.std.specs.Prelude.{◌≡◌, ◌≤◌, ◌<◌, length};
 ghost use Rattle.board.specs.Spots.{place_in};
 ghost use Rattle.tree.specs.Trees.{most_runs};
-ghost use Rattle.tree.specs.Reached.{reached_pin};
 ghost use Rattle.least.specs.Asking.{near_pin, least_of_tree, Grown};
-ghost use Rattle.laying.specs.Reaching.{places_of, nears_of, Numbered, upper_in, shaped_run, entries_in, legs_of_entries, strip};
+ghost use Rattle.laying.specs.Reaching.{place_if_reached, places_of, nears_of, Numbered, upper_in, shaped_run, entries_in, legs_of_entries, strip};
 
 use board::{MIDDLE, PINS, Place, Spot, spots};
 use copper::{Leg, Shape};
@@ -60,15 +59,18 @@ fn nears_of(runs: &[Run]) -> [usize; RUNS]
     nears
 }
 
-// The pin that is reached as this number: the near pin of the first run, then the far pins in run order; 0 where there is none.
-#[tactic(auto, unfolding(tree::specs::Reached::reached_pin))]
-fn reached_pin(runs: &[Run], number: usize) -> usize
-    ensures { result ≡ reached_pin runs.now number }
+// Where the pin stands that is reached as this number: the near pin of the first run, then the far pins in run order; the middle of the board where
+// no run reaches one.
+#[tactic(auto, unfolding(crate::specs::Reaching::place_if_reached))]
+fn place_if_reached(spots: &[Spot; PINS], runs: &[Run], number: usize) -> Place
+    ensures { result ≡ place_if_reached spots.now runs.now number }
 {
     if number == 0 {
-        runs.first().map_or(0, |run| run.near)
+        runs.first()
+            .map_or(MIDDLE, |run| spots::place_at(spots, run.near))
     } else {
-        runs.get(number - 1).map_or(0, |run| run.far)
+        runs.get(number - 1)
+            .map_or(MIDDLE, |run| spots::place_at(spots, run.far))
     }
 }
 
@@ -76,7 +78,7 @@ fn reached_pin(runs: &[Run], number: usize) -> usize
 fn places_of(spots: &[Spot; PINS], runs: &[Run]) -> [Place; PINS]
     ensures { result ≡ places_of spots.now runs.now }
 {
-    array::from_fn(|number| spots::place_at(spots, reached_pin(runs, number)))
+    array::from_fn(|number| place_if_reached(spots, runs, number))
 }
 
 // What the best shapes of the runs cost, and the choices weighed: least costs are asked of the pins in the order in which they are reached.

@@ -5,11 +5,10 @@ use mathlib.Core.Bool.{Bool, true, false}
 use mathlib.Core.List.{List, [], ◌∷◌, ◌++◌}
 use Prim.Native.Nat.{ℕ, suc, ◌/◌, ◌%◌, ◌≤◌, ◌<◌}
 use native.Mathlib.Omega.{arith}
-use lib.IntN.{pos}
 use lib.Dec.{ltb}
-use lib.ListN.{length, take, get_or-eq_default}
-use borrow.Author.Tests.{ltb-true, ltb-false, lt-ltb, le-ltb}
-use Rattle.basics.specs.Tests.{both, choose}
+use lib.ListN.{length, take}
+use borrow.Author.Tests.{lt-ltb, le-ltb}
+use Rattle.basics.specs.Tests.{choose}
 use Rattle.basics.specs.Lists.{values_from}
 use Rattle.refusal.specs.Refusals.{accepted}
 use Rattle.refusal.specs.Rows.{first_of}
@@ -17,10 +16,9 @@ use Rattle.refusal.specs.declared.Refusal.{Refusal}
 use Rattle.refusal.specs.declared.Refusal.TheVariants.{NoPins, RoomTooSmall}
 use Rattle.std.specs.Prelude.{Result, Ok, Err}
 use Rattle.basics.proofs.Tests.{choose_yes, choose_no}
-use Rattle.basics.proofs.Lists.{padded_at, padded_first, values_long, value_at, values_shift, values_same}
+use Rattle.basics.proofs.Lists.{padded_at, padded_first, value_at, values_shift, values_same}
 use Rattle.board.specs.declared.Place.{Place}
 use Rattle.board.specs.Spots.{Spot}
-use Rattle.board.specs.Place.{on_board, inside, middle}
 use Rattle.tree.specs.declared.Run.{Run}
 use Rattle.tree.specs.declared.Tree.{Tree}
 use Rattle.board.specs.Spots.{most_pins, place_in, all_within, all_apart}
@@ -42,6 +40,7 @@ use Rattle.laying.specs.declared.Strip.{Strip}
 use Rattle.laying.specs.Entries.{near_end, far_end, run_entry, no_run, run_entries, leg_entries}
 use Rattle.wiring.specs.Choices.{best_choice, legs_of_choice, length_of_choice, weighed_of}
 use Rattle.wiring.specs.Answer.{shaped_runs, turned_away, answer_with, wiring_rows, wiring_with, wiring_favouring}
+use Rattle.laying.proofs.Places.{place_is, places_inside}
 use Rattle.laying.specs.Reaching.{places_of, reached_as, nears_of, Numbered, upper_in, shaped_run, shaped_in, entries_in, legs_of_entry, legs_of_entries, strip, shapes_by}
 use Rattle.wiring.proofs.Laying.{grown, near_low, far_low, near_told}
 use Rattle.wiring.proofs.Best.{length_found, shapes_found}
@@ -88,11 +87,6 @@ tree_refuses favoured feed room r e = subst (TreeSays favoured feed room) (sym e
 pub tree_accepts : (feed : List Spot) (t : Tree) → Ok t ≡ tree_of feed → Wired feed t
 unfolding TreeSays
 tree_accepts feed t e = subst (TreeSays true feed 0) (sym e) (tree_says true feed 0)
-
--- The middle of the board is on it.
-middle-inside : inside (record { x = pos 0; y = pos 0 }) ≡ true
-unfolding inside on_board both
-middle-inside = refl
 
 -- ---- the shapes, run by run
 -- A run with the shape that its bend gives it.
@@ -161,12 +155,7 @@ module _ (feed : List Spot) (full : length feed ≡ most_pins) (ok : all_within 
   abbrev nears : List ℕ
   nears = nears_of runs
 
-  -- Pins that are reached stand where the list of places says ..
-  place_is : (i : ℕ) → i < most_pins → place_in places i ≡ reached_place feed runs i
-  unfolding places_of
-  place_is i l = value_at (reached_place feed runs) most_pins i middle l
-
-  -- .. and near pins are reached as the same numbers.
+  -- Near pins are reached as the same numbers.
   near_is : (r : ℕ) → r < n → near_pin nears r ≡ reached_near runs r
   unfolding nears_of
   near_is r l =
@@ -187,23 +176,18 @@ module _ (feed : List Spot) (full : length feed ≡ most_pins) (ok : all_within 
       record {
         few = few;
         near_first = λ r l. rw (near_is r l) (before r l);
-        on_board = λ i. go i (ltb i most_pins) refl;
+        on_board = places_inside feed runs (λ i some upto l. inside_at feed ok (reached_pin runs i));
       }
-    where
-      long : length places ≡ most_pins
-      long = unfold places_of in values_long (reached_place feed runs) 0 most_pins
-
-      go : (i : ℕ) (b : Bool) → ltb i most_pins ≡ b → inside (place_in places i) ≡ true
-      go i true e = rw (place_is i (ltb-true i most_pins e)) (inside_at feed ok (reached_pin runs i))
-      go i false e = rw (get_or-eq_default places middle {n = i} (omega (arith, long, ltb-false i most_pins e))) middle-inside
 
   -- The tree by its lists is told as the tree by its runs.
   alike : Alike (place_in places) (reached_place feed runs) (near_pin nears) (reached_near runs) n
   alike =
       record {
         nears = near_is;
-        near_ends = λ r l. ap (place_in places) (near_is r l) ∙ place_is (reached_near runs r) (omega (arith, few, before r l));
-        far_ends = λ r l. place_is (suc r) (omega (arith, few));
+        near_ends = λ r l.
+            ap (place_in places) (near_is r l)
+            ∙ place_is feed runs (reached_near runs r) (omega arith) (omega (arith, before r l)) (omega (arith, few, before r l));
+        far_ends = λ r l. place_is feed runs (suc r) (omega arith) (omega arith) (omega (arith, few));
       }
 
   module _ (f : Least) (ef : f ≡ least_of_tree (place_in places) (near_pin nears) favoured n) where
