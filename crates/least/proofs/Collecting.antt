@@ -22,6 +22,7 @@ use Rattle.copper.specs.Shapes.{shape_of}
 use Rattle.copper.specs.Arms.{reached_by}
 use Rattle.copper.specs.Least.{is_bent, first_tally}
 use Rattle.least.specs.declared.Asked.{Asked}
+use Rattle.least.specs.declared.Costs.{Costs}
 use Rattle.least.specs.declared.Least.{Least}
 use Rattle.least.specs.Asking.{base, near_pin, unasked, kept, mark_of, doubled_if, is_bent_into, pin_best, run_best, choices_from, weighed_from, weighed_below, asked_pin, asked_run, least_kept, asked_kept, size_from, most_kept, KeptFits, Weighable, Answerable, Askable}
 use Rattle.least.proofs.Reading.{mark_small}
@@ -37,7 +38,7 @@ one_shape at near zero e = refl
 one_shape at near (suc r) e = rw (not-false (is_straight (at (near r)) (at (suc r))) e)
 
 -- The runs of pin i before run r were asked; `weighed` choices were weighed for them.
-pub record Collecting (places : List Place) (nears : List ℕ) (n i : ℕ) (favoured : Bool) (asked : List Asked) (weighed r : ℕ) : Type 0 where
+pub record Collecting (places : List Place) (nears : List ℕ) (n i : ℕ) (favoured : Bool) (asked : List Costs) (weighed r : ℕ) : Type 0 where
   pub ask : Askable nears n i
   pub long : length asked ≡ most_runs
   pub fits : KeptFits asked
@@ -60,7 +61,7 @@ module _ (places : List Place) (nears : List ℕ) (n i : ℕ) (few : n ≤ most_
   near = near_pin nears
 
   -- Once its runs were asked.
-  module _ (asked : List Asked) (c : Answerable asked n i) where
+  module _ (asked : List Costs) (c : Answerable asked n i) where
     -- What is kept for them.
     abbrev cost : ℕ → Bool → ℕ
     cost = kept asked
@@ -139,7 +140,7 @@ module _ (places : List Place) (nears : List ℕ) (n i : ℕ) (few : n ≤ most_
         none r false = rw (blank r) (omega arith)
         none r true = rw (blank r) (omega arith)
 
-    module _ (l : List Asked) (w r : ℕ) (c : Collecting places nears n i favoured l w r) where
+    module _ (l : List Costs) (w r : ℕ) (c : Collecting places nears n i favoured l w r) where
       -- A run to be asked has its entry ..
       pub room : r < n → r < most_runs
       room h = omega (arith, few)
@@ -167,13 +168,17 @@ module _ (places : List Place) (nears : List ℕ) (n i : ℕ) (few : n ≤ most_
           go q b k z false y = let ne : q ≡ r → ⊥ = eqb-false q r y in c.known q (omega (arith, ne)) k z
 
       module _ (h : r < n) (e : near r ≡ i) (a : Asked) (g : a ≡ asked_run at near favoured n r) where
-        -- What the run answers: its costs in either shape,
-        cost_is : (v : Bool) → kept (a ∷ []) 0 v ≡ run_best at near favoured n r v
+        -- Of what the run answers this is kept:
+        abbrev costs : Costs
+        costs = record { lower = a.lower; upper = a.upper }
+
+        -- its costs in either shape;
+        cost_is : (v : Bool) → kept (costs ∷ []) 0 v ≡ run_best at near favoured n r v
         unfolding asked_run
         cost_is false = ap (λ (z : Asked). z.lower) g
         cost_is true = ap (λ (z : Asked). z.upper) g
 
-        -- and the choices weighed for it.
+        -- and these are the choices weighed for it.
         weighed_is : a.weighed ≡ weighed_below at near n (r + 1)
         unfolding asked_run
         weighed_is = ap (λ (z : Asked). z.weighed) g
@@ -195,22 +200,22 @@ module _ (places : List Place) (nears : List ℕ) (n i : ℕ) (few : n ≤ most_
             )
 
         -- .. is kept for the run ..
-        kept_same : (v : Bool) → kept (set l r a) r v ≡ run_best at near favoured n r v
-        kept_same false = ap (λ (z : Asked). z.lower) (get_or-set_same l r a unasked (omega (arith, c.long, room h))) ∙ cost_is false
-        kept_same true = ap (λ (z : Asked). z.upper) (get_or-set_same l r a unasked (omega (arith, c.long, room h))) ∙ cost_is true
+        kept_same : (v : Bool) → kept (set l r costs) r v ≡ run_best at near favoured n r v
+        kept_same false = ap (λ (z : Costs). z.lower) (get_or-set_same l r costs unasked (omega (arith, c.long, room h))) ∙ cost_is false
+        kept_same true = ap (λ (z : Costs). z.upper) (get_or-set_same l r costs unasked (omega (arith, c.long, room h))) ∙ cost_is true
 
         -- .. and for no other.
-        kept_other : (q : ℕ) → (q ≡ r → ⊥) → (v : Bool) → kept (set l r a) q v ≡ kept l q v
-        kept_other q ne false = ap (λ (z : Asked). z.lower) (get_or-set_other l r q a unasked ne)
-        kept_other q ne true = ap (λ (z : Asked). z.upper) (get_or-set_other l r q a unasked ne)
+        kept_other : (q : ℕ) → (q ≡ r → ⊥) → (v : Bool) → kept (set l r costs) q v ≡ kept l q v
+        kept_other q ne false = ap (λ (z : Costs). z.lower) (get_or-set_other l r q costs unasked ne)
+        kept_other q ne true = ap (λ (z : Costs). z.upper) (get_or-set_other l r q costs unasked ne)
 
         -- The run was asked.
-        pub hit : Collecting places nears n i favoured (set l r a) (w + a.weighed) (r + 1)
+        pub hit : Collecting places nears n i favoured (set l r costs) (w + a.weighed) (r + 1)
         unfolding KeptFits
         hit =
             record {
               ask = c.ask;
-              long = length-set l r a ∙ c.long;
+              long = length-set l r costs ∙ c.long;
               fits = λ q v. small q v (eqb q r) refl (c.fits q v);
               from = omega (arith, c.from);
               to = omega arith;
@@ -219,12 +224,12 @@ module _ (places : List Place) (nears : List ℕ) (n i : ℕ) (few : n ≤ most_
               sum = omega (arith, c.sum, weighed_is, weighed_on at near n i r h e);
             }
           where
-            small : (q : ℕ) (v : Bool) (t : Bool) → eqb q r ≡ t → kept l q v ≤ most_kept → kept (set l r a) q v ≤ most_kept
+            small : (q : ℕ) (v : Bool) (t : Bool) → eqb q r ≡ t → kept l q v ≤ most_kept → kept (set l r costs) q v ≤ most_kept
             small q v true y m = rw (eqb-true q r y, kept_same v) (run_most v)
             small q v false y m = rw (kept_other q (eqb-false q r y) v) m
 
             go : (q : ℕ) → q < r + 1 → i ≤ q → near q ≡ i → (t : Bool) → eqb q r ≡ t → (v : Bool)
-                → kept (set l r a) q v ≡ run_best at near favoured n q v
+                → kept (set l r costs) q v ≡ run_best at near favoured n q v
             go q b k z true y v = rw (eqb-true q r y) (kept_same v)
             go q b k z false y v = let ne : q ≡ r → ⊥ = eqb-false q r y in kept_other q ne v ∙ c.known q (omega (arith, ne)) k z v
 

@@ -12,7 +12,7 @@ use Rattle.board.specs.Place.{inside}
 use Rattle.tree.specs.Trees.{most_runs}
 use Rattle.copper.specs.declared.Tally.{Tally}
 use Rattle.copper.specs.Least.{lesser_of, is_bent, next_tally}
-use Rattle.least.specs.declared.Asked.{Asked}
+use Rattle.least.specs.declared.Costs.{Costs}
 use Rattle.least.specs.declared.Least.{Least}
 use Rattle.least.specs.Asking.{base, kept, doubled_if, owed_alone, with_run, lesser_found, cost_kept, least_kept, KeptFits, Weighable}
 use Rattle.least.proofs.Modesty.{modest_next}
@@ -88,7 +88,7 @@ module _ (at : ℕ → Place) (near : ℕ → ℕ) (cost : ℕ → Bool → ℕ)
         )
 
 module _ (at : ℕ → Place) (near : ℕ → ℕ) (n : ℕ) (few : n ≤ most_runs) (on_board : (i : ℕ) → inside (at i) ≡ true)
-    (asked : List Asked) (t : Tally) (w : Weighable asked t) where
+    (asked : List Costs) (t : Tally) (w : Weighable asked t) where
   -- What is kept for the runs.
   abbrev cost : ℕ → Bool → ℕ
   cost = kept asked

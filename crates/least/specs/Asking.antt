@@ -11,6 +11,7 @@ use Rattle.copper.specs.declared.Tally.{Tally}
 use Rattle.copper.specs.Arms.{owed, Bounded}
 use Rattle.copper.specs.Least.{lesser_of, best, is_bent, first_tally, next_tally}
 use Rattle.least.specs.declared.Asked.{Asked}
+use Rattle.least.specs.declared.Costs.{Costs}
 use Rattle.least.specs.declared.Ends.{Ends}
 use Rattle.least.specs.declared.Least.{Least}
 
@@ -23,11 +24,11 @@ abbrev pub near_pin : List ℕ → ℕ → ℕ
 near_pin near r = get_or near r 0
 
 -- What is kept for a run that was not asked.
-abbrev pub unasked : Asked
-unasked = record { lower = 0; upper = 0; weighed = 0 }
+abbrev pub unasked : Costs
+unasked = record { lower = 0; upper = 0 }
 
 -- The cost that is kept for a run in this shape, false for lower and true for upper.
-abbrev pub kept : List Asked → ℕ → Bool → ℕ
+abbrev pub kept : List Costs → ℕ → Bool → ℕ
 kept asked r false = (get_or asked r unasked).lower
 kept asked r true = (get_or asked r unasked).upper
 
@@ -161,16 +162,16 @@ abbrev pub most_kept : ℕ
 most_kept = 288230376151711744
 
 -- What is kept for the runs is no more than that.
-unfoldable pub KeptFits : List Asked → Type 0
+unfoldable pub KeptFits : List Costs → Type 0
 KeptFits asked = (r : ℕ) (u : Bool) → kept asked r u ≤ most_kept
 
 -- What weighing demands: costs that fit, and modest arms.
-pub record Weighable (asked : List Asked) (tally : Tally) : Type 0 where
+pub record Weighable (asked : List Costs) (tally : Tally) : Type 0 where
   pub fits : KeptFits asked
   pub modest : Modest tally
 
 -- What a pin's answer demands: costs that fit, and a pin of the tree.
-pub record Answerable (asked : List Asked) (count i : ℕ) : Type 0 where
+pub record Answerable (asked : List Costs) (count i : ℕ) : Type 0 where
   pub fits : KeptFits asked
   pub upto : i ≤ count
 

@@ -25,12 +25,15 @@ pub struct Asked {
     pub weighed: u64,
 }
 
+// What is kept for a run: its least cost for either shape. No more is kept, since a pin keeps one for each run, and up to 32 pins do so at a time.
+#[derive(Clone, Copy)]
+pub struct Costs {
+    pub lower: u64,
+    pub upper: u64,
+}
+
 // What is kept for a run that was not asked.
-const UNASKED: Asked = Asked {
-    lower: 0,
-    upper: 0,
-    weighed: 0,
-};
+const UNASKED: Costs = Costs { lower: 0, upper: 0 };
 
 // What is found at a pin: the least cost, and the choices that were weighed there.
 #[derive(Clone, Copy)]
@@ -174,7 +177,7 @@ impl Reached {
 
     // What a pin costs with all below it, where it shows `tally`, the runs from number `from` on are to come, and runs cost what is kept for them:
     // every choice of the shapes to come is weighed. What the runs were asked is lent beside the tree: it is of the pin's own turn.
-    fn weigh(&self, asked: &[Asked; RUNS], pin: usize, from: usize, tally: Tally) -> Least
+    fn weigh(&self, asked: &[Costs; RUNS], pin: usize, from: usize, tally: Tally) -> Least
         requires { Weighable asked.now tally }
         ensures { result ≡ least_kept (place_in self.now.places) (near_pin self.now.near) (kept asked.now) self.now.count pin from tally }
     {
@@ -192,7 +195,7 @@ impl Reached {
     }
 
     // What a pin answers once its runs were asked: every choice of their shapes is weighed, for either shape of the run that reached the pin.
-    fn pin_answer(&self, asked: &[Asked; RUNS], pin: usize) -> Asked
+    fn pin_answer(&self, asked: &[Costs; RUNS], pin: usize) -> Asked
         requires { Answerable asked.now self.now.count pin }
         ensures { result ≡ asked_kept (place_in self.now.places) (near_pin self.now.near) (kept asked.now) self.now.count pin }
     {
@@ -226,7 +229,10 @@ impl Reached {
         for run in pin..self.count {
             if self.near[run] == pin {
                 let far = self.run_best(favoured, run);
-                asked[run] = far;
+                asked[run] = Costs {
+                    lower: far.lower,
+                    upper: far.upper,
+                };
                 weighed += far.weighed;
             }
         }
