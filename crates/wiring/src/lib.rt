@@ -1,7 +1,7 @@
 // Wiring: the best shapes of the runs, the answer with its legs, and the choices weighed.
 #![tactic(auto)]
 
-ghost use Rattle.std.specs.Prelude.{◌≡◌, true, IfOk, IfErr};
+ghost use Rattle.std.specs.Prelude.{◌≡◌, true};
 ghost use Rattle.board.specs.Spots.{all_within, all_apart};
 ghost use Rattle.wiring.specs.Answer.{turned_away, wiring_favouring, wiring_of};
 
@@ -49,23 +49,26 @@ pub fn refused(verdict: Verdict) -> Laid
     }
 }
 
-// The wiring of a feed, where one shape is favoured: false for lower, true for upper; or why there is none.
+// The wiring of a feed, where one shape is favoured: false for lower, true for upper.
 // It stays a bool: wiring_favouring (wiring/Answer) and BestWiring (wiring/Demand) take a Bool.
 // The room and the favour are parameters of their own, here and above, as a host states them.
+// It answers the wiring, a refused one too, and no Result: an answer is of 1.7 KiB, and one in a Result would stand on the stack beside it while the shapes are asked.
 #[tactic(auto, using(crate::proofs::Answering::tree_refuses, crate::proofs::Room::room_short))]
-fn wire_favouring(spots: &[Spot; PINS], room: usize, favoured: bool) -> Result<Laid, Refusal>
+fn wire_favouring(spots: &[Spot; PINS], room: usize, favoured: bool) -> Laid
     requires { (all_within spots.now ≡ true) × (all_apart spots.now ≡ true) }
-    ensures ok { IfOk result (λ laid. laid ≡ wiring_favouring favoured spots.now room) }
-    ensures err { IfErr result (λ r. turned_away (Err r) ≡ wiring_favouring favoured spots.now room) }
+    ensures { result ≡ wiring_favouring favoured spots.now room }
 {
-    let tree = tree::tree_of(spots)?;
+    let tree = match tree::tree_of(spots) {
+        Ok(tree) => tree,
+        Err(refusal) => return refused(Err(refusal)),
+    };
     let runs = &tree.runs[..tree.count];
     let found = laying::best_cost(spots, runs, favoured);
     let mask = found.cost % BASE;
     let entries = laying::entries_in(spots, favoured, mask, runs);
     let strip = laying::legs_of(spots, &entries[..tree.count]);
     if room < strip.count {
-        return Err(Refusal::RoomTooSmall);
+        return refused(Err(Refusal::RoomTooSmall));
     }
     let list = strip.list;
     let wiring = Wiring {
@@ -76,7 +79,7 @@ fn wire_favouring(spots: &[Spot; PINS], room: usize, favoured: bool) -> Result<L
         legs: strip.count,
         weighed: found.weighed,
     };
-    Ok(Laid { wiring, list })
+    Laid { wiring, list }
 }
 
 // The wiring of a feed whose pins stand on the board, no two of them too near, with room for so many legs, where this is said of the shape to favour.
@@ -86,5 +89,5 @@ pub fn wire_feed(spots: &[Spot; PINS], room: usize, favour: Favour) -> Laid
     ensures { result ≡ wiring_of spots.now room favour }
 {
     let favoured = favour.is_upper();
-    wire_favouring(spots, room, favoured).unwrap_or_else(|refusal| refused(Err(refusal)))
+    wire_favouring(spots, room, favoured)
 }
