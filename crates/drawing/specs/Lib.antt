@@ -1,2 +1,3 @@
 -- What the words of a drawing mean.
 pub mod Pins
+pub mod Lists
