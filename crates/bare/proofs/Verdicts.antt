@@ -2,11 +2,11 @@
 use mathlib.Core.Path.{◌≡◌, refl, sym, ap}
 use mathlib.Core.Bool.{true, false, not}
 use mathlib.Core.List.{List}
-use Prim.Native.Nat.{ℕ}
+use Prim.Native.Nat.{ℕ, ◌≤◌}
 use lib.IntN.{ℤ}
 use lib.Dec.{eqb, ltb}
 use lib.ListN.{length}
-use borrow.Author.Tests.{not-false, eq-eqb, ne_eqb, eqb-true}
+use borrow.Author.Tests.{not-false, eq-eqb, ne_eqb, eqb-true, ltb-false}
 use Rattle.basics.specs.Tests.{both, choose}
 use Rattle.basics.proofs.Tests.{either-false, choose_yes}
 use Rattle.refusal.specs.Refusals.{Verdict, accepted}
@@ -32,12 +32,12 @@ granting (Ok a) x y e = (refl, cc)
 granting (Err s) x y e = absurd cc
 
 module _ (xs ys : List ℤ) where
-  -- Where the lengths are not wrong, they are equal.
-  pub lengths_right : wrong_lengths xs ys ≡ false → length xs ≡ length ys
+  -- Where the lengths are not wrong, they are equal and at most 32.
+  pub lengths_right : wrong_lengths xs ys ≡ false → (length xs ≡ length ys) × (length xs ≤ most_pins)
   unfolding wrong_lengths
   lengths_right e =
       let h = either-false (not (eqb (length xs) (length ys))) (ltb most_pins (length xs)) e in
-      eqb-true (length xs) (length ys) (not-false _ h.0)
+      (eqb-true (length xs) (length ys) (not-false _ h.0), ltb-false most_pins (length xs) h.1)
 
   -- The rows are apart.
   pub list_apart : Apart (list_rows xs ys)
