@@ -1,10 +1,11 @@
 // Words read as numbers, as lists of numbers, as bytes and as an f32.
 // Read by functions and not by the library's FromStr: a log's words are bytes, with a grammar and bounds of their own (Numbers: number_of, coordinate_of).
-ghost use Rattle.std.specs.Prelude.{◌≡◌, IfSome, get_or, [], Bool, List, ℕ, map, ◌+◌, ◌*◌, ◌≤◌, ◌-◌, ◌^◌, min, length};
+ghost use Rattle.std.specs.Prelude.{◌≡◌, IfSome, Bool, List, ℕ, map, ◌+◌, ◌*◌, ◌≤◌, ◌-◌, ◌^◌, min, length};
 ghost use Rattle.text.specs.Text.{over};
 ghost use Rattle.text.specs.Words.{comma, pieces};
 ghost use Rattle.text.specs.Numbers.{most_number, most_pairs, most_numbers, all_digits, value_of, number_of, coordinate_of, is_row, is_row_of, listed, is_list, hex_value, bytes_of, is_spelled, is_map, spelled, float_digits, all_hex, is_bits, hex_from, float_of};
 
+use crate::words::stop_at;
 use crate::{MOST_NUMBERS, MOST_PAIRS};
 use std::num::f32_from_bits_with_nan;
 
@@ -77,13 +78,6 @@ fn count_pieces(word: &[u8]) -> usize
     word.split(|b| *b == b',').count()
 }
 
-// The word of a number between single commas, counted from 0; empty where there are not so many.
-fn piece(word: &[u8], number: usize) -> &[u8]
-    ensures { result.now ≡ get_or (pieces comma word.now) number [] }
-{
-    word.split(|b| *b == b',').nth(number).unwrap_or(b"")
-}
-
 // Whether a word is words of one form separated by single commas, up to so many.
 pub fn is_row_of<F: Fn(&[u8]) -> bool>(word: &[u8], most: usize, form: F) -> bool
     requires { F.IsAlwaysCallable form }
@@ -108,6 +102,7 @@ pub fn is_list(word: &[u8]) -> bool
 }
 
 // Stores what the words between single commas come to from the start of a list on, and answers how many there are.
+#[tactic(auto, using(crate::proofs::Cutting::stop_from, crate::proofs::Cutting::stop_within))]
 pub fn fill_row<T: Copy, const N: usize, F: Fn(&[u8]) -> T>(
     word: &[u8],
     values: &mut [T; N],
@@ -118,11 +113,15 @@ pub fn fill_row<T: Copy, const N: usize, F: Fn(&[u8]) -> T>(
     ensures count { result ≡ length (pieces comma word.now) }
     ensures values_after { (of : List ℕ → T) → ((piece : _) (v : T) → F.post value piece v → v ≡ of piece.now) → values.new ≡ over (map of (pieces comma word.now)) values.old }
 {
-    let count = count_pieces(word);
+    let mut count = 0;
+    let mut at = 0;
 
-    // Word by word by their numbers: of a `for` over the words themselves, in a function with type parameters, the check makes no proof.
-    for i in 0..count {
-        values[i] = value(piece(word, i));
+    // By positions, from comma to comma: of a `for` over the words themselves, in a function with type parameters, the check makes no proof.
+    while at <= word.len() {
+        let to = stop_at(word, at, b',');
+        values[count] = value(&word[at..to]);
+        count += 1;
+        at = to + 1;
     }
     count
 }

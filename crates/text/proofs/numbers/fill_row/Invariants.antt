@@ -1,13 +1,19 @@
-use Rattle.std.proofs.Common.{◌≡◌, List, ℕ, map, length, take, Bor}
+use Rattle.std.proofs.Common.{◌≡◌, ◌+◌, ◌-◌, ◌≤◌, List, ℕ, map, length, take, Bor}
 use Rattle.text.specs.Text.{over}
 use Rattle.text.specs.Words.{comma, pieces}
+use Rattle.text.proofs.Rows.{Passed}
 use Rattle.text.proofs.numbers.fill_row.Given as goal
 
 -- What the words gone through come to is stored from the start of the list on.
-abbrev pub invariant-loop-i : goal.invariant-loop-i
-invariant-loop-i g l =
+abbrev pub invariant-loop-at : goal.invariant-loop-at
+invariant-loop-at g l =
     record {
+      within : l.at ≤ length l.word + 1;
       long : length l.values ≡ g.row.N;
+      passed : Passed l.word l.count l.at;
       stored : (of : List ℕ → g.row.T.Denot) → ((piece : Bor (List ℕ)) (v : g.row.T.Denot) → goal.F-post g l.value piece v → v ≡ of piece.now)
-          → l.values ≡ over (take l.i (map of (pieces comma l.word))) l.initial.values;
+          → l.values ≡ over (take l.count (map of (pieces comma l.word))) l.initial.values;
     }
+
+abbrev pub decreases-loop-at : goal.decreases-loop-at
+decreases-loop-at g l = length l.word + 1 - l.at
