@@ -2,13 +2,13 @@
 use mathlib.Core.Path.{◌≡◌, refl, sym, ◌∙◌, ap}
 use mathlib.Core.Bool.{Bool, true, false, ◌&&◌}
 use mathlib.Core.List.{List, [], ◌∷◌}
-use Prim.Native.Nat.{ℕ, ◌+◌, ◌-◌, ◌≤◌, ◌<◌}
+use Prim.Native.Nat.{ℕ, suc, ◌+◌, ◌-◌, ◌≤◌, ◌<◌}
 use native.Mathlib.Omega.{arith}
 use lib.Dec.{eqb, ltb, leb}
 use lib.ListN.{length, take, drop, get_or, length-drop}
 use lib.Seq.{take_all, drop-drop}
-use borrow.Author.Tests.{leb-true, ltb-true, ltb-false}
-use Rattle.std.specs.List.{slice_split, list_all, position_or_len}
+use borrow.Author.Tests.{lt-leb, le-leb, leb-true, ltb-true, ltb-false}
+use Rattle.std.specs.List.{slice_split, list_all, enumerate_from, position_or_len}
 use Rattle.std.proofs.lemmas.List.Sums.{fails_before_first}
 use Rattle.std.proofs.lemmas.List.Splits.{slice_split_none, slice_split_first, length-slice_split}
 use Rattle.basics.specs.Tests.{each_of}
@@ -23,19 +23,41 @@ use Rattle.text.proofs.Library.{both_and, all_each, split_pieces, index_position
 abbrev pub cut : List ℕ → List (List ℕ)
 cut w = slice_split (λ b. eqb b comma) w
 
-module _ (form : List ℕ → Bool) (most : ℕ) (w : List ℕ) where
-  row_is : is_row_of form most w ≡ (list_all form (cut w) && leb (length (cut w)) most)
+-- One test before others that come to two tests,
+and_both : (a : Bool) {b : Bool} (c d : Bool) → b ≡ (c && d) → (a && b) ≡ ((a && c) && d)
+and_both true c d e = e
+and_both false c d e = refl
+
+-- and tests of which the last fails.
+and_fails : (a : Bool) {b : Bool} → b ≡ false → false ≡ (a && b)
+and_fails true e = sym e
+and_fails false e = refl
+
+module _ (form : List ℕ → Bool) (most : ℕ) where
+  -- Whether a word has the form and is at a number that is allowed,
+  abbrev pub in_row : ℕ × List ℕ → Bool
+  in_row p = ltb p.0 most && form p.1
+
+  -- and so all words from a number on: where they have the form, and the last is at a number that is allowed.
+  all_in_row : (n : ℕ) (ps : List (List ℕ)) → n ≤ most → list_all in_row (enumerate_from n ps) ≡ (list_all form ps && leb (n + length ps) most)
+  all_in_row n [] h = sym (le-leb (n + 0) most (omega arith))
+  all_in_row n (p ∷ ps) h = by (ltb n most) refl (λ m. all_in_row (n + 1) ps m)
+    where
+      by : (t : Bool) → ltb n most ≡ t → (n + 1 ≤ most → list_all in_row (enumerate_from (n + 1) ps) ≡ (list_all form ps && leb (n + 1 + length ps) most))
+          → ((t && form p) && list_all in_row (enumerate_from (n + 1) ps)) ≡ ((form p && list_all form ps) && leb (n + suc (length ps)) most)
+      by true e others =
+          let next : n + 1 + length ps ≡ n + suc (length ps) = omega arith in
+          and_both (form p) (list_all form ps) (leb (n + suc (length ps)) most)
+          (others (omega (arith, ltb-true n most e)) ∙ ap (λ (m : ℕ). list_all form ps && leb m most) next)
+      by false e others = and_fails (form p && list_all form ps) (lt-leb (n + suc (length ps)) most (omega (arith, ltb-false n most e)))
+
+  -- A word is a row where its words are in it from 0 on.
+  pub row_is : (w : List ℕ) → list_all in_row (enumerate_from 0 (cut w)) ≡ is_row_of form most w
   unfolding is_row_of
-  row_is =
-      rw (both_and (list_all form (cut w)) (leb (length (cut w)) most), all_each form form (λ a. refl) (cut w), split_pieces comma w)
-
-  -- A word with a word of another form is no row,
-  pub row_no : {t : Bool} → t ≡ list_all form (cut w) → t ≡ false → t ≡ is_row_of form most w
-  row_no e h = h ∙ sym (row_is ∙ ap (λ (t : Bool). t && leb (length (cut w)) most) (sym e ∙ h))
-
-  -- any other is one where its words are not too many.
-  pub row_yes : {t : Bool} {n : ℕ} → t ≡ list_all form (cut w) → t ≡ true → n ≡ length (pieces comma w) → leb n most ≡ is_row_of form most w
-  row_yes e h c = rw (c, ← (split_pieces comma w)) (sym (row_is ∙ ap (λ (t : Bool). t && leb (length (cut w)) most) (sym e ∙ h)))
+  row_is w =
+      let few : 0 + length (cut w) ≡ length (cut w) = omega arith in
+      all_in_row 0 (cut w) (omega arith) ∙ ap (λ (m : ℕ). list_all form (cut w) && leb m most) few
+      ∙ rw (both_and (list_all form (cut w)) (leb (length (cut w)) most), all_each form form (λ a. refl) (cut w), split_pieces comma w) refl
 
 -- The words of a row have the form, and are not too many.
 pub row_words : (form : List ℕ → Bool) (most : ℕ) (w : List ℕ) → is_row_of form most w ≡ true

@@ -71,19 +71,14 @@ pub fn coordinate(word: &[u8]) -> Option<i32>
     }
 }
 
-// How many words between single commas a word has.
-fn count_pieces(word: &[u8]) -> usize
-    ensures { result ≡ length (pieces comma word.now) }
-{
-    word.split(|b| *b == b',').count()
-}
-
 // Whether a word is words of one form separated by single commas, up to so many.
 pub fn is_row_of<F: Fn(&[u8]) -> bool>(word: &[u8], most: usize, form: F) -> bool
     requires { F.IsAlwaysCallable form }
     ensures { (test : List ℕ → Bool) → ((piece : _) (b : Bool) → F.post form piece b → b ≡ test piece.now) → result ≡ is_row_of test most word.now }
 {
-    word.split(|b| *b == b',').all(form) && count_pieces(word) <= most
+    word.split(|b| *b == b',')
+        .enumerate()
+        .all(|(i, piece)| i < most && form(piece))
 }
 
 // Whether a word is numbers separated by single commas, few enough.
