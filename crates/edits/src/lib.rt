@@ -61,7 +61,8 @@ pub fn pin_made(edit: Edit, pin: Pin) -> Pin
 }
 
 // The pin that an edit names, with the edit taken back.
-// What takes an edit back is what makes the reversed one. The three functions of it stay: they are public, and say what pin_unmade, unmade and takeable_at are.
+// What takes an edit back is what makes the reversed one: so here, in take_back and in can_take_back. Of the edits that stand the test for 28 asks
+// can_take_back and pin_unmade, where it asks can_make and pin_made of those taken back (tried).
 #[tactic(auto, using(crate::proofs::Reversing::reversed_pin, crate::proofs::Reversing::reversed_pin_made))]
 pub fn pin_unmade(edit: Edit, pin: Pin) -> Pin
     ensures { result ≡ pin_unmade edit (pin_of edit) pin }

@@ -1,7 +1,8 @@
--- `tried::can_make_all` meets its contract: all can be made where those left can, on the pins that those made leave, which keep the rules. Assumes nothing.
+-- `tried::can_make_all` meets its contract: all can be made, as they are turned, where those left can, on the pins that those
+-- made leave, which keep the rules. Assumes nothing.
 use mathlib.Core.Path.{◌≡◌}
 use mathlib.Core.Bool.{true}
-use mathlib.Core.List.{List, ◌++◌}
+use mathlib.Core.List.{List, ◌++◌, map}
 use Rattle.drawing.specs.Pins.{lawful, spots_of}
 use Rattle.edits.specs.declared.Edit.{Edit}
 use Rattle.journal.specs.Journal.{makeable_all}
@@ -14,5 +15,5 @@ invariant-loop-edit g l =
       ends : (goal.iterator-loop-edit g).is_finite l.edit-iterator;
       rules : lawful l.after ≡ true;
       told : l.spots ≡ spots_of l.after;
-      left : (rest : List Edit) → makeable_all l.initial.after (l.yielded ++ rest) ≡ makeable_all l.after rest;
+      left : (rest : List Edit) → makeable_all l.initial.after (map g.turned (l.yielded ++ rest)) ≡ makeable_all l.after (map g.turned rest);
     }
