@@ -1,25 +1,24 @@
 -- What the library's calls on lists come to, in the words of the definitions: tests of each, cuts, searches and equality. Assumes nothing.
-use mathlib.Core.Path.{◌≡◌, refl, sym, ◌∙◌, ap}
+use mathlib.Core.Path.{◌≡◌, refl, sym, ◌∙◌}
 use mathlib.Core.Bool.{Bool, true, false, cond, not, ◌&&◌}
 use mathlib.Core.List.{List, [], ◌∷◌}
-use Prim.Native.Nat.{ℕ, ◌+◌, ◌-◌}
+use Prim.Native.Nat.{ℕ, suc, ◌+◌, ◌-◌, ◌≤◌}
 use native.Mathlib.Omega.{arith}
 use lib.Dec.{eqb, ltb}
 use lib.ListN.{length, take, drop, get_or, length-drop, drop_of_length-le}
 use lib.Seq.{take_all}
-use borrow.Author.Tests.{ltb-false, ne_eqb}
+use borrow.Author.Tests.{ltb-false}
 use lib.Pointwise.{pointwise}
 use Rattle.std.specs.Borrow.{Bor}
-use Rattle.std.specs.Prelude.{Option, Some, None, unwrap_or, MatchOption, option_map, slice_get}
-use Rattle.std.proofs.lemmas.Option.{unwrap_or-slice_get}
+use Rattle.std.specs.Prelude.{Option, Some, None, unwrap_or, MatchOption}
 use Rattle.basics.proofs.Tests.{choose_yes, choose_no}
 use Rattle.std.proofs.lemmas.List.Recursion.{is_position_or_len}
-use Rattle.std.specs.List.{slice_split, onto_first, filter, list_all, position_or_len}
+use Rattle.std.specs.List.{slice_split, onto_first, list_all, position_or_len}
 use Rattle.basics.specs.Tests.{both, choose, each_of}
 use Rattle.text.specs.Text.{same}
-use Rattle.text.specs.Words.{return, space, end_of, without_return, before_first, pieces, non_empty, words_of, index_of, index_after}
+use Rattle.text.specs.Words.{return, space, end_of, without_return, before_first, pieces, spaces_of, index_of, index_after}
 use Rattle.text.proofs.Steps.{front}
-use Rattle.text.proofs.Cutting.{index_within}
+use Rattle.text.proofs.Cutting.{index_within, spaces_within}
 
 -- A choice is the library's choice,
 pub choose_cond : {A : Type 0} (t : Bool) (a b : A) → cond t a b ≡ choose t a b
@@ -51,22 +50,6 @@ unfolding pieces
 split_pieces s [] = refl
 split_pieces s (b ∷ rest) = rw (split_pieces s rest, onto_before b (pieces s rest)) (choose_cond (eqb b s) _ _)
 
--- A piece holds something,
-abbrev pub holds_some : List ℕ → Bool
-holds_some p = not (eqb (length p) 0)
-
--- and so the pieces that do.
-pub filter_filled : (ps : List (List ℕ)) → filter holds_some ps ≡ non_empty ps
-unfolding non_empty
-filter_filled [] = refl
-filter_filled ([] ∷ ps) = filter_filled ps
-filter_filled ((b ∷ p) ∷ ps) = rw (ne_eqb (length (b ∷ p)) 0 (λ q. omega arith)) (ap (λ (l : List (List ℕ)). (b ∷ p) ∷ l) (filter_filled ps))
-
--- The words of a text are the pieces between spaces that hold something.
-pub split_words : (l : List ℕ) → filter holds_some (slice_split (λ b. eqb b space) l) ≡ words_of l
-unfolding words_of
-split_words l = rw (split_pieces space l) (filter_filled (pieces space l))
-
 -- Equal bytes are the same bytes.
 pub equal_same : (u v : List ℕ) → pointwise eqb u v ≡ same u v
 unfolding same
@@ -86,24 +69,40 @@ pub index_position : (s : ℕ) (l : List ℕ) → index_of s l ≡ position_or_l
 unfolding index_of
 index_position s = is_position_or_len (index_of s) (λ b. eqb b s) refl (λ b rest. index_cond (eqb b s) (index_of s rest))
 
--- Where it is looked for, and where it stands nowhere the text's length taken, that is where it is.
+-- Where the first element that passes a test is looked for, and where none does the length taken, that is where it is.
+found_first : {A : Type 0} (test : A → Bool) (l : List A) {at : ℕ} → at ≡ position_or_len test l → at ≤ length l
+    → unwrap_or (cond (ltb (position_or_len test l) (length l)) (Some (position_or_len test l)) None) (length l) ≡ at
+found_first test l {at} e h = rw (← e) (by (ltb at (length l)) refl)
+  where
+    by : (t : Bool) → ltb at (length l) ≡ t → unwrap_or (cond t (Some at) None) (length l) ≡ at
+    by true q = refl
+    by false q = omega (arith, ltb-false at (length l) q, h)
+
+-- So a separator,
 pub found_index : (s : ℕ) (l : List ℕ)
     → unwrap_or (cond (ltb (position_or_len (λ b. eqb b s) l) (length l)) (Some (position_or_len (λ b. eqb b s) l)) None) (length l) ≡ index_of s l
-found_index s l = rw (← (index_position s l)) (by (ltb (index_of s l) (length l)) refl)
-  where
-    by : (t : Bool) → ltb (index_of s l) (length l) ≡ t → unwrap_or (cond t (Some (index_of s l)) None) (length l) ≡ index_of s l
-    by true e = refl
-    by false e = omega (arith, ltb-false (index_of s l) (length l) e, index_within s l)
+found_index s l = found_first (λ b. eqb b s) l (index_position s l) (index_within s l)
+
+-- One byte before spaces, as a choice:
+spaces_cond : (t : Bool) (n : ℕ) → choose t (suc n) 0 ≡ cond (not t) 0 (1 + n)
+unfolding choose
+spaces_cond true n = omega arith
+spaces_cond false n = refl
+
+-- a text begins with as many spaces as there are before its first other byte,
+spaces_position : (l : List ℕ) → spaces_of l ≡ position_or_len (λ b. not (eqb b space)) l
+unfolding spaces_of
+spaces_position = is_position_or_len spaces_of (λ b. not (eqb b space)) refl (λ b rest. spaces_cond (eqb b space) (spaces_of rest))
+
+-- and so that byte.
+pub found_spaces : (l : List ℕ)
+    → unwrap_or (cond (ltb (position_or_len (λ b. not (eqb b space)) l) (length l)) (Some (position_or_len (λ b. not (eqb b space)) l)) None) (length l)
+    ≡ spaces_of l
+found_spaces l = found_first (λ b. not (eqb b space)) l (spaces_position l) (spaces_within l)
 
 -- What is left of a list from a position on is all that follows.
 pub rest_from : {A : Type 0} (at : ℕ) (l : List A) → take (length l - at) (drop at l) ≡ drop at l
 rest_from at l = take_all (length l - at) (drop at l) (omega (arith, length-drop at l))
-
--- The word of a number, where there is one, and else an empty one.
-pub got_word : (r : Option (Bor (List ℕ))) (none : Bor (List ℕ)) (words : List (List ℕ)) (k : ℕ) → none.now ≡ []
-    → option_map (λ x. x.now) r ≡ slice_get words k → (unwrap_or r none).now ≡ get_or words k []
-got_word None none words k h e = h ∙ ap (λ (o : Option (List ℕ)). unwrap_or o []) e ∙ unwrap_or-slice_get words k []
-got_word (Some x) none words k h e = ap (λ (o : Option (List ℕ)). unwrap_or o []) e ∙ unwrap_or-slice_get words k []
 
 -- A test joined with one that holds is that test.
 pub with_true : (t : Bool) → (t && true) ≡ t

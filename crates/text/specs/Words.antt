@@ -58,6 +58,11 @@ words_of line = non_empty (pieces space line)
 abbrev pub word : ℕ → List (List ℕ) → List ℕ
 word k words = get_or words k []
 
+-- How many spaces a text begins with.
+unfoldable pub spaces_of : List ℕ → ℕ
+spaces_of [] = 0
+spaces_of (b ∷ rest) = choose (eqb b space) (suc (spaces_of rest)) 0
+
 -- Where a separator is found: here, or one after where it is found in what follows.
 unfoldable pub index_after : Bool → ℕ → ℕ
 index_after true n = 0

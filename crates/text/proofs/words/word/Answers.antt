@@ -1,22 +1,23 @@
 -- `text::words::word` meets its contract. Assumes nothing.
-use Rattle.std.proofs.Common.{◌∙◌, ap, refl, eqb, get_or, List, [], ℕ, rules, tests}
-use Rattle.std.specs.Borrow.{Bor}
-use Rattle.std.proofs.lemmas.Iterator.Consumers.{nth_from_yields_List, YieldsList-from_filter, YieldsList-at}
-use Rattle.std.proofs.lemmas.Iterator.Splits.{YieldsList-from_slice_split}
-use Rattle.text.specs.Words.{space}
-use Rattle.text.proofs.Library.{holds_some, split_words, got_word}
+use Rattle.std.proofs.Common.{◌≡◌, ◌∙◌, ap, sym, arith, ℕ}
+use lib.Seq.{length-take-le}
+use Rattle.text.specs.Words.{space, words_of, word as word_in}
+use Rattle.text.proofs.Library.{rest_from}
+use Rattle.text.proofs.Cutting.{stop_within, behind_none, behind_more, word_behind}
 use Rattle.text.proofs.words.word.Goals as goal
+
+pub loop-init : goal.loop-init
+loop-init c = behind_none c.args.text.now c.without_spaces-rest.ensures
+
+pub loop-preserved : goal.loop-preserved
+loop-preserved c = behind_more c.args.text.now c.loop.invariant c.stop_at.ensures (rw (← (rest_from c.stop_at.result c.loop.rest.now)) c.without_spaces-rest-in-loop.ensures)
+
+pub slice_bounds-result-end : goal.slice_bounds-result-end
+slice_bounds-result-end c =
+    let rest = c.loop.rest.now in
+    sym (length-take-le c.stop_at-2.result rest (omega (arith, c.stop_at-2.ensures, stop_within space rest 0 (omega arith))))
 
 pub returns : goal.returns
 returns c =
-    let text = c.args.text.now in
-    let k = c.args.number in
-    ap (λ (x : Bor (List ℕ)). x.now) c.unwrap_or.ensures
-    ∙ got_word c.nth.result _ _ k refl
-    (nth_from_yields_List c.nth.result _ k c.nth.ensures.ran
-    (YieldsList-from_filter _ holds_some
-    (YieldsList-at c.filter.ensures.source
-    (YieldsList-from_slice_split _ (λ b. eqb b space) text c.split.ensures.rest c.split.ensures.done c.split.ensures.closure (λ x b q k. search (rules, tests))))
-    c.filter.ensures.closure
-    (λ x b q k. search (rules, tests))))
-    ∙ ap (λ (l : List (List ℕ)). get_or l k []) (split_words text)
+    let done : c.loop.counter ≡ c.args.number = omega arith in
+    word_behind c.args.text.now c.loop.invariant c.stop_at-2.ensures ∙ ap (λ (k : ℕ). word_in k (words_of c.args.text.now)) done
