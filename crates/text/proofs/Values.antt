@@ -2,7 +2,7 @@
 use mathlib.Core.Path.{◌≡◌, refl, sym, ◌∙◌, ap}
 use mathlib.Core.Bool.{Bool, true, false, cond, ◌&&◌, ◌||◌}
 use mathlib.Core.List.{List, [], ◌∷◌, map}
-use Prim.Native.Nat.{ℕ, zero, suc, ◌+◌, ◌-◌, ◌*◌, ◌/◌, ◌%◌, ◌^◌, ◌≤◌, min, zero-le}
+use Prim.Native.Nat.{ℕ, zero, suc, ◌+◌, ◌-◌, ◌*◌, ◌/◌, ◌%◌, ◌≤◌, min, zero-le}
 use native.Mathlib.Omega.{arith}
 use lib.Dec.{leb, ltb, eqb}
 use lib.ListN.{length, take, drop, get_or}
@@ -13,7 +13,7 @@ use Rattle.std.specs.List.{fold}
 use Rattle.std.specs.Prelude.{Option, Some, None, option_map, is_some, unwrap_or}
 use Rattle.basics.specs.Tests.{both, either, choose, each_of}
 use Rattle.basics.proofs.Tests.{both_left, both_right, choose_yes}
-use Rattle.text.specs.Numbers.{most_pairs, between, is_digit, all_digits, value_from, value_of, is_number, number_of, is_hex, hex_value, all_hex, all_pairs, is_spelled, float_digits, is_bits, is_map, is_row, is_list, none_word, most_below, most_above, has_minus, is_coordinate, signed, coordinate_of, bytes_of}
+use Rattle.text.specs.Numbers.{most_number, most_pairs, between, is_digit, all_digits, value_from, value_of, is_number, number_of, is_hex, hex_value, all_hex, all_pairs, is_spelled, float_digits, is_bits, is_map, is_row, is_list, none_word, most_below, most_above, has_minus, is_coordinate, signed, coordinate_of, bytes_of}
 use Rattle.std.specs.Simd.{first_chunks}
 use Rattle.text.specs.Words.{minus}
 use Rattle.text.specs.Text.{over}
@@ -71,17 +71,16 @@ unfolding is_bits
 bits_is w = sym (both_and (eqb (length w) float_digits) (all_hex w))
 
 -- ---- numbers
--- One digit more, up to the largest number of 64 bits.
+-- One digit more, after a value that is cut at the number beyond all ranges.
 abbrev pub longer : ℕ → ℕ → ℕ
-longer v b = min (min (v * 10) (2 ^ 64 - 1) + (b - 48)) (2 ^ 64 - 1)
+longer v b = min v (most_number + 1) * 10 + (b - 48)
 
 -- A value that is cut at that number on the way is cut there in the end.
-pub value_cut : (w : List ℕ) (v : ℕ) → fold longer (min v (2 ^ 64 - 1)) w ≡ min (value_from v w) (2 ^ 64 - 1)
+pub value_cut : (w : List ℕ) (u v : ℕ) → min u (most_number + 1) ≡ min v (most_number + 1)
+    → min (fold longer u w) (most_number + 1) ≡ min (value_from v w) (most_number + 1)
 unfolding value_from
-value_cut [] v = refl
-value_cut (b ∷ rest) v =
-    let e : longer (min v (2 ^ 64 - 1)) b ≡ min (v * 10 + (b - 48)) (2 ^ 64 - 1) = omega arith in
-    ap (λ (n : ℕ). fold longer n rest) e ∙ value_cut rest (v * 10 + (b - 48))
+value_cut [] u v h = h
+value_cut (b ∷ rest) u v h = value_cut rest (longer u b) (v * 10 + (b - 48)) (omega (arith, h))
 
 -- A number is in its range.
 pub number_top : (top : ℕ) (w : List ℕ) → is_number top w ≡ true → value_of w ≤ top
