@@ -195,6 +195,7 @@ pub behind_none : (text : List ℕ) {rest : List ℕ} → rest ≡ drop (spaces_
 behind_none text h = record { spaces = rw h (spaces_done text); words = rw h (words_skip text) }
 
 module _ (text : List ℕ) {count : ℕ} {rest : List ℕ} (b : Behind text count rest) {to : ℕ} (h : to ≡ stop_at space rest 0) where
+  -- The next space stands at the end of the first word,
   first_end : to ≡ index_of space rest
   unfolding stop_at
   first_end = omega (arith, h)
@@ -232,6 +233,7 @@ module _ (text : List ℕ) where
       record { behind = behind_none text h; bytes = omega (arith, ap length h, length-drop (spaces_of text) text); words = omega arith }
 
   module _ {count : ℕ} {rest : List ℕ} (c : Counted text count rest) where
+    -- something is left just where a word is,
     left : min 1 (length rest) ≡ min 1 (length (words_of text) - count)
     left =
         (begun rest c.behind.spaces).some

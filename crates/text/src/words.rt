@@ -30,7 +30,7 @@ fn without_spaces(text: &[u8]) -> &[u8]
 }
 
 // The word of a number, counted from 0; empty where there are not so many.
-// By what is left of the text behind each word: the library's `split` yields an empty piece for each space of many, which takes twice the time.
+// By what is left of the text behind each word: the library's `split` yields an empty piece for each space of many, which takes up to three times the time.
 #[tactic(auto, using(crate::proofs::Cutting::stop_within))]
 pub fn word(text: &[u8], number: usize) -> &[u8]
     ensures { result.now ≡ word_in number (words_of text.now) }

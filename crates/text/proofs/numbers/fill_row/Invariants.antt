@@ -15,5 +15,6 @@ invariant-loop-at g l =
           → l.values ≡ over (take l.count (map of (pieces comma l.word))) l.initial.values;
     }
 
+-- Each turn goes on behind one more comma, or past the end.
 abbrev pub decreases-loop-at : goal.decreases-loop-at
 decreases-loop-at g l = length l.word + 1 - l.at
