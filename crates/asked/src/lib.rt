@@ -39,6 +39,7 @@ pub type MilledSeat = Asked<Milling>;
 pub type Dropped = Asked<Lost>;
 
 // Writes the map of the drawing at `seat`, in the new form, into a lent buffer, and says how many bytes, or why not. The desk stays as it is.
+#[tactic(auto, using(crate::proofs::Writing::write_done, crate::proofs::Writing::write_left))]
 pub fn write(desk: Desk, seat: usize, buffer: &mut [u8]) -> Written
     ensures value { result ≡ written_of desk seat buffer.old }
     ensures buffer_after { buffer.new ≡ buffer_of desk seat buffer.old }
